@@ -1,0 +1,57 @@
+// Sizes, action kinds and a chunk's head (chunk.rs).
+ghost use mathlib.Core.Path.{_≡_};
+ghost use Rattle.lictor_core.specs.Codes.{kindOf};
+use crate::state::Time;
+
+// Largest horizon of a chunk.
+pub const MAX_H: usize = 64;
+// Most components of an action.
+pub const MAX_D: usize = 8;
+// Most components of a position.
+pub const MAX_POS: usize = 8;
+// Most auxiliary values.
+pub const MAX_AUX: usize = 8;
+// Most external values.
+pub const MAX_EXT: usize = 4;
+
+pub enum ActionKind {
+    EePosition,
+    EeDelta,
+    JointPosition,
+    JointVelocity,
+    Other,
+}
+
+// What a delivered chunk says of itself. Its values come beside it, as a slice.
+pub struct ChunkHead {
+    pub seq: u32,
+    pub t_emit: Time,
+    pub horizon: u16,
+    pub dim: u16,
+    pub exec_steps: u16,
+}
+
+// The Rust's Option<ChunkView>, without the values.
+pub enum MaybeChunk {
+    NoChunk,
+    Delivered(ChunkHead),
+}
+
+// The kind of a code; the check of the settings refuses a code that is not listed.
+pub fn kind_of(n: u8) -> ActionKind
+    ensures { λ r. ⌜ r ≡ kindOf n ⌝ }
+{
+    if n == 0 {
+        return ActionKind::EePosition;
+    }
+    if n == 1 {
+        return ActionKind::EeDelta;
+    }
+    if n == 2 {
+        return ActionKind::JointPosition;
+    }
+    if n == 3 {
+        return ActionKind::JointVelocity;
+    }
+    ActionKind::Other
+}

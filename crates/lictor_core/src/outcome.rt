@@ -1,0 +1,13 @@
+// What the detectors found for a tick: it stands for the calls of fuse.rs that are not ported.
+use crate::scores::Scores;
+
+pub struct Outcome {
+    pub trips: u32,
+    pub clamped_dims: u32,
+    pub feasible: bool,
+    pub margin: f64,
+    pub scores: Scores,
+    // the policy's action row, and the same row clamped
+    pub policy: [f64; 8],
+    pub clamped: [f64; 8],
+}

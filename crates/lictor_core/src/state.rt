@@ -1,0 +1,74 @@
+// Fuse states and modes (state.rs).
+ghost use mathlib.Core.Path.{_≡_};
+ghost use Rattle.lictor_core.specs.Codes.{stateCode, isStop, modeCode, isObserve, modeOf};
+
+pub enum FuseState {
+    Idle,
+    Armed,
+    Watching,
+    Clamped,
+    Braking,
+    Held,
+    Escalated,
+    Fault,
+    Terminated,
+}
+
+// Absolute env step: the one clock that ticks, chunks and marks share.
+pub type Time = u32;
+
+pub enum FuseMode {
+    Observe,
+    Enforce,
+}
+
+// The state's number, from 0 in the order of the source.
+pub fn state_code(s: FuseState) -> u8
+    ensures { λ r. ⌜ r ≡ stateCode s ⌝ }
+{
+    match s {
+        FuseState::Idle => 0,
+        FuseState::Armed => 1,
+        FuseState::Watching => 2,
+        FuseState::Clamped => 3,
+        FuseState::Braking => 4,
+        FuseState::Held => 5,
+        FuseState::Escalated => 6,
+        FuseState::Fault => 7,
+        FuseState::Terminated => 8,
+    }
+}
+
+// Whether the fuse stops the robot in this state.
+pub fn is_stop(s: FuseState) -> bool
+    ensures { λ r. ⌜ r ≡ isStop s ⌝ }
+{
+    state_code(s) >= 4
+}
+
+// The number of a mode.
+fn mode_code(m: FuseMode) -> u8
+    ensures { λ r. ⌜ r ≡ modeCode m ⌝ }
+{
+    match m {
+        FuseMode::Observe => 0,
+        FuseMode::Enforce => 1,
+    }
+}
+
+pub fn is_observe(m: FuseMode) -> bool
+    ensures { λ r. ⌜ r ≡ isObserve m ⌝ }
+{
+    mode_code(m) == 0
+}
+
+// The mode of a code; the check of the settings refuses a code that is not listed.
+pub fn mode_of(n: u8) -> FuseMode
+    ensures { λ r. ⌜ r ≡ modeOf n ⌝ }
+{
+    if n == 0 {
+        FuseMode::Observe
+    } else {
+        FuseMode::Enforce
+    }
+}
