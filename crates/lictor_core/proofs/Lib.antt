@@ -1,3 +1,4 @@
 -- Laws that belong to no one function.
 pub mod Branch
 pub mod Counts
+pub mod Rows

@@ -4,3 +4,4 @@ pub mod Masks
 pub mod Num
 pub mod Cases
 pub mod Initial
+pub mod Rows
