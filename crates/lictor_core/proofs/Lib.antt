@@ -2,3 +2,5 @@
 pub mod Branch
 pub mod Counts
 pub mod Rows
+pub mod Below
+pub mod Nan
