@@ -1,0 +1,838 @@
+// The escalation state machine (fsm.rs). `next` does what the table of lictor_table says; every row of fsm.rs is here under the same number, with
+// every change of a counter. The run state goes in by value and comes back.
+//
+// Three kinds of function: tests and numbers over plain values; rows, which change the run state and do not branch; and choices, which only test
+// and hand on.
+ghost use mathlib.Core.Path.{_≡_};
+ghost use Prim.Native.Nat.{_≤_, min};
+ghost use Rattle.lictor_core.specs.Codes.{isState};
+ghost use Rattle.lictor_core.specs.declared.state.FuseState.the-variants.{Armed, Watching, Fault};
+ghost use Rattle.lictor_table.specs.Fields.{withState};
+ghost use Rattle.lictor_table.specs.Helpers.{faultReason, clampReason, armedReason, acceptedBy, acceptedAck, consumeNonce, latchedOf, latchHold, countIf, upIf, isClean, countRun, to, settledOf};
+ghost use Rattle.lictor_table.specs.Rows.{faultRow, rearmAck, resumeRow, terminateRow, timeoutRow, waitRow, waitingOf, escalatedOf, mayRearm, rearmRow, escalateRow, holdRow, holdingOf, heldOf, confirmedOf, standstillRow, stoppingRow, brakingOf, enterBraking, brakeRow, unclampableOf, overBudget, clampRow, clearedOf, clearRow, watchedOf, quietOf, runningOf, byFrom, transitionOf};
+ghost use Rattle.lictor_table.specs.Table.{nextOf};
+use fmath::clamp;
+use lictor_core::ack::AckDecision;
+use lictor_core::ack::MaybeAck;
+use lictor_core::ack::VerifiedAck;
+use lictor_core::chunk::MAX_POS;
+use lictor_core::envelope::FuseConfig;
+use lictor_core::envelope::MAX_OPERATORS;
+use lictor_core::envelope::RearmPolicy;
+use lictor_core::envelope::is_auto;
+use lictor_core::fuse::Control;
+use lictor_core::num::sat_u8;
+use lictor_core::num::sat_u16;
+use lictor_core::num::sat_u32;
+use lictor_core::num::wrap_u32;
+use lictor_core::reason::ReasonCode;
+use lictor_core::state::FuseMode;
+use lictor_core::state::FuseState;
+use lictor_core::state::is_observe;
+use lictor_core::state::state_code;
+use lictor_core::verdict::ACCEL;
+use lictor_core::verdict::BRAKE;
+use lictor_core::verdict::BRAKE_TIMEOUT;
+use lictor_core::verdict::CLAMP_BUDGET;
+use lictor_core::verdict::FAULT_BITS;
+use lictor_core::verdict::HANDOFF_TIMEOUT;
+use lictor_core::verdict::JERK;
+use lictor_core::verdict::NONFINITE;
+use lictor_core::verdict::OPERATOR_ABORT;
+use lictor_core::verdict::REACH;
+use lictor_core::verdict::REARM_BUDGET;
+use lictor_core::verdict::SCHEMA;
+use lictor_core::verdict::SPEED;
+use lictor_core::verdict::TIER0_SOFT;
+use lictor_core::verdict::TIER1_CP;
+use lictor_core::verdict::WORKSPACE;
+use lictor_core::verdict::any;
+use lictor_table::FsmInput;
+use lictor_table::Turn;
+
+// One tick of the machine: the new run state, the state, the extra bits and the reason. `pos` is the last finite position.
+pub fn next(cfg: FuseConfig, rt: Control, pos: [f64; 8], inp: FsmInput) -> Turn
+    ensures { λ r. ⌜ r ≡ nextOf cfg rt pos inp ⌝ }
+{
+    let clean = is_clean(inp.trips, inp.warn, inp.predictive);
+    let counted = count_run(rt, clean);
+    let from = rt.state;
+    let given = inp.ack;
+    let ack = accepted_ack(rt, given);
+    let out = transition(cfg, counted, pos, from, clean, ack, inp);
+    settled(out)
+}
+
+// A clean tick in the machine's sense; clean_run runs in every state.
+fn is_clean(trips: u32, warn: bool, predictive: bool) -> bool
+    ensures { λ r. ⌜ r ≡ isClean trips warn predictive ⌝ }
+{
+    if trips == 0 {
+        if warn {
+            return false;
+        }
+        return !predictive;
+    }
+    false
+}
+
+fn count_run(rt: Control, clean: bool) -> Control
+    ensures { λ r. ⌜ r ≡ countRun clean rt ⌝ }
+{
+    let mut q = rt;
+    let n = count_clean(clean, rt.clean_run);
+    q.clean_run = n;
+    q
+}
+
+// The state that the tick ends in is stored.
+fn settled(t: Turn) -> Turn
+    ensures { λ r. ⌜ r ≡ settledOf t ⌝ }
+{
+    let old = t.rt;
+    let state = t.state;
+    let reason = t.reason;
+    let rt = with_state(old, state);
+    Turn {
+        rt,
+        state,
+        extra: t.extra,
+        reason,
+    }
+}
+
+fn with_state(rt: Control, s: FuseState) -> Control
+    ensures { λ r. ⌜ r ≡ withState s rt ⌝ }
+{
+    let window = rt.window;
+    let hold = rt.hold;
+    let last_nonce = rt.last_nonce;
+    Control {
+        window,
+        state: s,
+        hold,
+        clean_run: rt.clean_run,
+        clamp_streak: rt.clamp_streak,
+        clamps: rt.clamps,
+        brake_ticks: rt.brake_ticks,
+        stopped_ticks: rt.stopped_ticks,
+        held_ticks: rt.held_ticks,
+        held_clean: rt.held_clean,
+        escalated_ticks: rt.escalated_ticks,
+        rearms: rt.rearms,
+        handoff_seq: rt.handoff_seq,
+        handoff_pending: rt.handoff_pending,
+        last_nonce,
+    }
+}
+
+fn transition(
+    cfg: FuseConfig,
+    rt: Control,
+    pos: [f64; 8],
+    from: FuseState,
+    clean: bool,
+    ack: MaybeAck,
+    inp: FsmInput,
+) -> Turn
+    ensures { λ r. ⌜ r ≡ transitionOf cfg rt pos from clean ack inp ⌝ }
+{
+    if any(inp.trips, FAULT_BITS) {
+        return fault_row(cfg, rt, pos, from, inp.trips);
+    }
+    by_from(cfg, rt, pos, from, clean, ack, inp)
+}
+
+fn by_from(
+    cfg: FuseConfig,
+    rt: Control,
+    pos: [f64; 8],
+    from: FuseState,
+    clean: bool,
+    ack: MaybeAck,
+    inp: FsmInput,
+) -> Turn
+    ensures { λ r. ⌜ r ≡ byFrom cfg rt pos from clean ack inp ⌝ }
+{
+    match from {
+        // Row 2.
+        FuseState::Terminated => Turn {
+            rt,
+            state: FuseState::Terminated,
+            extra: 0,
+            reason: ReasonCode::HeldStandstill,
+        },
+        // Row 3.
+        FuseState::Fault => Turn {
+            rt,
+            state: FuseState::Fault,
+            extra: 0,
+            reason: ReasonCode::HeldStandstill,
+        },
+        FuseState::Escalated => escalated(cfg, rt, ack),
+        FuseState::Held => held(cfg, rt, clean, ack, inp),
+        FuseState::Braking => braking(cfg, rt, pos, inp),
+        FuseState::Armed => running(cfg, rt, from, inp),
+        FuseState::Watching => running(cfg, rt, from, inp),
+        FuseState::Clamped => running(cfg, rt, from, inp),
+        // No episode: a host error, fail closed.
+        FuseState::Idle => fault(cfg, rt, pos, 0, ReasonCode::FaultInternal),
+    }
+}
+
+// ---- the hold, and Fault
+
+// The components that are live.
+fn live(pos_dim: usize) -> usize
+    ensures { λ r. ⌜ r ≡ min «pos_dim» 8 ⌝ }
+{
+    if pos_dim < MAX_POS { pos_dim } else { MAX_POS }
+}
+
+fn latched(pos: [f64; 8], lo: [f64; 8], hi: [f64; 8], hold: [f64; 8], n: usize) -> [f64; 8]
+    requires { ⌜ n ≤ 8 ⌝ }
+    ensures { λ r. ⌜ r ≡ latchedOf pos lo hi hold n ⌝ }
+{
+    let mut h = hold;
+    let mut c: usize = 0;
+    while c < n {
+        h[c] = clamp(pos[c], lo[c], hi[c]);
+        c += 1;
+    }
+    h
+}
+
+fn latch_hold(cfg: FuseConfig, rt: Control, pos: [f64; 8]) -> Control
+    ensures { λ r. ⌜ r ≡ latchHold cfg pos rt ⌝ }
+{
+    let mut q = rt;
+    let n = live(cfg.pos_dim);
+    let lo = cfg.box_lo;
+    let hi = cfg.box_hi;
+    let old = rt.hold;
+    let hold = latched(pos, lo, hi, old, n);
+    q.hold = hold;
+    q
+}
+
+// Fault with the hold latched: row 14, the Idle arm, and row 1 on entry.
+fn fault(cfg: FuseConfig, rt: Control, pos: [f64; 8], extra: u32, reason: ReasonCode) -> Turn
+    ensures { λ r. ⌜ r ≡ to Fault extra reason (latchHold cfg pos rt) ⌝ }
+{
+    let q = latch_hold(cfg, rt, pos);
+    Turn {
+        rt: q,
+        state: FuseState::Fault,
+        extra,
+        reason,
+    }
+}
+
+fn fault_reason(trips: u32) -> ReasonCode
+    ensures { λ r. ⌜ r ≡ faultReason trips ⌝ }
+{
+    if any(trips, NONFINITE) {
+        return ReasonCode::FaultNonFinite;
+    }
+    if any(trips, SCHEMA) {
+        return ReasonCode::FaultSchema;
+    }
+    ReasonCode::FaultWatchdog
+}
+
+fn is_fault(s: FuseState) -> bool
+    ensures { λ r. ⌜ r ≡ isState s Fault ⌝ }
+{
+    state_code(s) == 7
+}
+
+// Row 1: a Fault that keeps faulting does not chase a drifting position.
+fn fault_row(cfg: FuseConfig, rt: Control, pos: [f64; 8], from: FuseState, trips: u32) -> Turn
+    ensures { λ r. ⌜ r ≡ faultRow cfg rt pos from trips ⌝ }
+{
+    if is_fault(from) {
+        return fault_again(rt, trips);
+    }
+    fault_first(cfg, rt, pos, trips)
+}
+
+fn fault_again(rt: Control, trips: u32) -> Turn
+    ensures { λ r. ⌜ r ≡ to Fault 0 (faultReason trips) rt ⌝ }
+{
+    let reason = fault_reason(trips);
+    Turn {
+        rt,
+        state: FuseState::Fault,
+        extra: 0,
+        reason,
+    }
+}
+
+fn fault_first(cfg: FuseConfig, rt: Control, pos: [f64; 8], trips: u32) -> Turn
+    ensures { λ r. ⌜ r ≡ to Fault 0 (faultReason trips) (latchHold cfg pos rt) ⌝ }
+{
+    let reason = fault_reason(trips);
+    fault(cfg, rt, pos, 0, reason)
+}
+
+// ---- acknowledgements
+
+fn accepted(handoff: u32, nonces: [u64; 8], a: VerifiedAck) -> bool
+    ensures { λ r. ⌜ r ≡ acceptedBy handoff nonces a ⌝ }
+{
+    let slot = a.operator_slot as usize;
+    if slot < MAX_OPERATORS {
+        if a.handoff_seq == handoff {
+            return nonces[slot] < a.nonce;
+        }
+    }
+    false
+}
+
+fn accepted_ack(rt: Control, ack: MaybeAck) -> MaybeAck
+    ensures { λ r. ⌜ r ≡ acceptedAck (rt .«handoff_seq») (rt .«last_nonce») ack ⌝ }
+{
+    match ack {
+        MaybeAck::NoAck => MaybeAck::NoAck,
+        MaybeAck::Given(a) => {
+            let nonces = rt.last_nonce;
+            if accepted(rt.handoff_seq, nonces, a) {
+                return MaybeAck::Given(a);
+            }
+            MaybeAck::NoAck
+        }
+    }
+}
+
+fn consume_nonce(rt: Control, a: VerifiedAck) -> Control
+    ensures { λ r. ⌜ r ≡ consumeNonce a rt ⌝ }
+{
+    let mut q = rt;
+    let slot = a.operator_slot as usize;
+    if slot < MAX_OPERATORS {
+        q.last_nonce[slot] = a.nonce;
+    }
+    q
+}
+
+fn rearm_ack(rt: Control, a: VerifiedAck) -> Control
+    ensures { λ r. ⌜ r ≡ rearmAck a rt ⌝ }
+{
+    let mut q = consume_nonce(rt, a);
+    let n = sat_u8(q.rearms);
+    q.rearms = n;
+    q.window.bits = 0;
+    q.clean_run = 0;
+    q.clamp_streak = 0;
+    q.held_ticks = 0;
+    q.held_clean = 0;
+    q.escalated_ticks = 0;
+    q.handoff_pending = false;
+    q
+}
+
+// Rows 6 and 9: an accepted Resume arms the fuse again.
+fn resume_row(rt: Control, a: VerifiedAck) -> Turn
+    ensures { λ r. ⌜ r ≡ resumeRow rt a ⌝ }
+{
+    let q = rearm_ack(rt, a);
+    Turn {
+        rt: q,
+        state: FuseState::Armed,
+        extra: 0,
+        reason: ReasonCode::RearmedAck,
+    }
+}
+
+// Rows 4, 5 and 10: an accepted Abort or Retune ends the episode.
+fn terminate_row(rt: Control, a: VerifiedAck, extra: u32, reason: ReasonCode) -> Turn
+    ensures { λ r. ⌜ r ≡ terminateRow rt a extra reason ⌝ }
+{
+    let mut q = consume_nonce(rt, a);
+    q.handoff_pending = false;
+    Turn {
+        rt: q,
+        state: FuseState::Terminated,
+        extra,
+        reason,
+    }
+}
+
+// ---- Escalated
+
+fn escalated(cfg: FuseConfig, rt: Control, ack: MaybeAck) -> Turn
+    ensures { λ r. ⌜ r ≡ escalatedOf cfg rt ack ⌝ }
+{
+    match ack {
+        MaybeAck::Given(a) => {
+            let d = a.decision;
+            match d {
+                AckDecision::Abort => terminate_row(
+                    rt,
+                    a,
+                    OPERATOR_ABORT,
+                    ReasonCode::TerminatedAbort,
+                ),
+                AckDecision::Retune => terminate_row(rt, a, 0, ReasonCode::TerminatedRetune),
+                AckDecision::Resume => resume_row(rt, a),
+            }
+        }
+        MaybeAck::NoAck => waiting(cfg, rt),
+    }
+}
+
+fn waiting(cfg: FuseConfig, rt: Control) -> Turn
+    ensures { λ r. ⌜ r ≡ waitingOf cfg rt ⌝ }
+{
+    if cfg.hyst.handoff_timeout_ticks <= rt.escalated_ticks {
+        return timeout_row(rt);
+    }
+    wait_row(rt)
+}
+
+// Row 7.
+fn timeout_row(rt: Control) -> Turn
+    ensures { λ r. ⌜ r ≡ timeoutRow rt ⌝ }
+{
+    let mut q = rt;
+    q.handoff_pending = false;
+    Turn {
+        rt: q,
+        state: FuseState::Terminated,
+        extra: HANDOFF_TIMEOUT,
+        reason: ReasonCode::TerminatedTimeout,
+    }
+}
+
+// Row 8.
+fn wait_row(rt: Control) -> Turn
+    ensures { λ r. ⌜ r ≡ waitRow rt ⌝ }
+{
+    let mut q = rt;
+    let n = sat_u32(rt.escalated_ticks);
+    q.escalated_ticks = n;
+    Turn {
+        rt: q,
+        state: FuseState::Escalated,
+        extra: 0,
+        reason: ReasonCode::HeldStandstill,
+    }
+}
+
+// ---- Held
+
+fn held(cfg: FuseConfig, rt: Control, clean: bool, ack: MaybeAck, inp: FsmInput) -> Turn
+    ensures { λ r. ⌜ r ≡ heldOf cfg rt clean ack inp ⌝ }
+{
+    match ack {
+        MaybeAck::Given(a) => {
+            let d = a.decision;
+            match d {
+                AckDecision::Resume => resume_row(rt, a),
+                AckDecision::Abort => terminate_row(
+                    rt,
+                    a,
+                    OPERATOR_ABORT,
+                    ReasonCode::TerminatedAbort,
+                ),
+                // Not a row in Held: ignored.
+                AckDecision::Retune => holding(cfg, rt, clean, inp),
+            }
+        }
+        MaybeAck::NoAck => holding(cfg, rt, clean, inp),
+    }
+}
+
+// Rows 11 to 13.
+fn holding(cfg: FuseConfig, rt: Control, clean: bool, inp: FsmInput) -> Turn
+    ensures { λ r. ⌜ r ≡ holdingOf cfg rt clean inp ⌝ }
+{
+    let h = cfg.hyst;
+    let policy = cfg.rearm;
+    if may_rearm(
+        policy,
+        rt.held_clean,
+        h.rearm_hold,
+        inp.chunk_ok,
+        rt.rearms,
+        h.max_rearms,
+    ) {
+        return rearm_row(rt);
+    }
+    if h.escalate_after_hold_ticks <= rt.held_ticks {
+        if h.max_rearms <= rt.rearms {
+            return escalate_row(rt, REARM_BUDGET, ReasonCode::EscalateRearmBudget);
+        }
+        if inp.predictive {
+            return escalate_row(rt, 0, ReasonCode::EscalateTier1Persistent);
+        }
+        return escalate_row(rt, 0, ReasonCode::EscalateHoldTimeout);
+    }
+    hold_row(rt, clean)
+}
+
+fn may_rearm(policy: RearmPolicy, clean: u16, need: u16, ok: bool, rearms: u8, most: u8) -> bool
+    ensures { λ r. ⌜ r ≡ mayRearm policy clean need ok rearms most ⌝ }
+{
+    if is_auto(policy) {
+        if need <= clean {
+            if ok {
+                return rearms < most;
+            }
+        }
+    }
+    false
+}
+
+// Row 11: automatic rearm. It clears the window and nothing else.
+fn rearm_row(rt: Control) -> Turn
+    ensures { λ r. ⌜ r ≡ rearmRow rt ⌝ }
+{
+    let mut q = rt;
+    let n = sat_u8(rt.rearms);
+    q.rearms = n;
+    q.window.bits = 0;
+    Turn {
+        rt: q,
+        state: FuseState::Armed,
+        extra: 0,
+        reason: ReasonCode::RearmedAuto,
+    }
+}
+
+// Row 12: a handoff begins.
+fn escalate_row(rt: Control, extra: u32, reason: ReasonCode) -> Turn
+    ensures { λ r. ⌜ r ≡ escalateRow rt extra reason ⌝ }
+{
+    let mut q = rt;
+    let n = wrap_u32(rt.handoff_seq);
+    q.handoff_seq = n;
+    q.handoff_pending = true;
+    q.escalated_ticks = 0;
+    Turn {
+        rt: q,
+        state: FuseState::Escalated,
+        extra,
+        reason,
+    }
+}
+
+// Row 13.
+fn hold_row(rt: Control, clean: bool) -> Turn
+    ensures { λ r. ⌜ r ≡ holdRow rt clean ⌝ }
+{
+    let mut q = rt;
+    let n = sat_u16(rt.held_ticks);
+    q.held_ticks = n;
+    let m = count_clean(clean, rt.held_clean);
+    q.held_clean = m;
+    Turn {
+        rt: q,
+        state: FuseState::Held,
+        extra: 0,
+        reason: ReasonCode::HeldStandstill,
+    }
+}
+
+fn count_clean(clean: bool, run: u16) -> u16
+    ensures { λ r. ⌜ r ≡ countIf 16 clean run ⌝ }
+{
+    if clean { sat_u16(run) } else { 0 }
+}
+
+// ---- Braking
+
+fn braking(cfg: FuseConfig, rt: Control, pos: [f64; 8], inp: FsmInput) -> Turn
+    ensures { λ r. ⌜ r ≡ brakingOf cfg rt pos inp ⌝ }
+{
+    // Row 14: a stop that never confirms.
+    if cfg.hyst.brake_timeout_ticks <= rt.brake_ticks {
+        return fault(cfg, rt, pos, BRAKE_TIMEOUT, ReasonCode::FaultBrakeTimeout);
+    }
+    if confirmed(inp.stopped, rt.stopped_ticks, cfg.hyst.stop_confirm_ticks) {
+        return standstill_row(cfg, rt, pos);
+    }
+    stopping_row(rt, inp.stopped)
+}
+
+// Row 15's test, in 16 bits, where the sum has room.
+fn confirmed(stopped: bool, ticks: u8, need: u8) -> bool
+    ensures { λ r. ⌜ r ≡ confirmedOf stopped ticks need ⌝ }
+{
+    if stopped {
+        return need as u16 <= ticks as u16 + 1;
+    }
+    false
+}
+
+// Row 15.
+fn standstill_row(cfg: FuseConfig, rt: Control, pos: [f64; 8]) -> Turn
+    ensures { λ r. ⌜ r ≡ standstillRow cfg rt pos ⌝ }
+{
+    let mut q = latch_hold(cfg, rt, pos);
+    q.held_ticks = 0;
+    q.held_clean = 0;
+    Turn {
+        rt: q,
+        state: FuseState::Held,
+        extra: 0,
+        reason: ReasonCode::HeldStandstill,
+    }
+}
+
+// Row 16.
+fn stopping_row(rt: Control, stopped: bool) -> Turn
+    ensures { λ r. ⌜ r ≡ stoppingRow rt stopped ⌝ }
+{
+    let mut q = rt;
+    let n = sat_u16(rt.brake_ticks);
+    q.brake_ticks = n;
+    let m = count_stopped(stopped, rt.stopped_ticks);
+    q.stopped_ticks = m;
+    Turn {
+        rt: q,
+        state: FuseState::Braking,
+        extra: 0,
+        reason: ReasonCode::Stopping,
+    }
+}
+
+fn count_stopped(stopped: bool, ticks: u8) -> u8
+    ensures { λ r. ⌜ r ≡ countIf 8 stopped ticks ⌝ }
+{
+    if stopped { sat_u8(ticks) } else { 0 }
+}
+
+// ---- Running: Armed, Watching, Clamped
+
+fn running(cfg: FuseConfig, rt: Control, from: FuseState, inp: FsmInput) -> Turn
+    ensures { λ r. ⌜ r ≡ runningOf cfg rt from inp ⌝ }
+{
+    let soft = inp.trips & TIER0_SOFT;
+    // Row 17.
+    if any(inp.trips, BRAKE) {
+        return brake_row(rt, 0, ReasonCode::BrakeInfeasible);
+    }
+    // Row 17b.
+    if unclampable(soft, inp.soft_clampable) {
+        return brake_soft(rt, soft);
+    }
+    // Row 18.
+    if inp.predictive {
+        return brake_row(rt, TIER1_CP, ReasonCode::BrakeTier1Cp);
+    }
+    // Row 19.
+    if over_budget(
+        rt.clamp_streak,
+        cfg.hyst.clamp_streak_to_brake,
+        rt.clamps,
+        cfg.hyst.max_clamps_per_episode,
+    ) {
+        return brake_row(rt, CLAMP_BUDGET, ReasonCode::BrakeClampBudget);
+    }
+    // Row 20.
+    if soft != 0 {
+        return clamp_row(rt, inp.chunk_boundary, soft);
+    }
+    quiet(cfg, rt, from, inp.warn)
+}
+
+fn enter_braking(rt: Control) -> Control
+    ensures { λ r. ⌜ r ≡ enterBraking rt ⌝ }
+{
+    let mut q = rt;
+    q.brake_ticks = 0;
+    q.stopped_ticks = 0;
+    q
+}
+
+// Rows 17, 17b, 18 and 19.
+fn brake_row(rt: Control, extra: u32, reason: ReasonCode) -> Turn
+    ensures { λ r. ⌜ r ≡ brakeRow rt extra reason ⌝ }
+{
+    let q = enter_braking(rt);
+    Turn {
+        rt: q,
+        state: FuseState::Braking,
+        extra,
+        reason,
+    }
+}
+
+// Row 17b brakes with the clamp cause.
+fn brake_soft(rt: Control, soft: u32) -> Turn
+    ensures { λ r. ⌜ r ≡ brakeRow rt 0 (clampReason soft) ⌝ }
+{
+    let reason = clamp_reason(soft);
+    brake_row(rt, 0, reason)
+}
+
+// Row 17b's test: a soft trip that cannot be clamped.
+fn unclampable(soft: u32, clampable: bool) -> bool
+    ensures { λ r. ⌜ r ≡ unclampableOf soft clampable ⌝ }
+{
+    if soft == 0 {
+        return false;
+    }
+    !clampable
+}
+
+// Row 19's test.
+fn over_budget(streak: u8, limit: u8, clamps: u16, most: u16) -> bool
+    ensures { λ r. ⌜ r ≡ overBudget streak limit clamps most ⌝ }
+{
+    limit <= streak || most < clamps
+}
+
+// Row 20.
+fn clamp_row(rt: Control, boundary: bool, soft: u32) -> Turn
+    ensures { λ r. ⌜ r ≡ clampRow rt boundary soft ⌝ }
+{
+    let mut q = rt;
+    let n = sat_u16(rt.clamps);
+    q.clamps = n;
+    let m = streak_up(boundary, rt.clamp_streak);
+    q.clamp_streak = m;
+    let reason = clamp_reason(soft);
+    Turn {
+        rt: q,
+        state: FuseState::Clamped,
+        extra: 0,
+        reason,
+    }
+}
+
+// The streak counts where a chunk is delivered.
+fn streak_up(boundary: bool, n: u8) -> u8
+    ensures { λ r. ⌜ r ≡ upIf 8 boundary n ⌝ }
+{
+    if boundary { sat_u8(n) } else { n }
+}
+
+fn clamp_reason(soft: u32) -> ReasonCode
+    ensures { λ r. ⌜ r ≡ clampReason soft ⌝ }
+{
+    if any(soft, WORKSPACE) {
+        return ReasonCode::ClampWorkspace;
+    }
+    if any(soft, SPEED) {
+        return ReasonCode::ClampSpeed;
+    }
+    if any(soft, ACCEL) {
+        return ReasonCode::ClampAccel;
+    }
+    if any(soft, JERK) {
+        return ReasonCode::ClampJerk;
+    }
+    if any(soft, REACH) {
+        return ReasonCode::ClampReach;
+    }
+    ReasonCode::ClampContact
+}
+
+// Rows 21 to 23 and the stay rows: nothing brakes or clamps.
+fn quiet(cfg: FuseConfig, rt: Control, from: FuseState, warn: bool) -> Turn
+    ensures { λ r. ⌜ r ≡ quietOf cfg rt from warn ⌝ }
+{
+    // Row 21.
+    if cleared(from, cfg.hyst.clear_ticks, rt.clean_run) {
+        return clear_row(rt);
+    }
+    // Row 22.
+    if watched(warn, rt.window.bits) {
+        return Turn {
+            rt,
+            state: FuseState::Watching,
+            extra: 0,
+            reason: ReasonCode::WatchBand,
+        };
+    }
+    // Row 23.
+    if is_armed(from) {
+        return armed_row(cfg, rt);
+    }
+    if is_watching(from) {
+        return Turn {
+            rt,
+            state: FuseState::Watching,
+            extra: 0,
+            reason: ReasonCode::WatchBand,
+        };
+    }
+    Turn {
+        rt,
+        state: FuseState::Clamped,
+        extra: 0,
+        reason: ReasonCode::Ok,
+    }
+}
+
+// Row 21's test.
+fn cleared(from: FuseState, need: u8, run: u16) -> bool
+    ensures { λ r. ⌜ r ≡ clearedOf from need run ⌝ }
+{
+    if is_armed(from) {
+        return false;
+    }
+    need as u16 <= run
+}
+
+// Row 21.
+fn clear_row(rt: Control) -> Turn
+    ensures { λ r. ⌜ r ≡ clearRow rt ⌝ }
+{
+    let mut q = rt;
+    q.window.bits = 0;
+    q.clamp_streak = 0;
+    Turn {
+        rt: q,
+        state: FuseState::Armed,
+        extra: 0,
+        reason: ReasonCode::Ok,
+    }
+}
+
+// Row 22's test.
+fn watched(warn: bool, bits: u64) -> bool
+    ensures { λ r. ⌜ r ≡ watchedOf warn bits ⌝ }
+{
+    if warn {
+        return true;
+    }
+    1 <= u64::count_ones(bits)
+}
+
+// Row 23.
+fn armed_row(cfg: FuseConfig, rt: Control) -> Turn
+    ensures { λ r. ⌜ r ≡ to Armed 0 (armedReason (cfg .mode)) rt ⌝ }
+{
+    let mode = cfg.mode;
+    let reason = armed_reason(mode);
+    Turn {
+        rt,
+        state: FuseState::Armed,
+        extra: 0,
+        reason,
+    }
+}
+
+fn armed_reason(mode: FuseMode) -> ReasonCode
+    ensures { λ r. ⌜ r ≡ armedReason mode ⌝ }
+{
+    if is_observe(mode) {
+        return ReasonCode::ObserveOnly;
+    }
+    ReasonCode::Ok
+}
+
+fn is_armed(s: FuseState) -> bool
+    ensures { λ r. ⌜ r ≡ isState s Armed ⌝ }
+{
+    state_code(s) == 1
+}
+
+fn is_watching(s: FuseState) -> bool
+    ensures { λ r. ⌜ r ≡ isState s Watching ⌝ }
+{
+    state_code(s) == 2
+}

@@ -1,0 +1,3 @@
+-- Laws of the table.
+pub mod ByTable
+pub mod Lines
