@@ -1,5 +1,5 @@
-// The escalation state machine (fsm.rs). `next` does what the table of lictor_table says; every row of fsm.rs is here under the same number, with
-// every change of a counter. The run state goes in by value and comes back.
+// The escalation state machine (fsm.rs). `next` does what the table of lictor_table says; every row of fsm.rs is under its own number, with every
+// change of a counter: rows 4 to 13, of Held and Escalated, in the crate lictor_held, the others here. The run state goes in by value and comes back.
 //
 // Three kinds of function: tests and numbers over plain values; rows, which change the run state and do not branch; and choices, which only test
 // and hand on.
@@ -8,23 +8,16 @@ ghost use Prim.Native.Nat.{_≤_, min};
 ghost use Rattle.lictor_core.specs.Codes.{isState};
 ghost use Rattle.lictor_core.specs.declared.state.FuseState.the-variants.{Armed, Watching, Fault};
 ghost use Rattle.lictor_table.specs.Fields.{withState};
-ghost use Rattle.lictor_table.specs.Helpers.{faultReason, clampReason, armedReason, acceptedBy, acceptedAck, consumeNonce, latchedOf, latchHold, countIf, upIf, isClean, countRun, to, settledOf};
-ghost use Rattle.lictor_table.specs.Rows.{faultRow, rearmAck, resumeRow, terminateRow, timeoutRow, waitRow, waitingOf, escalatedOf, mayRearm, rearmRow, escalateRow, holdRow, holdingOf, heldOf, confirmedOf, standstillRow, stoppingRow, brakingOf, enterBraking, brakeRow, unclampableOf, overBudget, clampRow, clearedOf, clearRow, watchedOf, quietOf, runningOf, byFrom, transitionOf};
+ghost use Rattle.lictor_table.specs.Helpers.{faultReason, clampReason, armedReason, latchedOf, latchHold, countIf, upIf, isClean, countRun, to, settledOf};
+ghost use Rattle.lictor_table.specs.Rows.{faultRow, confirmedOf, standstillRow, stoppingRow, brakingOf, enterBraking, brakeRow, unclampableOf, overBudget, clampRow, clearedOf, clearRow, watchedOf, quietOf, runningOf, byFrom, transitionOf};
 ghost use Rattle.lictor_table.specs.Table.{nextOf};
 use fmath::clamp;
-use lictor_core::ack::AckDecision;
 use lictor_core::ack::MaybeAck;
-use lictor_core::ack::VerifiedAck;
 use lictor_core::chunk::MAX_POS;
 use lictor_core::envelope::FuseConfig;
-use lictor_core::envelope::MAX_OPERATORS;
-use lictor_core::envelope::RearmPolicy;
-use lictor_core::envelope::is_auto;
 use lictor_core::fuse::Control;
 use lictor_core::num::sat_u8;
 use lictor_core::num::sat_u16;
-use lictor_core::num::sat_u32;
-use lictor_core::num::wrap_u32;
 use lictor_core::reason::ReasonCode;
 use lictor_core::state::FuseMode;
 use lictor_core::state::FuseState;
@@ -35,18 +28,19 @@ use lictor_core::verdict::BRAKE;
 use lictor_core::verdict::BRAKE_TIMEOUT;
 use lictor_core::verdict::CLAMP_BUDGET;
 use lictor_core::verdict::FAULT_BITS;
-use lictor_core::verdict::HANDOFF_TIMEOUT;
 use lictor_core::verdict::JERK;
 use lictor_core::verdict::NONFINITE;
-use lictor_core::verdict::OPERATOR_ABORT;
 use lictor_core::verdict::REACH;
-use lictor_core::verdict::REARM_BUDGET;
 use lictor_core::verdict::SCHEMA;
 use lictor_core::verdict::SPEED;
 use lictor_core::verdict::TIER0_SOFT;
 use lictor_core::verdict::TIER1_CP;
 use lictor_core::verdict::WORKSPACE;
 use lictor_core::verdict::any;
+use lictor_held::accepted_ack;
+use lictor_held::count_clean;
+use lictor_held::escalated;
+use lictor_held::held;
 use lictor_table::FsmInput;
 use lictor_table::Turn;
 
@@ -169,7 +163,7 @@ fn by_from(
             extra: 0,
             reason: ReasonCode::HeldStandstill,
         },
-        FuseState::Escalated => escalated(cfg, rt, ack),
+        FuseState::Escalated => escalated(cfg.hyst.handoff_timeout_ticks, rt, ack),
         FuseState::Held => held(cfg, rt, clean, ack, inp),
         FuseState::Braking => braking(cfg, rt, pos, inp),
         FuseState::Armed => running(cfg, rt, from, inp),
@@ -273,271 +267,6 @@ fn fault_first(cfg: FuseConfig, rt: Control, pos: [f64; 8], trips: u32) -> Turn
 {
     let reason = fault_reason(trips);
     fault(cfg, rt, pos, 0, reason)
-}
-
-// ---- acknowledgements
-
-fn accepted(handoff: u32, nonces: [u64; 8], a: VerifiedAck) -> bool
-    ensures { λ r. ⌜ r ≡ acceptedBy handoff nonces a ⌝ }
-{
-    let slot = a.operator_slot as usize;
-    if slot < MAX_OPERATORS {
-        if a.handoff_seq == handoff {
-            return nonces[slot] < a.nonce;
-        }
-    }
-    false
-}
-
-fn accepted_ack(rt: Control, ack: MaybeAck) -> MaybeAck
-    ensures { λ r. ⌜ r ≡ acceptedAck (rt .«handoff_seq») (rt .«last_nonce») ack ⌝ }
-{
-    match ack {
-        MaybeAck::NoAck => MaybeAck::NoAck,
-        MaybeAck::Given(a) => {
-            let nonces = rt.last_nonce;
-            if accepted(rt.handoff_seq, nonces, a) {
-                return MaybeAck::Given(a);
-            }
-            MaybeAck::NoAck
-        }
-    }
-}
-
-fn consume_nonce(rt: Control, a: VerifiedAck) -> Control
-    ensures { λ r. ⌜ r ≡ consumeNonce a rt ⌝ }
-{
-    let mut q = rt;
-    let slot = a.operator_slot as usize;
-    if slot < MAX_OPERATORS {
-        q.last_nonce[slot] = a.nonce;
-    }
-    q
-}
-
-fn rearm_ack(rt: Control, a: VerifiedAck) -> Control
-    ensures { λ r. ⌜ r ≡ rearmAck a rt ⌝ }
-{
-    let mut q = consume_nonce(rt, a);
-    let n = sat_u8(q.rearms);
-    q.rearms = n;
-    q.window.bits = 0;
-    q.clean_run = 0;
-    q.clamp_streak = 0;
-    q.held_ticks = 0;
-    q.held_clean = 0;
-    q.escalated_ticks = 0;
-    q.handoff_pending = false;
-    q
-}
-
-// Rows 6 and 9: an accepted Resume arms the fuse again.
-fn resume_row(rt: Control, a: VerifiedAck) -> Turn
-    ensures { λ r. ⌜ r ≡ resumeRow rt a ⌝ }
-{
-    let q = rearm_ack(rt, a);
-    Turn {
-        rt: q,
-        state: FuseState::Armed,
-        extra: 0,
-        reason: ReasonCode::RearmedAck,
-    }
-}
-
-// Rows 4, 5 and 10: an accepted Abort or Retune ends the episode.
-fn terminate_row(rt: Control, a: VerifiedAck, extra: u32, reason: ReasonCode) -> Turn
-    ensures { λ r. ⌜ r ≡ terminateRow rt a extra reason ⌝ }
-{
-    let mut q = consume_nonce(rt, a);
-    q.handoff_pending = false;
-    Turn {
-        rt: q,
-        state: FuseState::Terminated,
-        extra,
-        reason,
-    }
-}
-
-// ---- Escalated
-
-fn escalated(cfg: FuseConfig, rt: Control, ack: MaybeAck) -> Turn
-    ensures { λ r. ⌜ r ≡ escalatedOf cfg rt ack ⌝ }
-{
-    match ack {
-        MaybeAck::Given(a) => {
-            let d = a.decision;
-            match d {
-                AckDecision::Abort => terminate_row(
-                    rt,
-                    a,
-                    OPERATOR_ABORT,
-                    ReasonCode::TerminatedAbort,
-                ),
-                AckDecision::Retune => terminate_row(rt, a, 0, ReasonCode::TerminatedRetune),
-                AckDecision::Resume => resume_row(rt, a),
-            }
-        }
-        MaybeAck::NoAck => waiting(cfg, rt),
-    }
-}
-
-fn waiting(cfg: FuseConfig, rt: Control) -> Turn
-    ensures { λ r. ⌜ r ≡ waitingOf cfg rt ⌝ }
-{
-    if cfg.hyst.handoff_timeout_ticks <= rt.escalated_ticks {
-        return timeout_row(rt);
-    }
-    wait_row(rt)
-}
-
-// Row 7.
-fn timeout_row(rt: Control) -> Turn
-    ensures { λ r. ⌜ r ≡ timeoutRow rt ⌝ }
-{
-    let mut q = rt;
-    q.handoff_pending = false;
-    Turn {
-        rt: q,
-        state: FuseState::Terminated,
-        extra: HANDOFF_TIMEOUT,
-        reason: ReasonCode::TerminatedTimeout,
-    }
-}
-
-// Row 8.
-fn wait_row(rt: Control) -> Turn
-    ensures { λ r. ⌜ r ≡ waitRow rt ⌝ }
-{
-    let mut q = rt;
-    let n = sat_u32(rt.escalated_ticks);
-    q.escalated_ticks = n;
-    Turn {
-        rt: q,
-        state: FuseState::Escalated,
-        extra: 0,
-        reason: ReasonCode::HeldStandstill,
-    }
-}
-
-// ---- Held
-
-fn held(cfg: FuseConfig, rt: Control, clean: bool, ack: MaybeAck, inp: FsmInput) -> Turn
-    ensures { λ r. ⌜ r ≡ heldOf cfg rt clean ack inp ⌝ }
-{
-    match ack {
-        MaybeAck::Given(a) => {
-            let d = a.decision;
-            match d {
-                AckDecision::Resume => resume_row(rt, a),
-                AckDecision::Abort => terminate_row(
-                    rt,
-                    a,
-                    OPERATOR_ABORT,
-                    ReasonCode::TerminatedAbort,
-                ),
-                // Not a row in Held: ignored.
-                AckDecision::Retune => holding(cfg, rt, clean, inp),
-            }
-        }
-        MaybeAck::NoAck => holding(cfg, rt, clean, inp),
-    }
-}
-
-// Rows 11 to 13.
-fn holding(cfg: FuseConfig, rt: Control, clean: bool, inp: FsmInput) -> Turn
-    ensures { λ r. ⌜ r ≡ holdingOf cfg rt clean inp ⌝ }
-{
-    let h = cfg.hyst;
-    let policy = cfg.rearm;
-    if may_rearm(
-        policy,
-        rt.held_clean,
-        h.rearm_hold,
-        inp.chunk_ok,
-        rt.rearms,
-        h.max_rearms,
-    ) {
-        return rearm_row(rt);
-    }
-    if h.escalate_after_hold_ticks <= rt.held_ticks {
-        if h.max_rearms <= rt.rearms {
-            return escalate_row(rt, REARM_BUDGET, ReasonCode::EscalateRearmBudget);
-        }
-        if inp.predictive {
-            return escalate_row(rt, 0, ReasonCode::EscalateTier1Persistent);
-        }
-        return escalate_row(rt, 0, ReasonCode::EscalateHoldTimeout);
-    }
-    hold_row(rt, clean)
-}
-
-fn may_rearm(policy: RearmPolicy, clean: u16, need: u16, ok: bool, rearms: u8, most: u8) -> bool
-    ensures { λ r. ⌜ r ≡ mayRearm policy clean need ok rearms most ⌝ }
-{
-    if is_auto(policy) {
-        if need <= clean {
-            if ok {
-                return rearms < most;
-            }
-        }
-    }
-    false
-}
-
-// Row 11: automatic rearm. It clears the window and nothing else.
-fn rearm_row(rt: Control) -> Turn
-    ensures { λ r. ⌜ r ≡ rearmRow rt ⌝ }
-{
-    let mut q = rt;
-    let n = sat_u8(rt.rearms);
-    q.rearms = n;
-    q.window.bits = 0;
-    Turn {
-        rt: q,
-        state: FuseState::Armed,
-        extra: 0,
-        reason: ReasonCode::RearmedAuto,
-    }
-}
-
-// Row 12: a handoff begins.
-fn escalate_row(rt: Control, extra: u32, reason: ReasonCode) -> Turn
-    ensures { λ r. ⌜ r ≡ escalateRow rt extra reason ⌝ }
-{
-    let mut q = rt;
-    let n = wrap_u32(rt.handoff_seq);
-    q.handoff_seq = n;
-    q.handoff_pending = true;
-    q.escalated_ticks = 0;
-    Turn {
-        rt: q,
-        state: FuseState::Escalated,
-        extra,
-        reason,
-    }
-}
-
-// Row 13.
-fn hold_row(rt: Control, clean: bool) -> Turn
-    ensures { λ r. ⌜ r ≡ holdRow rt clean ⌝ }
-{
-    let mut q = rt;
-    let n = sat_u16(rt.held_ticks);
-    q.held_ticks = n;
-    let m = count_clean(clean, rt.held_clean);
-    q.held_clean = m;
-    Turn {
-        rt: q,
-        state: FuseState::Held,
-        extra: 0,
-        reason: ReasonCode::HeldStandstill,
-    }
-}
-
-fn count_clean(clean: bool, run: u16) -> u16
-    ensures { λ r. ⌜ r ≡ countIf 16 clean run ⌝ }
-{
-    if clean { sat_u16(run) } else { 0 }
 }
 
 // ---- Braking
@@ -730,10 +459,13 @@ fn clamp_reason(soft: u32) -> ReasonCode
     ReasonCode::ClampContact
 }
 
+// ---- Running, and nothing brakes or clamps
+
 // Rows 21 to 23 and the stay rows: nothing brakes or clamps.
 fn quiet(cfg: FuseConfig, rt: Control, from: FuseState, warn: bool) -> Turn
     ensures { λ r. ⌜ r ≡ quietOf cfg rt from warn ⌝ }
 {
+    let mode = cfg.mode;
     // Row 21.
     if cleared(from, cfg.hyst.clear_ticks, rt.clean_run) {
         return clear_row(rt);
@@ -749,7 +481,7 @@ fn quiet(cfg: FuseConfig, rt: Control, from: FuseState, warn: bool) -> Turn
     }
     // Row 23.
     if is_armed(from) {
-        return armed_row(cfg, rt);
+        return armed_row(mode, rt);
     }
     if is_watching(from) {
         return Turn {
@@ -803,10 +535,9 @@ fn watched(warn: bool, bits: u64) -> bool
 }
 
 // Row 23.
-fn armed_row(cfg: FuseConfig, rt: Control) -> Turn
-    ensures { λ r. ⌜ r ≡ to Armed 0 (armedReason (cfg .mode)) rt ⌝ }
+fn armed_row(mode: FuseMode, rt: Control) -> Turn
+    ensures { λ r. ⌜ r ≡ to Armed 0 (armedReason mode) rt ⌝ }
 {
-    let mode = cfg.mode;
     let reason = armed_reason(mode);
     Turn {
         rt,

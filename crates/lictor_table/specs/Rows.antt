@@ -59,12 +59,13 @@ unfoldable pub waitRow : Control → Turn
 waitRow rt = to Escalated 0 R.HeldStandstill (withEscalatedTicks (satUp 32 (rt .«escalated_ticks»)) rt)
 
 -- rows 7 and 8
-unfoldable pub waitingOf : FuseConfig → Control → Turn
-waitingOf cfg rt = cond (leb (cfg .hyst .«handoff_timeout_ticks») (rt .«escalated_ticks»)) (timeoutRow rt) (waitRow rt)
+unfoldable pub waitingOf : ℕ → Control → Turn
+waitingOf limit rt = cond (leb limit (rt .«escalated_ticks»)) (timeoutRow rt) (waitRow rt)
 
-unfoldable pub escalatedOf : FuseConfig → Control → MaybeAck → Turn
-escalatedOf cfg rt ack =
-    byAck ack (waitingOf cfg rt)
+-- rows 4 to 8
+unfoldable pub escalatedOf : ℕ → Control → MaybeAck → Turn
+escalatedOf limit rt ack =
+    byAck ack (waitingOf limit rt)
     (λ a. byDecision (a .decision) (resumeRow rt a) (terminateRow rt a operatorAbort R.TerminatedAbort) (terminateRow rt a 0 R.TerminatedRetune))
 
 -- ---- Held
@@ -95,6 +96,7 @@ holdingOf cfg rt clean inp =
     (cond (leb (cfg .hyst .«escalate_after_hold_ticks») (rt .«held_ticks»)) (escalateRow rt 0 R.EscalateHoldTimeout)
     (holdRow rt clean))))
 
+-- rows 9 to 13
 unfoldable pub heldOf : FuseConfig → Control → Bool → MaybeAck → FsmInput → Turn
 heldOf cfg rt clean ack inp =
     byAck ack (holdingOf cfg rt clean inp)
@@ -114,6 +116,7 @@ unfoldable pub stoppingRow : Control → Bool → Turn
 stoppingRow rt stopped =
     to Braking 0 R.Stopping (withStoppedTicks (countIf 8 stopped (rt .«stopped_ticks»)) (withBrakeTicks (satUp 16 (rt .«brake_ticks»)) rt))
 
+-- rows 14 to 16
 unfoldable pub brakingOf : FuseConfig → Control → List Float → FsmInput → Turn
 brakingOf cfg rt pos inp =
     cond (leb (cfg .hyst .«brake_timeout_ticks») (rt .«brake_ticks»)) (to Fault brakeTimeout R.FaultBrakeTimeout (latchHold cfg pos rt))
@@ -159,6 +162,7 @@ quietOf cfg rt from warn =
     (cond (isState from Watching) (to Watching 0 R.WatchBand rt)
     (to Clamped 0 R.Ok rt))))
 
+-- rows 17 to 20, then the rest
 unfoldable pub runningOf : FuseConfig → Control → FuseState → FsmInput → Turn
 runningOf cfg rt from inp =
     cond (anyOf (inp .trips) brakeBit) (brakeRow rt 0 R.BrakeInfeasible)
@@ -179,7 +183,7 @@ byFrom cfg rt pos from clean ack inp =
     (runningOf cfg rt from inp)
     (brakingOf cfg rt pos inp)
     (heldOf cfg rt clean ack inp)
-    (escalatedOf cfg rt ack)
+    (escalatedOf (cfg .hyst .«handoff_timeout_ticks») rt ack)
     (to Fault 0 R.HeldStandstill rt)
     (to Terminated 0 R.HeldStandstill rt)
 
