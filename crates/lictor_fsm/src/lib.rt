@@ -23,19 +23,7 @@ use lictor_core::state::FuseMode;
 use lictor_core::state::FuseState;
 use lictor_core::state::is_observe;
 use lictor_core::state::state_code;
-use lictor_core::verdict::ACCEL;
-use lictor_core::verdict::BRAKE;
-use lictor_core::verdict::BRAKE_TIMEOUT;
-use lictor_core::verdict::CLAMP_BUDGET;
-use lictor_core::verdict::FAULT_BITS;
-use lictor_core::verdict::JERK;
-use lictor_core::verdict::NONFINITE;
-use lictor_core::verdict::REACH;
-use lictor_core::verdict::SCHEMA;
-use lictor_core::verdict::SPEED;
-use lictor_core::verdict::TIER0_SOFT;
-use lictor_core::verdict::TIER1_CP;
-use lictor_core::verdict::WORKSPACE;
+use lictor_core::verdict;
 use lictor_core::verdict::any;
 use lictor_held::accepted_ack;
 use lictor_held::count_clean;
@@ -131,7 +119,7 @@ fn transition(
 ) -> Turn
     ensures { λ r. ⌜ r ≡ transitionOf cfg rt pos from clean ack inp ⌝ }
 {
-    if any(inp.trips, FAULT_BITS) {
+    if any(inp.trips, verdict::FAULT_BITS) {
         return fault_row(cfg, rt, pos, from, inp.trips);
     }
     by_from(cfg, rt, pos, from, clean, ack, inp)
@@ -225,10 +213,10 @@ fn fault(cfg: FuseConfig, rt: Control, pos: [f64; 8], extra: u32, reason: Reason
 fn fault_reason(trips: u32) -> ReasonCode
     ensures { λ r. ⌜ r ≡ faultReason trips ⌝ }
 {
-    if any(trips, NONFINITE) {
+    if any(trips, verdict::NONFINITE) {
         return ReasonCode::FaultNonFinite;
     }
-    if any(trips, SCHEMA) {
+    if any(trips, verdict::SCHEMA) {
         return ReasonCode::FaultSchema;
     }
     ReasonCode::FaultWatchdog
@@ -276,7 +264,13 @@ fn braking(cfg: FuseConfig, rt: Control, pos: [f64; 8], inp: FsmInput) -> Turn
 {
     // Row 14: a stop that never confirms.
     if cfg.hyst.brake_timeout_ticks <= rt.brake_ticks {
-        return fault(cfg, rt, pos, BRAKE_TIMEOUT, ReasonCode::FaultBrakeTimeout);
+        return fault(
+            cfg,
+            rt,
+            pos,
+            verdict::BRAKE_TIMEOUT,
+            ReasonCode::FaultBrakeTimeout,
+        );
     }
     if confirmed(inp.stopped, rt.stopped_ticks, cfg.hyst.stop_confirm_ticks) {
         return standstill_row(cfg, rt, pos);
@@ -337,9 +331,9 @@ fn count_stopped(stopped: bool, ticks: u8) -> u8
 fn running(cfg: FuseConfig, rt: Control, from: FuseState, inp: FsmInput) -> Turn
     ensures { λ r. ⌜ r ≡ runningOf cfg rt from inp ⌝ }
 {
-    let soft = inp.trips & TIER0_SOFT;
+    let soft = inp.trips & verdict::TIER0_SOFT;
     // Row 17.
-    if any(inp.trips, BRAKE) {
+    if any(inp.trips, verdict::BRAKE) {
         return brake_row(rt, 0, ReasonCode::BrakeInfeasible);
     }
     // Row 17b.
@@ -348,7 +342,7 @@ fn running(cfg: FuseConfig, rt: Control, from: FuseState, inp: FsmInput) -> Turn
     }
     // Row 18.
     if inp.predictive {
-        return brake_row(rt, TIER1_CP, ReasonCode::BrakeTier1Cp);
+        return brake_row(rt, verdict::TIER1_CP, ReasonCode::BrakeTier1Cp);
     }
     // Row 19.
     if over_budget(
@@ -357,7 +351,7 @@ fn running(cfg: FuseConfig, rt: Control, from: FuseState, inp: FsmInput) -> Turn
         rt.clamps,
         cfg.hyst.max_clamps_per_episode,
     ) {
-        return brake_row(rt, CLAMP_BUDGET, ReasonCode::BrakeClampBudget);
+        return brake_row(rt, verdict::CLAMP_BUDGET, ReasonCode::BrakeClampBudget);
     }
     // Row 20.
     if soft != 0 {
@@ -441,19 +435,19 @@ fn streak_up(boundary: bool, n: u8) -> u8
 fn clamp_reason(soft: u32) -> ReasonCode
     ensures { λ r. ⌜ r ≡ clampReason soft ⌝ }
 {
-    if any(soft, WORKSPACE) {
+    if any(soft, verdict::WORKSPACE) {
         return ReasonCode::ClampWorkspace;
     }
-    if any(soft, SPEED) {
+    if any(soft, verdict::SPEED) {
         return ReasonCode::ClampSpeed;
     }
-    if any(soft, ACCEL) {
+    if any(soft, verdict::ACCEL) {
         return ReasonCode::ClampAccel;
     }
-    if any(soft, JERK) {
+    if any(soft, verdict::JERK) {
         return ReasonCode::ClampJerk;
     }
-    if any(soft, REACH) {
+    if any(soft, verdict::REACH) {
         return ReasonCode::ClampReach;
     }
     ReasonCode::ClampContact

@@ -17,9 +17,7 @@ use lictor_core::num::sat_u32;
 use lictor_core::num::wrap_u32;
 use lictor_core::reason::ReasonCode;
 use lictor_core::state::FuseState;
-use lictor_core::verdict::HANDOFF_TIMEOUT;
-use lictor_core::verdict::OPERATOR_ABORT;
-use lictor_core::verdict::REARM_BUDGET;
+use lictor_core::verdict;
 use lictor_table::FsmInput;
 use lictor_table::Turn;
 
@@ -123,7 +121,7 @@ pub fn escalated(limit: u32, rt: Control, ack: MaybeAck) -> Turn
                 AckDecision::Abort => terminate_row(
                     rt,
                     a,
-                    OPERATOR_ABORT,
+                    verdict::OPERATOR_ABORT,
                     ReasonCode::TerminatedAbort,
                 ),
                 AckDecision::Retune => terminate_row(rt, a, 0, ReasonCode::TerminatedRetune),
@@ -153,7 +151,7 @@ fn timeout_row(rt: Control) -> Turn
     Turn {
         rt: q,
         state: FuseState::Terminated,
-        extra: HANDOFF_TIMEOUT,
+        extra: verdict::HANDOFF_TIMEOUT,
         reason: ReasonCode::TerminatedTimeout,
     }
 }
@@ -187,7 +185,7 @@ pub fn held(cfg: FuseConfig, rt: Control, clean: bool, ack: MaybeAck, inp: FsmIn
                 AckDecision::Abort => terminate_row(
                     rt,
                     a,
-                    OPERATOR_ABORT,
+                    verdict::OPERATOR_ABORT,
                     ReasonCode::TerminatedAbort,
                 ),
                 // Not a row in Held: ignored.
@@ -216,7 +214,7 @@ fn holding(cfg: FuseConfig, rt: Control, clean: bool, inp: FsmInput) -> Turn
     }
     if h.escalate_after_hold_ticks <= rt.held_ticks {
         if h.max_rearms <= rt.rearms {
-            return escalate_row(rt, REARM_BUDGET, ReasonCode::EscalateRearmBudget);
+            return escalate_row(rt, verdict::REARM_BUDGET, ReasonCode::EscalateRearmBudget);
         }
         if inp.predictive {
             return escalate_row(rt, 0, ReasonCode::EscalateTier1Persistent);
