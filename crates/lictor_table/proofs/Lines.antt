@@ -23,6 +23,11 @@ module _ {A : Type 0} (P : A → Type 0) where
   by-test true s t f g = f tt
   by-test false s t f g = g tt
 
+-- the same for a law that speaks of the test itself
+pub by-bool : {A : Type 0} (P : Bool → A → Type 0) (b : Bool) (s t : A) → P true s → P false t → P b (cond b s t)
+by-bool P true s t f g = f
+by-bool P false s t f g = g
+
 infixr 40 _⨾_
 -- P of what each line of the list does, where it applies
 pub data Lines (P : Turn → Type 0) (x : Facts) : List Line → Type 0 where
