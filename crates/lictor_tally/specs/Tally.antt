@@ -1,12 +1,12 @@
 -- What a tick makes of the tally (tally.rs). Each field goes by one of four rules: a count, a mark, a maximum, the last state.
-use mathlib.Core.Bool.{Bool, true, false, cond, not, _&&_}
+use mathlib.Core.Bool.{Bool, true, false, cond, not, _&&_, _||_}
 use mathlib.Core.List.{List, [], _∷_}
 use Prim.Native.Nat.{ℕ, _+_, _/_, _%_, _^_}
-use lib.Dec.{eqb, leb}
+use lib.Dec.{eqb}
 use lib.ListN.{getD}
 use lib.Ieee.{Float, nan}
 use Rattle.fmath.specs.Float.{maxOf}
-use Rattle.lictor_core.specs.Codes.{stateCode, isState, isStop}
+use Rattle.lictor_core.specs.Codes.{isState, isStop}
 use Rattle.lictor_core.specs.Num.{satUp}
 use Rattle.lictor_core.specs.declared.state.FuseState.{FuseState}
 use Rattle.lictor_core.specs.declared.state.FuseState.the-variants as S
@@ -26,7 +26,7 @@ count moves n = cond moves (satUp 32 n) n
 
 -- Idle and Armed count as nominal
 abbrev pub isNominal : FuseState → Bool
-isNominal s = leb (stateCode s) 1
+isNominal s = isState s S.Idle || isState s S.Armed
 
 -- bit b of a mask
 unfoldable pub bitOf : ℕ → ℕ → Bool
@@ -103,12 +103,13 @@ recordOf t v ev = record {
   «terminal_state» = v .state;
 }
 
--- ---- Tally::record_chunk: two counts, the rest as it was
+-- ---- Tally::record_chunk
 
-unfoldable pub recordChunk : Tally → Bool → Tally
-recordChunk t rejected = record {
-  «chunks_seen» = satUp 32 (t .«chunks_seen»);
-  «chunks_rejected» = count rejected (t .«chunks_rejected»);
+-- the two counts of chunks anew, the rest as it was
+abbrev pub withChunks : ℕ → ℕ → Tally → Tally
+withChunks seen rejected t = record {
+  «chunks_seen» = seen;
+  «chunks_rejected» = rejected;
   ticks = t .ticks;
   nominal = t .nominal;
   watching = t .watching;
@@ -134,3 +135,6 @@ recordChunk t rejected = record {
   «max_z» = t .«max_z»;
   «terminal_state» = t .«terminal_state»;
 }
+
+unfoldable pub recordChunk : Tally → Bool → Tally
+recordChunk t rejected = withChunks (satUp 32 (t .«chunks_seen»)) (count rejected (t .«chunks_rejected»)) t

@@ -99,10 +99,16 @@ fn count_in(s: FuseState, q: FuseState, n: u32) -> u32
     count_if(moves, n)
 }
 
+fn is_nominal(s: FuseState) -> bool
+    ensures { λ r. ⌜ r ≡ isNominal s ⌝ }
+{
+    is_state(s, FuseState::Idle) || is_state(s, FuseState::Armed)
+}
+
 fn count_nominal(s: FuseState, n: u32) -> u32
     ensures { λ r. ⌜ r ≡ count (isNominal s) n ⌝ }
 {
-    let moves = state_code(s) <= 1;
+    let moves = is_nominal(s);
     count_if(moves, n)
 }
 
@@ -199,10 +205,10 @@ fn most_at(live: u32, j: usize, x: f64, m: f64) -> f64
     if bit_of(live, j) { fmath::max(m, x) } else { m }
 }
 
-fn most_live(live: u32, z: [f64; 12], l: [f64; 12]) -> [f64; 12]
-    ensures { λ r. ⌜ r ≡ mostLive live z l ⌝ }
+fn most_live(tally: Tally, z: [f64; 12], live: u32) -> [f64; 12]
+    ensures { λ r. ⌜ r ≡ mostLive live z (tally .«max_z») ⌝ }
 {
-    let mut h = l;
+    let mut h = tally.max_z;
     let mut j: usize = 0;
     while j < 12 {
         h[j] = most_at(live, j, z[j], h[j]);
@@ -224,7 +230,6 @@ pub fn record(tally: Tally, v: SafetyVerdict, ev: TickEvents) -> Tally
     let stop = tally.first_stop_tick;
     let handoff = tally.handoff_tick;
     let z = v.scores.z;
-    let max_z = tally.max_z;
     Tally {
         ticks: sat_u32(tally.ticks),
         nominal: count_nominal(state, tally.nominal),
@@ -250,7 +255,7 @@ pub fn record(tally: Tally, v: SafetyVerdict, ev: TickEvents) -> Tally
         handoff_tick: first_at(ev.entered_escalated, v.t, handoff),
         violations_reached_env: count_if(v.violation_reached_env, tally.violations_reached_env),
         max_s: fmath::max(tally.max_s, v.scores.s),
-        max_z: most_live(ev.live_z, z, max_z),
+        max_z: most_live(tally, z, ev.live_z),
         terminal_state: state,
     }
 }

@@ -2,8 +2,8 @@ use borrow.Author.Needs.{needs}
 use Rattle.lictor_tally.proofs.count_nominal.Statement.{statement}
 use Rattle.lictor_tally.proofs.count_nominal.Tie as tie
 
-state-code-requires : tie.Need-state-code-requires
-state-code-requires c κs = search needs
+is-nominal-requires : tie.Need-is-nominal-requires
+is-nominal-requires c κs = search needs
 
 count-if-requires : tie.Need-count-if-requires
 count-if-requires c κs = search needs
@@ -12,4 +12,4 @@ returns : tie.Need-returns
 returns c = cc
 
 pub count-nominal-spec : {M : Type 1} → statement M
-count-nominal-spec = tie.close (tie.spec state-code-requires count-if-requires returns)
+count-nominal-spec = tie.close (tie.spec is-nominal-requires count-if-requires returns)

@@ -50,7 +50,7 @@ loop-again c = search (needs, each-more)
 
 returns : tie.Need-returns Inv-loop μ-loop
 unfolding mostLive
-returns c = let q = c .before .loop in let e : length (c .before .before .args .l) ≡ q .j = omega arith in each-done (mostAt _ _) _ _ _ (q .inv .2) e
+returns c = let q = c .before .loop in let e : length (c .before .before .before .args .tally .«max_z») ≡ q .j = omega arith in each-done (mostAt _ _) _ _ _ (q .inv .2) e
 
 pub most-live-spec : {M : Type 1} → statement M
 most-live-spec =

@@ -80,7 +80,7 @@ returns c =
     let lists = marks .before .before .before .before .before .before in
     let events = lists .before .before in
     let states = events .before .before .before .before .before in
-    let args = states .before .before .before .before .before .before .before .before .before .before .before .args in
+    let args = states .before .before .before .before .before .before .before .before .before .before .args in
     λ i. record {
       ticks = states .before .before .before .before .before .before .before .before .sat-u32 .ensures i;
       nominal = states .before .before .before .before .before .before .before .count-nominal .ensures i;
