@@ -195,8 +195,8 @@ none-yet escalations = refl
 none-yet (tripsByBit b) = all-zero 16 b
 none-yet (firedByFeat j) = all-zero 12 j
 
-cut : (h : List Item) (k : Count) → valueOf k (tallyOf h) ≡ min (number (counts k) h) (2 ^ 32 - 1)
-cut h k =
+pub count-all : (h : List Item) (k : Count) → valueOf k (tallyOf h) ≡ min (number (counts k) h) (2 ^ 32 - 1)
+count-all h k =
     let e : valueOf k emptyTally < 2 ^ 32 = omega (arith, none-yet k) in
     omega (arith, none-yet k, count-from k emptyTally h empty-sized e)
 
@@ -207,8 +207,9 @@ number-le p (x ∷ h) = by-test (p x) (number-le p h) where
   by-test true e = omega arith
   by-test false e = omega arith
 
-exact : (h : List Item) → length h < 2 ^ 32 → (k : Count) → valueOf k (tallyOf h) ≡ number (counts k) h
-exact h b k = omega (arith, cut h k, number-le (counts k) h)
+-- a number that fits is the count
+exactly : (h : List Item) (k : Count) → number (counts k) h < 2 ^ 32 → valueOf k (tallyOf h) ≡ number (counts k) h
+exactly h k f = omega (arith, count-all h k)
 
 -- every tick is counted by `ticks`, and by just one of the state counts
 each-tick : (h : List Item) → number (counts ticks) h ≡ length h
@@ -230,10 +231,8 @@ each-state : (h : List Item) → overStates (λ k. number (counts k) h) ≡ leng
 each-state [] = refl
 each-state (x ∷ h) = omega (arith, each-state h, one-state (x .verdict .state) x refl)
 
-sum : (h : List Item) → length h < 2 ^ 32 → overStates (λ k. valueOf k (tallyOf h)) ≡ tallyOf h .ticks
-sum h b =
-    let e : (k : Count) → valueOf k (tallyOf h) ≡ number (counts k) h = exact h b in
-    omega (arith, each-state h, each-tick h, e ticks, e nominal, e watching, e clamped, e braking, e held, e escalated, e fault, e terminated)
+sums : (h : List Item) → ((k : Count) → valueOf k (tallyOf h) ≡ number (counts k) h) → overStates (λ k. valueOf k (tallyOf h)) ≡ tallyOf h .ticks
+sums h e = omega (arith, each-state h, each-tick h, e ticks, e nominal, e watching, e clamped, e braking, e held, e escalated, e fault, e terminated)
 
 reason-first : (n : ReasonMark) → orReason Never NoReason n ≡ n
 reason-first NoReason = refl
@@ -255,10 +254,10 @@ max-z h j b = rw (lowest j b) at (most-from (λ t. getD (t .«max_z») j nan) (l
 pub history : (h : List Item) → OfHistory h
 unfolding emptyTally ticked recordOf
 history h = record {
-  cut = cut h;
-  exact = exact h;
-  all = λ b. exact h b ticks ∙ each-tick h;
-  sum = sum h;
+  cut = count-all h;
+  exact = λ b k. exactly h k (omega (arith, number-le (counts k) h));
+  all = λ b. omega (arith, count-all h ticks, each-tick h);
+  sum = λ b. sums h (λ k. exactly h k (omega (arith, number-le (counts k) h)));
   firstTrip = mark-from (λ t. t .«first_trip_tick») trips trip-marked emptyTally h;
   firstTripReason = reason-from emptyTally h ∙ reason-first (firstReasonOf h);
   firstStop = mark-from (λ t. t .«first_stop_tick») stops (λ t x. rw (as-ticked t x)) emptyTally h;

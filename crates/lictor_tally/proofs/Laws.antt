@@ -12,7 +12,6 @@ use Rattle.fmath.specs.Float.{maxOf}
 use Rattle.lictor_core.proofs.Counts.{sat-fits, sat-counts, sat-stops}
 use Rattle.lictor_core.specs.declared.reason.ReasonCode.{ReasonCode}
 use Rattle.lictor_core.specs.declared.verdict.SafetyVerdict.{SafetyVerdict}
-use Rattle.lictor_core.specs.declared.tally.Mark.{Mark}
 use Rattle.lictor_core.specs.declared.tally.Mark.the-variants.{At}
 use Rattle.lictor_core.specs.declared.tally.ReasonMark.{ReasonMark}
 use Rattle.lictor_core.specs.declared.tally.Tally.{Tally}

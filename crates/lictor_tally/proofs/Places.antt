@@ -1,5 +1,5 @@
 -- Lists whose elements each go by the rule of their place: what an element becomes, and how a loop gets there, one place a turn.
-use mathlib.Core.Path.{_≡_, refl, sym, ap, _∙_}
+use mathlib.Core.Path.{_≡_, refl, ap}
 use mathlib.Core.List.{List, [], _∷_}
 use Prim.Native.Nat.{ℕ, zero, suc, _+_, _<_}
 use native.Mathlib.Numerals.{add-one}
@@ -20,7 +20,7 @@ module _ {X : Type 0} (f : ℕ → X → X) where
   each-at i (x ∷ l) zero d h = let e : i + 0 ≡ i = omega arith in rw e
   each-at i (x ∷ l) (suc k) d h = let e : i + suc k ≡ i + 1 + k = omega arith in let g : k < length l = omega arith in rw e (each-at (i + 1) l k d g)
 
-  -- the first k places by the rule, the others as they were
+  -- the first k places by the rule, counted from i, the others as they were
   unfoldable pub eachTo : ℕ → ℕ → List X → List X
   eachTo i zero l = l
   eachTo i (suc k) [] = []

@@ -45,7 +45,7 @@ loop-less : tie.Need-loop-less Inv-loop μ-loop
 loop-less c = search needs
 
 loop-again : tie.Need-loop-again Inv-loop μ-loop
-unfolding mostAt mostLive
+unfolding mostAt
 loop-again c = search (needs, each-more)
 
 returns : tie.Need-returns Inv-loop μ-loop

@@ -1,4 +1,4 @@
-use Rattle.lictor_tally.specs.Tally.{recordChunk}
+use Rattle.lictor_tally.specs.Tally.{recordChunk, withChunks}
 use borrow.Author.Needs.{needs}
 use Rattle.lictor_tally.proofs.record_chunk.Statement.{statement}
 use Rattle.lictor_tally.proofs.record_chunk.Tie as tie
@@ -11,7 +11,7 @@ count-if-requires c κs = search needs
 
 returns : tie.Need-returns
 unfolding recordChunk
-returns c = cc
+returns c = λ i. withChunks (c .before .sat-u32 .ensures i) (c .count-if .ensures i) (c .before .before .args .tally)
 
 pub record-chunk-spec : {M : Type 1} → statement M
 record-chunk-spec = tie.close (tie.spec sat-u32-requires count-if-requires returns)
