@@ -93,10 +93,10 @@ pub fn clamp(x: f64, lo: f64, hi: f64) -> f64
 
 // ---- norm
 
-fn least(a: usize, b: usize) -> usize
-    ensures { λ r. ⌜ r ≡ Nat·min a b ⌝ }
+fn least(n: usize, k: usize) -> usize
+    ensures { λ r. ⌜ r ≡ Nat·min n k ⌝ }
 {
-    if a < b { a } else { b }
+    if n < k { n } else { k }
 }
 
 // The Euclidean norm of the first n components, or of all where there are fewer.
@@ -105,7 +105,7 @@ pub fn norm(v: &[f64], n: usize) -> f64
 {
     let m = least(n, v.len());
     let mut s = 0.0;
-    let mut i: usize = 0;
+    let mut i = 0;
     while i < m {
         s += v[i] * v[i];
         i += 1;
