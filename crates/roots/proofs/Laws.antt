@@ -7,7 +7,7 @@ use native.Mathlib.Nat.{le-antisymm, le-of-suc-le-suc, lt-of-not-le, add-zero, p
 use native.Mathlib.Numerals.{add-one}
 use native.Mathlib.Omega.{arith}
 use borrow.Author.Tests.{lt-ltb, le-ltb}
-use lib.Dec.{T, leb, ltb, leb→le, nleb→lt}
+use lib.Dec.{T, leb, leb→le, nleb→lt}
 use lib.ListN.{length, take, drop, getD, set, length-set, length-append, length-take, length-drop, drop-of-length-le}
 use lib.Seq.{take-suc-set, take-suc, drop-cons, getD-take, take-all, drop-drop, length-take-le}
 use lib.Ieee.{Float, nan, inf, fin, binary64, isNan, toBits, ofBits, nanBits, ne}

@@ -1,7 +1,7 @@
 -- The text that `roots` reads and writes. Definitions only.
 use Prim.Native.Nat.{ℕ, zero, suc, _+_, _-_, _*_, _/_}
 use mathlib.Core.Path.{_≡_}
-use mathlib.Core.Bool.{Bool, true, false, cond, _&&_}
+use mathlib.Core.Bool.{Bool, true, false, cond}
 use mathlib.Core.List.{List, [], _∷_, _++_}
 use lib.Dec.{leb, ltb, eqb}
 use lib.ListN.{length, take, drop, getD}
@@ -16,7 +16,7 @@ use Rattle.roots.specs.declared.Read.the-variants.{Pattern, Bad}
 
 -- the value of a hexadecimal digit, `0` to `9` or `a` to `f`, and 16 for any other byte
 unfoldable pub digitOf : ℕ → ℕ
-digitOf c = cond (ltb c 48) 16 (cond (leb c 57) (c - 48) (cond (ltb c 97) 16 (cond (leb c 102) (c - 87) 16)))
+digitOf c = cond (ltb c 48) 16 (cond (leb c 57) (c - 48) (cond (ltb c 97) 16 (cond (leb c 102) (c - 97 + 10) 16)))
 
 -- v followed by the digits cs
 unfoldable pub readDigits : ℕ → List ℕ → Read

@@ -2,7 +2,6 @@
 // its square root: the pattern, a space, the pattern of `fmath::sqrt`'s result (`nan` for every NaN), a newline.
 // At a line that is no such text it writes `bad line` and stops.
 ghost use mathlib.Core.Path.{_≡_};
-ghost use mathlib.Core.List.{List};
 ghost use Prim.Native.Nat.{_+_, _*_, _≤_, min};
 ghost use lib.ListN.{length};
 ghost use lib.Ieee.{binary64, ofBits};
@@ -10,7 +9,7 @@ ghost use Rattle.roots.specs.Text.{digitOf, readOf, hexText, valueText, 
 
 // ---- reading
 
-pub enum Read {
+enum Read {
     Pattern(u64),
     Bad,
 }
@@ -19,17 +18,17 @@ pub enum Read {
 fn digit(c: u8) -> u8
     ensures { λ r. ⌜ r ≡ digitOf c ⌝ }
 {
-    if c < 48 {
+    if c < b'0' {
         return 16;
     }
-    if c <= 57 {
-        return c - 48;
+    if c <= b'9' {
+        return c - b'0';
     }
-    if c < 97 {
+    if c < b'a' {
         return 16;
     }
-    if c <= 102 {
-        return c - 87;
+    if c <= b'f' {
+        return c - b'a' + 10;
     }
     16
 }
@@ -41,7 +40,7 @@ fn read_line(s: &[u8]) -> Read
     if s.len() != 17 {
         return Read::Bad;
     }
-    if s[16] != 10 {
+    if s[16] != b'\n' {
         return Read::Bad;
     }
     let mut b: u64 = 0;

@@ -1,5 +1,5 @@
 -- `roots::answer_line` meets its contract. Assumes nothing.
-use mathlib.Core.Path.{_≡_, refl, sym, _∙_}
+use mathlib.Core.Path.{refl, sym, _∙_}
 use Rattle.roots.specs.Text.{answerTo, isBad}
 use borrow.Author.Needs.{needs}
 use Rattle.roots.proofs.answer_line.Statement.{statement}

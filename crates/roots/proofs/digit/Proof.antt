@@ -17,8 +17,8 @@ returns-3 : tie.Need-returns-3
 unfolding digitOf
 returns-3 c = simp (le-ltb _ _ (c .before .before .if1 .left), lt-leb _ _ (c .before .if2 .left), lt-ltb _ _ (c .if3 .taken))
 
-sub-result : tie.Need-sub-result
-sub-result c = search needs
+add-result : tie.Need-add-result
+add-result c = search needs
 
 returns-4 : tie.Need-returns-4
 unfolding digitOf
@@ -29,4 +29,4 @@ unfolding digitOf
 returns-5 c = simp (le-ltb _ _ (c .before .before .before .if1 .left), lt-leb _ _ (c .before .before .if2 .left), le-ltb _ _ (c .before .if3 .left), lt-leb _ _ (c .if4 .left))
 
 pub digit-spec : {M : Type 1} → statement M
-digit-spec = tie.close (tie.spec returns returns-2 returns-3 sub-result returns-4 returns-5)
+digit-spec = tie.close (tie.spec returns returns-2 returns-3 add-result returns-4 returns-5)

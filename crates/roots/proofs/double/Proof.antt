@@ -1,9 +1,6 @@
 -- `roots::double` meets its contract: the test is that of a NaN's pattern. Assumes nothing.
-use mathlib.Core.Path.{_≡_, sym, _∙_}
-use mathlib.Core.Bool.{true, false}
-use Prim.Native.Nat.{ℕ, _%_, _^_, _≤_, _<_}
+use mathlib.Core.Path.{sym, _∙_}
 use borrow.Author.Needs.{needs}
-use borrow.Author.Tests.{lt-ltb, le-ltb}
 use Rattle.roots.proofs.Laws.{nan-at, not-nan-at}
 use Rattle.roots.proofs.double.Statement.{statement}
 use Rattle.roots.proofs.double.Tie as tie

@@ -1,6 +1,5 @@
 -- `roots::put_hex` meets its contract: at a width of 16 there are 16 digits. Assumes nothing.
 use mathlib.Core.Path.{_≡_, ap}
-use Prim.Native.Nat.{_^_, _<_}
 use native.Mathlib.Omega.{arith}
 use borrow.Author.Needs.{needs}
 use lib.ListN.{length, take}

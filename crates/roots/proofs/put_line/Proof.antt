@@ -1,13 +1,12 @@
 -- `roots::put_line` meets its contract: four texts, one behind the other. Assumes nothing.
-use mathlib.Core.Path.{_≡_, refl, sym, ap, _∙_, subst}
-use mathlib.Core.List.{List, []}
+use mathlib.Core.Path.{_≡_, ap, _∙_}
 use Prim.Native.Nat.{ℕ, _+_, _≤_}
 use native.Mathlib.Omega.{arith}
 use borrow.Author.Needs.{needs}
 use lib.ListN.{length}
-use lib.Ieee.{Float, binary64, ofBits}
+use lib.Ieee.{binary64, ofBits}
 use Rattle.fmath.specs.Root.{rootOf}
-use Rattle.roots.specs.Text.{hexText, valueText, lineOf, Put}
+use Rattle.roots.specs.Text.{lineOf}
 use Rattle.roots.proofs.Laws.{hex-length, value-length, then-put}
 use Rattle.roots.proofs.put_line.Statement.{statement}
 use Rattle.roots.proofs.put_line.Tie as tie

@@ -1,5 +1,4 @@
 -- `roots::put_value` meets its contract. Assumes nothing.
-use mathlib.Core.Path.{sym}
 use Rattle.fmath.proofs.Patterns.{no-nan}
 use Rattle.roots.proofs.Laws.{value-nan, value-number}
 use borrow.Author.Needs.{needs}
