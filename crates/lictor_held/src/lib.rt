@@ -69,8 +69,8 @@ fn rearm_ack(rt: Control, a: VerifiedAck) -> Control
     ensures { λ r. ⌜ r ≡ rearmAck a rt ⌝ }
 {
     let mut q = consume_nonce(rt, a);
-    let n = sat_u8(q.rearms);
-    q.rearms = n;
+    let rearms = sat_u8(q.rearms);
+    q.rearms = rearms;
     q.window.bits = 0;
     q.clean_run = 0;
     q.clamp_streak = 0;
