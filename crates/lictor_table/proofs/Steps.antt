@@ -43,26 +43,26 @@ mayEnd from q =
     false
     (isState Terminated q)
 
-to-braking : (q : FuseState) → Running q → T (mayEnd q Braking)
-to-braking Armed armed = tt
-to-braking Watching watching = tt
-to-braking Clamped clamped = tt
+to-braking : {q : FuseState} → Running q → T (mayEnd q Braking)
+to-braking armed = tt
+to-braking watching = tt
+to-braking clamped = tt
 
-to-running : (q p : FuseState) → Running q → Running p → T (mayEnd q p)
-to-running Armed Armed armed armed = tt
-to-running Armed Watching armed watching = tt
-to-running Armed Clamped armed clamped = tt
-to-running Watching Armed watching armed = tt
-to-running Watching Watching watching watching = tt
-to-running Watching Clamped watching clamped = tt
-to-running Clamped Armed clamped armed = tt
-to-running Clamped Watching clamped watching = tt
-to-running Clamped Clamped clamped clamped = tt
+to-running : {q p : FuseState} → Running q → Running p → T (mayEnd q p)
+to-running armed armed = tt
+to-running armed watching = tt
+to-running armed clamped = tt
+to-running watching armed = tt
+to-running watching watching = tt
+to-running watching clamped = tt
+to-running clamped armed = tt
+to-running clamped watching = tt
+to-running clamped clamped = tt
 
 pub ends : (cfg : FuseConfig) (rt : Control) (pos : List Float) (inp : FsmInput) → T (mayEnd (rt .state) (nextOf cfg rt pos inp .state))
 unfolding settledOf resumeRow terminateRow timeoutRow waitRow rearmRow escalateRow holdRow standstillRow stoppingRow brakeRow clampRow clearRow
 ends cfg rt pos inp =
-    by-lines cfg rt pos inp (λ q b ack t. T (mayEnd q (t .state)))
+    by-lines cfg rt pos inp (λ q b ack taken t. T (mayEnd q (t .state)))
     (record {
       faults = λ q h ack w. tt;
       faultsAgain = λ q h ack w. tt;
@@ -72,18 +72,18 @@ ends cfg rt pos inp =
       escalatedResumes = λ a. tt;
       timesOut = λ h. tt;
       waits = λ h. tt;
-      heldResumes = λ a k. tt;
-      heldEnds = λ a k x w. tt;
-      rearms = λ ack k a h. tt;
-      escalates = λ ack k h x w. tt;
-      holds = λ ack k h. tt;
+      heldResumes = λ a. tt;
+      heldEnds = λ a x w. tt;
+      rearms = λ ack a h. tt;
+      escalates = λ ack h x w. tt;
+      holds = λ ack h. tt;
       brakeTimesOut = λ ack h. tt;
       stands = λ ack h. tt;
       brakesOn = λ ack h. tt;
-      brakes = λ q h ack x w. to-braking q h;
-      clamps = λ q h ack. to-running q Clamped h clamped;
-      clears = λ q h ack. to-running q Armed h armed;
-      runsOn = λ q p h g ack w. to-running q p h g;
+      brakes = λ h ack x w. to-braking h;
+      clamps = λ h ack. to-running h clamped;
+      clears = λ h ack. to-running h armed;
+      runsOn = λ h g ack w. to-running h g;
       idle = λ ack. tt;
     })
 
@@ -93,15 +93,10 @@ ends cfg rt pos inp =
 abbrev pub Stores : MaybeAck → List ℕ → List ℕ → Type 0
 Stores taken before after = after ≡ byAck taken before (λ a. set before (a .«operator_slot») (a .nonce))
 
-running-takes : (q : FuseState) → Running q → (ack : MaybeAck) → takenIn q ack ≡ NoAck
-running-takes Armed armed ack = refl
-running-takes Watching watching ack = refl
-running-takes Clamped clamped ack = refl
-
 pub stores : (cfg : FuseConfig) (rt : Control) (pos : List Float) (inp : FsmInput) → Stores (consumedOf rt inp) (rt .«last_nonce») (nextOf cfg rt pos inp .rt .«last_nonce»)
 unfolding consumedOf settledOf countRun latchHold consumeNonce rearmAck resumeRow terminateRow timeoutRow waitRow rearmRow escalateRow holdRow standstillRow stoppingRow enterBraking brakeRow clampRow clearRow
 stores cfg rt pos inp =
-    by-lines cfg rt pos inp (λ q b ack t. Stores (cond b NoAck (takenIn q ack)) (rt .«last_nonce») (t .rt .«last_nonce»))
+    by-lines cfg rt pos inp (λ q b ack taken t. Stores taken (rt .«last_nonce») (t .rt .«last_nonce»))
     (record {
       faults = λ q h ack w. refl;
       faultsAgain = λ q h ack w. refl;
@@ -111,18 +106,18 @@ stores cfg rt pos inp =
       escalatedResumes = λ a. refl;
       timesOut = λ h. refl;
       waits = λ h. refl;
-      heldResumes = λ a k. rw k;
-      heldEnds = λ a k x w. rw k;
-      rearms = λ ack k a h. rw k;
-      escalates = λ ack k h x w. rw k;
-      holds = λ ack k h. rw k;
+      heldResumes = λ a. refl;
+      heldEnds = λ a x w. refl;
+      rearms = λ ack a h. refl;
+      escalates = λ ack h x w. refl;
+      holds = λ ack h. refl;
       brakeTimesOut = λ ack h. refl;
       stands = λ ack h. refl;
       brakesOn = λ ack h. refl;
-      brakes = λ q h ack x w. rw (running-takes q h ack);
-      clamps = λ q h ack. rw (running-takes q h ack);
-      clears = λ q h ack. rw (running-takes q h ack);
-      runsOn = λ q p h g ack w. rw (running-takes q h ack);
+      brakes = λ h ack x w. refl;
+      clamps = λ h ack. refl;
+      clears = λ h ack. refl;
+      runsOn = λ h g ack w. refl;
       idle = λ ack. refl;
     })
 
