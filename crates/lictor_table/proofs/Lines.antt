@@ -27,7 +27,7 @@ use Rattle.lictor_table.specs.Helpers.{acceptedAck, latchHold, cleanOf, 
 use Rattle.lictor_table.specs.Rows.{faultRow, resumeRow, terminateRow, timeoutRow, waitRow, waitingOf, escalatedOf, mayRearm, rearmRow, escalateRow, holdRow, holdingOf, heldOf, confirmedOf, standstillRow, stoppingRow, brakingOf, brakeRow, unclampableOf, overBudget, clampRow, clearedOf, clearRow, watchedOf, quietOf, runningOf, byFrom, transitionOf, nextByRows}
 use Rattle.lictor_table.specs.Table.{nextOf}
 use Rattle.lictor_table.specs.Consumed.{takenIn, consumedOf}
-use Rattle.lictor_table.proofs.ByTable.{tells}
+use Rattle.lictor_table.proofs.ByTable.{given, tells}
 
 -- the two ways out of a test
 pub by-test : {A : Type 0} (P : A → Type 0) (b : Bool) (s t : A) → (T b → P s) → (T (not b) → P t) → P (cond b s t)
@@ -145,14 +145,14 @@ module _ (cfg : FuseConfig) (rt : Control) (pos : List Float) (inp : FsmInput) w
         (λ h. l .escalates m (omega tests) _ _) (λ h. l .holds m (omega tests)))))
 
     held : (d : AckDecision) (slot nonce seq : ℕ)
-        → At Held (Given (record { decision = d; «operator_slot» = slot; nonce = nonce; «handoff_seq» = seq })) (takenIn Held (Given (record { decision = d; «operator_slot» = slot; nonce = nonce; «handoff_seq» = seq }))) (heldOf cfg counted (cleanOf inp) (Given (record { decision = d; «operator_slot» = slot; nonce = nonce; «handoff_seq» = seq })) inp)
+        → At Held (given d slot nonce seq) (takenIn Held (given d slot nonce seq)) (heldOf cfg counted (cleanOf inp) (given d slot nonce seq) inp)
     unfolding heldOf
     held Resume slot nonce seq = l .heldResumes _
     held Abort slot nonce seq = l .heldEnds _ _ _
     held Retune slot nonce seq = holding _
 
     escalated : (d : AckDecision) (slot nonce seq : ℕ)
-        → At Escalated (Given (record { decision = d; «operator_slot» = slot; nonce = nonce; «handoff_seq» = seq })) (takenIn Escalated (Given (record { decision = d; «operator_slot» = slot; nonce = nonce; «handoff_seq» = seq }))) (escalatedOf (cfg .hyst .«handoff_timeout_ticks») counted (Given (record { decision = d; «operator_slot» = slot; nonce = nonce; «handoff_seq» = seq })))
+        → At Escalated (given d slot nonce seq) (takenIn Escalated (given d slot nonce seq)) (escalatedOf (cfg .hyst .«handoff_timeout_ticks») counted (given d slot nonce seq))
     unfolding escalatedOf
     escalated Resume slot nonce seq = l .escalatedResumes _
     escalated Abort slot nonce seq = l .escalatedEnds _ _ _
