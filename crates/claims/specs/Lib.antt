@@ -1,0 +1,4 @@
+-- The claims, and the words that they are written with.
+pub mod Runs
+pub mod Calls
+pub mod Demand3
