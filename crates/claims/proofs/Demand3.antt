@@ -96,7 +96,7 @@ module _ (s : Settings) (z : Sized s) where
   -- a call under s meets the law, and a refused one changes nothing
   arm-meets : (r : FuseRt) (c : Call) → Unit {0} → Under s c → Arms r (stepOf seenOf r c)
   arm-meets r c o u =
-      by-step seenOf (Arms r) r c
+      by-step seenOf (λ r′. Arms r) r c
       (λ h. (tt, subst (λ (s′ : Settings). ArmLaw s′ (armOf s′ r) (seenOf r c (givenOf (decided r c))) (armOf s′ (decided r c .rt))) (u h) (arm-ticks r c (subst Sized (sym (u h)) z))))
       (λ h. (tt, refl))
 
@@ -146,7 +146,7 @@ abbrev Nonces : FuseRt → Step FuseRt Seen → Type 0
 Nonces = Meets (stepOf seenOf) floorOf Eight Calls NonceLaw
 
 nonce-meets : (r : FuseRt) (c : Call) → Eight r → Unit {0} → Nonces r (stepOf seenOf r c)
-nonce-meets r c o u = by-step seenOf (Nonces r) r c (λ h. nonce-ticks r c o) (λ h. (o, refl))
+nonce-meets r c o u = by-step seenOf (λ r′. Nonces r) r c (λ h. nonce-ticks r c o) (λ h. (o, refl))
 
 every : (cs : List Call) → All Calls cs
 every [] = tt

@@ -4,3 +4,5 @@ pub mod Law
 pub mod Rows
 pub mod Tick
 pub mod Demand3
+pub mod ClockEnd
+pub mod Tallies

@@ -49,7 +49,7 @@ module _ {R A K S : Type 0} (step : R → K → Step R A) (view : R → S) (Ok :
   Meets r (silent r′) = Ok r′ × (view r ≡ view r′)
   Meets r (event x r′) = Ok r′ × L (view r) x (view r′)
 
-  chain : (r : R) (a : Step R A) (k : R → List A) → Meets r a → ((r′ : R) → Ok r′ → Run L (view r′) (k r′)) → Run L (view r) (andThen a k (λ (x : A) (l : List A). x ∷ l))
+  chain : (r : R) (a : Step R A) (k : R → List A) → Meets r a → ((r′ : R) → Ok r′ → Run L (view r′) (k r′)) → Run L (view r) (andThen a k)
   chain r (silent r′) k m f = subst (λ (c : S). Run L c (k r′)) (sym (m .1)) (f r′ (m .0))
   chain r (event x r′) k m f = next (m .1) (f r′ (m .0))
 

@@ -45,13 +45,14 @@ unfolding refusedTick
 refused-keeps r c h = by-call (λ (a : Ticked). a .rt ≡ r) r c (λ f. absurd (T-not (accepted c) h f)) (λ g. refl)
 
 module _ {A : Type 0} (see : FuseRt → Call → Ticked → A) where
-  -- what holds of the event of a tick, and of silence that leaves the run state as it was, holds of the step
-  pub by-step : (P : Step FuseRt A → Type 0) (r : FuseRt) (c : Call)
-      → (T (accepted c) → P (event (see r c (givenOf (decided r c))) (decided r c .rt))) → (T (not (accepted c)) → P (silent r)) → P (stepOf see r c)
+  -- what holds of the event of a tick and the run state that it leaves, and of silence that leaves the run state as it was, holds of the step
+  pub by-step : (P : FuseRt → Step FuseRt A → Type 0) (r : FuseRt) (c : Call)
+      → (T (accepted c) → P (decided r c .rt) (event (see r c (givenOf (decided r c))) (decided r c .rt))) → (T (not (accepted c)) → P r (silent r))
+      → P (answerOf r c .rt) (stepOf see r c)
   unfolding givenOf refusedTick
   by-step P r c f g =
-      by-call (λ (a : Ticked). P (stepBy see r c a)) r c f
-      (λ h. by-test P (accepted c) _ (silent r) (λ k. absurd (T-not (accepted c) h k)) (λ k. g h))
+      by-call (λ (a : Ticked). P (a .rt) (stepBy see r c a)) r c f
+      (λ h. by-test (P r) (accepted c) _ (silent r) (λ k. absurd (T-not (accepted c) h k)) (λ k. g h))
 
 -- ---- a tick
 

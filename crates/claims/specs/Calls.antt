@@ -1,7 +1,7 @@
 -- A list of calls of `tick`, and what is seen of each (01-scope.md, The list in demand 3).
 use mathlib.Core.Path.{_≡_}
 use mathlib.Core.Bool.{Bool, cond, not, _||_}
-use mathlib.Core.List.{List}
+use mathlib.Core.List.{List, [], _∷_}
 use Prim.Native.Nat.{ℕ, _≤_}
 use lib.Dec.{T, eqb}
 use lib.Ieee.{Float}
@@ -94,6 +94,11 @@ module _ {A : Type 0} (see : FuseRt → Call → Ticked → A) where
 
   abbrev pub stepOf : FuseRt → Call → Step FuseRt A
   stepOf r c = stepBy r c (answerOf r c)
+
+-- the run state that a list of calls leaves
+abbrev pub after : FuseRt → List Call → FuseRt
+after r [] = r
+after r (c ∷ cs) = after (answerOf r c .rt) cs
 
 -- the ticks of a list of calls, from the run state r
 abbrev pub ticksFrom : FuseRt → List Call → List Seen

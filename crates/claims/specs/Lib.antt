@@ -2,3 +2,5 @@
 pub mod Runs
 pub mod Calls
 pub mod Demand3
+pub mod ClockEnd
+pub mod Tallies

@@ -42,19 +42,14 @@ pub data Step (R A : Type 0) : Type 0 where
   silent : R → Step R A
   event : A → R → Step R A
 
-module _ {R A X : Type 0} where
-  -- a step, and what comes after it on the state that it leaves
-  abbrev pub andThen : Step R A → (R → X) → (A → X → X) → X
-  andThen (silent r) rest add = rest r
-  andThen (event x r) rest add = add x (rest r)
+module _ {R A : Type 0} where
+  -- the event of a step, if it gives one, and those after it, from the state that it leaves
+  abbrev pub andThen : Step R A → (R → List A) → List A
+  andThen (silent r) rest = rest r
+  andThen (event x r) rest = x ∷ rest r
 
 module _ {R A K : Type 0} (step : R → K → Step R A) where
   -- the events of a list of calls, each call on the state that the one before left
   abbrev pub trace : R → List K → List A
   trace r [] = []
-  trace r (k ∷ ks) = andThen (step r k) (λ (r′ : R). trace r′ ks) (λ (x : A) (l : List A). x ∷ l)
-
-  -- the state that the last one leaves
-  abbrev pub leaves : R → List K → R
-  leaves r [] = r
-  leaves r (k ∷ ks) = andThen (step r k) (λ (r′ : R). leaves r′ ks) (λ (x : A) (r′ : R). r′)
+  trace r (k ∷ ks) = andThen (step r k) (λ (r′ : R). trace r′ ks)
