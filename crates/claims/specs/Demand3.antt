@@ -1,0 +1,111 @@
+-- Demand 3, stops close: one claim about every list of calls from a reset on (00-demands.md, Demand 3; 01-scope.md, The list in demand 3).
+-- Proved in proofs/Demand3, `stops-close`.
+use mathlib.Core.Bool.{Bool, true, false, cond, not, _&&_, _||_}
+use mathlib.Core.List.{List}
+use mathlib.Core.Path.{_≡_}
+use Prim.Native.Nat.{ℕ, _+_, _≤_}
+use lib.Dec.{T}
+use lib.ListN.{length, take}
+use Rattle.lictor_core.specs.declared.ack.MaybeAck.{MaybeAck}
+use Rattle.lictor_core.specs.declared.ack.MaybeAck.the-variants.{NoAck, Given}
+use Rattle.lictor_core.specs.declared.envelope.Settings.{Settings}
+use Rattle.lictor_core.specs.declared.fuse.FuseRt.{FuseRt}
+use Rattle.lictor_core.specs.declared.state.FuseState.{FuseState}
+use Rattle.lictor_core.specs.declared.state.FuseState.the-variants.{Armed, Braking, Held, Fault, Terminated}
+use Rattle.lictor_core.specs.Cases.{byAck}
+use Rattle.lictor_core.specs.Codes.{isState}
+use Rattle.lictor_core.specs.Initial.{resetOf}
+use Rattle.claims.specs.Runs.{Each, All, Some, total}
+use Rattle.claims.specs.Calls.{Call, Under, Seen, ticksFrom}
+
+-- ---- the settings' limits
+
+-- the brake, hold, handoff and rearm limits
+abbrev pub B : Settings → ℕ
+B s = s .hyst .«brake_timeout_ticks»
+
+abbrev pub H : Settings → ℕ
+H s = s .hyst .«escalate_after_hold_ticks»
+
+abbrev pub E : Settings → ℕ
+E s = s .hyst .«handoff_timeout_ticks»
+
+abbrev pub maxRearms : Settings → ℕ
+maxRearms s = s .hyst .«max_rearms»
+
+-- Each limit is a number that its field holds: in the code they are a u16, a u16, a u32 and a u8 (crates/lictor_core/src/envelope.rt, Hysteresis), which a
+-- definition does not show.
+pub record Sized (s : Settings) : Type 0 where
+  pub brake : B s ≤ 65535
+  pub hold : H s ≤ 65535
+  pub handoff : E s ≤ 4294967295
+  pub rearms : maxRearms s ≤ 255
+
+-- ---- the words of the claim
+
+-- the tick ends in q
+abbrev pub endsIn : FuseState → Seen → Bool
+endsIn q x = isState q (x .to)
+
+-- it starts from q
+abbrev pub startsFrom : FuseState → Seen → Bool
+startsFrom q x = isState q (x .from)
+
+-- braking begins: the tick ends in Braking from another state
+abbrev pub begins : Seen → Bool
+begins x = endsIn Braking x && not (startsFrom Braking x)
+
+-- the stop is over: the tick ends in Armed, Fault or Terminated
+abbrev pub closes : Seen → Bool
+closes x = endsIn Armed x || (endsIn Fault x || endsIn Terminated x)
+
+-- the acknowledgement is the one with this slot and nonce, whatever else it carries
+abbrev pub Is : MaybeAck → ℕ → ℕ → Type 0
+Is NoAck slot nonce = ⊥
+Is (Given a) slot nonce = (a .«operator_slot» ≡ slot) × (a .nonce ≡ nonce)
+
+-- the tick consumes that one
+abbrev pub Consumes : Seen → ℕ → ℕ → Type 0
+Consumes x slot nonce = Is (x .took) slot nonce
+
+abbrev pub none? : MaybeAck → Bool
+none? ack = byAck ack true (λ a. false)
+
+-- the fuse rearms by itself: the tick goes from Held to Armed and consumes no acknowledgement; one if so, else zero
+abbrev pub rearms : Seen → ℕ
+rearms x = cond (endsIn Armed x && (startsFrom Held x && none? (x .took))) 1 0
+
+-- a plain sum, with no ceiling
+abbrev pub limit : Settings → ℕ
+limit s = B s + H s + E s + 2
+
+-- ---- the four parts
+
+-- once braking began, one of the next B + H + E + 2 ticks ends in Armed, Fault or Terminated, if the list goes that far
+abbrev pub Stops : Settings → List Seen → Type 0
+Stops s l = Each (λ x after. T (begins x) → limit s ≤ length after → Some (λ y. T (closes y)) (take (limit s) after)) l
+
+-- after a tick that ends in Fault every later one does
+abbrev pub Faults : List Seen → Type 0
+Faults l = Each (λ x after. T (endsIn Fault x) → All (λ y. T (endsIn Fault y)) after) l
+
+-- the fuse rearms by itself at most as often as the rearm limit (since the reset: a Resume does not clear the rearm count)
+abbrev pub Rearms : Settings → List Seen → Type 0
+Rearms s l = total rearms l ≤ maxRearms s
+
+-- no acknowledgement is consumed twice
+abbrev pub Acks : List Seen → Type 0
+Acks l = (slot nonce : ℕ) → Each (λ x after. Consumes x slot nonce → All (λ y. ¬ Consumes y slot nonce) after) l
+
+-- ---- the claim
+
+pub record Demand3 (s : Settings) (l : List Seen) : Type 0 where
+  pub stops : Stops s l
+  pub faults : Faults l
+  pub rearms : Rearms s l
+  pub acks : Acks l
+
+-- For every settings record s, from what a reset of any run state leaves, of every list of calls that are under s or refused. (Where s itself does not
+-- pass the check, every call is refused, and the list has no tick.)
+abbrev pub StopsClose : Type 0
+StopsClose = (s : Settings) → Sized s → (r : FuseRt) (cs : List Call) → All (Under s) cs → Demand3 s (ticksFrom (resetOf r) cs)

@@ -1,0 +1,6 @@
+-- The claims, and the words that they are written with.
+pub mod Runs
+pub mod Calls
+pub mod Demand3
+pub mod ClockEnd
+pub mod Tallies
