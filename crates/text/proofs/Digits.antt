@@ -10,8 +10,8 @@ use borrow.Author.Tests.{lt-ltb, le-ltb}
 use lib.Dec.{T, ltb, lit<, lit≤}
 use lib.ListN.{length, length-append}
 use lib.Ieee.{Float, nan, inf, fin, ne, isNan, binary64, toBits}
-use lib.Ieee.Compare.{differs-from-itself, nan-differs}
 use Rattle.io.specs.Digits.{digits, Fewest, glyph}
+use Rattle.text.proofs.Nan.{is-nan}
 use Rattle.text.specs.Number.{decimalIn, decimalOf, hexIn, hexDigit, floatText}
 
 dec-is : (r f n : ℕ) → r ≤ f → 1 ≤ r → n < 10 ^ r → (1 < r → 10 ^ (r - 1) ≤ n) → digits 10 r n ≡ decimalIn f n
@@ -77,17 +77,6 @@ decimalIn-short (suc f) n (suc (suc k)) p h =
 
 pub decimal-short : (n k : ℕ) → 1 ≤ k → n < 10 ^ k → length (decimalOf n) ≤ k
 decimal-short n k p h = decimalIn-short 20 n k p h
-
--- ---- NaN, as the test `x != x` tells it
-
-pub not-nan : (x : Float) → ne x x ≡ false → T (not (isNan x))
-unfolding isNan
-not-nan nan e = absurd (subst T (sym nan-differs ∙ e) tt)
-not-nan (inf s) e = tt
-not-nan (fin s m x) e = tt
-
-pub is-nan : (x : Float) → ne x x ≡ true → x ≡ nan
-is-nan x e = differs-from-itself x (subst T (sym e) tt)
 
 pub nan-text : (x : Float) → ne x x ≡ true → floatText x ≡ 110 ∷ 97 ∷ 110 ∷ []
 unfolding floatText isNan

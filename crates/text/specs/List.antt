@@ -4,16 +4,17 @@ use mathlib.Core.List.{List, [], _∷_, _++_, map}
 use mathlib.Core.Bool.{cond}
 use lib.Dec.{eqb}
 use lib.Ieee.{Float}
+use Rattle.text.specs.Ascii.{ascii}
 use Rattle.text.specs.Number.{decimalOf, floatText}
 
 -- what stands before the element at i
 abbrev pub commaAt : ℕ → List ℕ
-commaAt i = cond (eqb i 0) [] (44 ∷ [])
+commaAt i = cond (eqb i 0) [] (ascii ",")
 
 -- texts with a comma before each
 unfoldable pub behindCommas : List (List ℕ) → List ℕ
 behindCommas [] = []
-behindCommas (t ∷ ts) = 44 ∷ t ++ behindCommas ts
+behindCommas (t ∷ ts) = ascii "," ++ t ++ behindCommas ts
 
 -- texts with a comma between each two
 unfoldable pub commas : List (List ℕ) → List ℕ

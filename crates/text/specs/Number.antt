@@ -4,6 +4,7 @@ use mathlib.Core.Bool.{cond}
 use mathlib.Core.List.{List, [], _∷_, _++_}
 use lib.Dec.{ltb}
 use lib.IntN.{ℤ, pos, negsuc}
+use Rattle.text.specs.Ascii.{ascii}
 use lib.Ieee.{Float, isNan, binary64, toBits}
 
 -- n in decimal, its last f digits
@@ -18,7 +19,7 @@ decimalOf n = decimalIn 20 n
 -- a minus sign where the number is negative, and none else
 unfoldable pub signedOf : ℤ → List ℕ
 signedOf (pos n) = decimalOf n
-signedOf (negsuc k) = 45 ∷ decimalOf (suc k)
+signedOf (negsuc k) = ascii "-" ++ decimalOf (suc k)
 
 -- a digit below 16: `0` to `9`, then `a` to `f`
 abbrev pub hexDigit : ℕ → ℕ
@@ -31,4 +32,4 @@ hexIn (suc k) n = hexIn k (n / 16) ++ (hexDigit (n % 16) ∷ [])
 
 -- a float by the 16 digits of its bits, every NaN as `nan`
 unfoldable pub floatText : Float → List ℕ
-floatText x = cond (isNan x) (110 ∷ 97 ∷ 110 ∷ []) (hexIn 16 (toBits binary64 x))
+floatText x = cond (isNan x) (ascii "nan") (hexIn 16 (toBits binary64 x))

@@ -5,7 +5,8 @@ use lib.Ieee.{binary64}
 use lib.Ieee.Bits.{toBits-lt}
 use Rattle.text.specs.Line.{pushOf}
 use Rattle.text.specs.Number.{hexIn, floatText}
-use Rattle.text.proofs.Digits.{hex-is, is-nan, not-nan, nan-text, float-hex}
+use Rattle.text.proofs.Nan.{not-nan}
+use Rattle.text.proofs.Digits.{hex-is, nan-text, float-hex}
 use borrow.Author.Needs.{needs}
 use Rattle.text.proofs.push_float.Statement.{statement}
 use Rattle.text.proofs.push_float.Tie as tie

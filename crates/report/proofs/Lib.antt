@@ -1,0 +1,4 @@
+-- Laws that belong to no one function, and theorems.
+pub mod Nearest
+pub mod Double
+pub mod Signed

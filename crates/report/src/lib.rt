@@ -1,0 +1,3 @@
+// What the programs print: the margin in millimetres, the lines of `fuse`, the lines of the trace.
+pub mod lines;
+pub mod margin;
