@@ -2,3 +2,4 @@
 pub mod Margin
 pub mod Nearest
 pub mod Lines
+pub mod Trace
