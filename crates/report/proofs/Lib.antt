@@ -2,5 +2,3 @@
 pub mod Nearest
 pub mod Double
 pub mod Signed
-pub mod Rows
-pub mod Parts

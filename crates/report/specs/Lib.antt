@@ -2,4 +2,3 @@
 pub mod Margin
 pub mod Nearest
 pub mod Lines
-pub mod Trace

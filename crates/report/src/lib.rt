@@ -1,5 +1,3 @@
-// What the programs print: the margin in millimetres, the lines of `fuse`, the lines of the trace.
+// What `fuse` prints: the margin in millimetres, the lines.
 pub mod lines;
 pub mod margin;
-mod row;
-pub mod trace;
