@@ -10,6 +10,7 @@ use Rattle.text.specs.List.{numbersText, floatsText}
 use Rattle.lictor_core.specs.Codes.{stateCode, statusCode, reasonCode, sourceCode}
 use Rattle.lictor_core.specs.Cases.{byMark, byReasonMark}
 use Rattle.lictor_core.specs.declared.reason.ReasonCode.{ReasonCode}
+use Rattle.lictor_core.specs.declared.scores.Scores.{Scores}
 use Rattle.lictor_core.specs.declared.state.FuseState.{FuseState}
 use Rattle.lictor_core.specs.declared.verdict.SafetyVerdict.{SafetyVerdict}
 use Rattle.lictor_core.specs.declared.verdict.MaybeHandoff.{MaybeHandoff}
@@ -49,28 +50,36 @@ row name value = name ++ value ++ ascii "\n"
 
 -- ---- the verdict
 
-unfoldable pub verdictHead : SafetyVerdict → List (List ℕ)
-verdictHead v =
+unfoldable pub tickLines : SafetyVerdict → List (List ℕ)
+tickLines v =
     row (ascii "v.seq=") (decimalOf (v .seq))
     ∷ row (ascii "v.t=") (decimalOf (v .t))
     ∷ row (ascii "v.status=") (decimalOf (statusCode (v .status)))
     ∷ row (ascii "v.state=") (stateText (v .state))
     ∷ row (ascii "v.prev_state=") (stateText (v .«prev_state»))
     ∷ row (ascii "v.trips=") (decimalOf (v .trips))
-    ∷ row (ascii "v.action=") (floatsText (v .action))
+    ∷ []
+
+unfoldable pub actionLines : SafetyVerdict → List (List ℕ)
+actionLines v =
+    row (ascii "v.action=") (floatsText (v .action))
     ∷ row (ascii "v.action_dim=") (decimalOf (v .«action_dim»))
     ∷ row (ascii "v.action_src=") (decimalOf (sourceCode (v .«action_src»)))
     ∷ row (ascii "v.substituted=") (flagText (v .substituted))
     ∷ row (ascii "v.clamped_dims=") (decimalOf (v .«clamped_dims»))
     ∷ []
 
-unfoldable pub verdictTail : SafetyVerdict → List (List ℕ)
-verdictTail v =
-    row (ascii "v.z=") (floatsText (v .scores .z))
-    ∷ row (ascii "v.s=") (floatText (v .scores .s))
-    ∷ row (ascii "v.valid=") (decimalOf (v .scores .valid))
-    ∷ row (ascii "v.fired=") (decimalOf (v .scores .fired))
-    ∷ row (ascii "v.tau=") (floatText (v .tau))
+unfoldable pub scoreLines : Scores → List (List ℕ)
+scoreLines x =
+    row (ascii "v.z=") (floatsText (x .z))
+    ∷ row (ascii "v.s=") (floatText (x .s))
+    ∷ row (ascii "v.valid=") (decimalOf (x .valid))
+    ∷ row (ascii "v.fired=") (decimalOf (x .fired))
+    ∷ []
+
+unfoldable pub reasonLines : SafetyVerdict → List (List ℕ)
+reasonLines v =
+    row (ascii "v.tau=") (floatText (v .tau))
     ∷ row (ascii "v.window=") (decimalOf (v .window))
     ∷ row (ascii "v.window_hits=") (decimalOf (v .«window_hits»))
     ∷ row (ascii "v.brake_margin=") (floatText (v .«brake_margin»))
@@ -81,7 +90,7 @@ verdictTail v =
     ∷ []
 
 unfoldable pub verdictLines : SafetyVerdict → List (List ℕ)
-verdictLines v = verdictHead v ++ verdictTail v
+verdictLines v = tickLines v ++ actionLines v ++ scoreLines (v .scores) ++ reasonLines v
 
 -- ---- the run state
 
@@ -104,8 +113,8 @@ motionLines m =
     ∷ row (ascii "rt.last_cmd=") (floatsText (m .«last_cmd»))
     ∷ []
 
-unfoldable pub controlLines : Control → Clock → List (List ℕ)
-controlLines c k =
+unfoldable pub controlLines : Control → List (List ℕ)
+controlLines c =
     row (ascii "rt.hold=") (floatsText (c .hold))
     ∷ row (ascii "rt.clean_run=") (decimalOf (c .«clean_run»))
     ∷ row (ascii "rt.clamp_streak=") (decimalOf (c .«clamp_streak»))
@@ -114,7 +123,11 @@ controlLines c k =
     ∷ row (ascii "rt.stopped_ticks=") (decimalOf (c .«stopped_ticks»))
     ∷ row (ascii "rt.held_ticks=") (decimalOf (c .«held_ticks»))
     ∷ row (ascii "rt.held_clean=") (decimalOf (c .«held_clean»))
-    ∷ row (ascii "rt.escalated_ticks=") (decimalOf (c .«escalated_ticks»))
+    ∷ []
+
+unfoldable pub handoffLines : Control → Clock → List (List ℕ)
+handoffLines c k =
+    row (ascii "rt.escalated_ticks=") (decimalOf (c .«escalated_ticks»))
     ∷ row (ascii "rt.rearms=") (decimalOf (c .rearms))
     ∷ row (ascii "rt.handoff_seq=") (decimalOf (c .«handoff_seq»))
     ∷ row (ascii "rt.handoff_pending=") (flagText (c .«handoff_pending»))
@@ -123,12 +136,12 @@ controlLines c k =
     ∷ []
 
 unfoldable pub runLines : Control → Motion → Clock → List (List ℕ)
-runLines c m k = clockLines k c ++ motionLines m ++ controlLines c k
+runLines c m k = clockLines k c ++ motionLines m ++ controlLines c ++ handoffLines c k
 
 -- ---- the tally
 
-unfoldable pub countLines : Tally → List (List ℕ)
-countLines t =
+unfoldable pub stateLines : Tally → List (List ℕ)
+stateLines t =
     row (ascii "tally.ticks=") (decimalOf (t .ticks))
     ∷ row (ascii "tally.nominal=") (decimalOf (t .nominal))
     ∷ row (ascii "tally.watching=") (decimalOf (t .watching))
@@ -138,7 +151,11 @@ countLines t =
     ∷ row (ascii "tally.escalated=") (decimalOf (t .escalated))
     ∷ row (ascii "tally.fault=") (decimalOf (t .fault))
     ∷ row (ascii "tally.terminated=") (decimalOf (t .terminated))
-    ∷ row (ascii "tally.substituted=") (decimalOf (t .substituted))
+    ∷ []
+
+unfoldable pub eventLines : Tally → List (List ℕ)
+eventLines t =
+    row (ascii "tally.substituted=") (decimalOf (t .substituted))
     ∷ row (ascii "tally.chunks_seen=") (decimalOf (t .«chunks_seen»))
     ∷ row (ascii "tally.chunks_rejected=") (decimalOf (t .«chunks_rejected»))
     ∷ row (ascii "tally.clamps=") (decimalOf (t .clamps))
@@ -155,14 +172,18 @@ markLines t =
     ∷ row (ascii "tally.first_trip_reason=") (reasonMarkText (t .«first_trip_reason»))
     ∷ row (ascii "tally.first_stop_tick=") (markText (t .«first_stop_tick»))
     ∷ row (ascii "tally.handoff_tick=") (markText (t .«handoff_tick»))
-    ∷ row (ascii "tally.violations_reached_env=") (decimalOf (t .«violations_reached_env»))
+    ∷ []
+
+unfoldable pub lastLines : Tally → List (List ℕ)
+lastLines t =
+    row (ascii "tally.violations_reached_env=") (decimalOf (t .«violations_reached_env»))
     ∷ row (ascii "tally.max_s=") (floatText (t .«max_s»))
     ∷ row (ascii "tally.max_z=") (floatsText (t .«max_z»))
     ∷ row (ascii "tally.terminal_state=") (stateText (t .«terminal_state»))
     ∷ []
 
 unfoldable pub tallyLines : Tally → List (List ℕ)
-tallyLines t = countLines t ++ markLines t
+tallyLines t = stateLines t ++ eventLines t ++ markLines t ++ lastLines t
 
 -- ---- the whole
 

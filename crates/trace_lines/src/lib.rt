@@ -3,11 +3,12 @@ ghost use mathlib.Core.Path.{_≡_};
 ghost use mathlib.Core.List.{[]};
 ghost use lib.ListN.{getD};
 ghost use Rattle.text.specs.Line.{lineOf};
-ghost use Rattle.trace_lines.specs.Trace.{verdictHead, verdictTail, verdictLines, clockLines, motionLines, controlLines, runLines, countLines, markLines, tallyLines, traceText};
+ghost use Rattle.trace_lines.specs.Trace.{tickLines, actionLines, scoreLines, reasonLines, verdictLines, clockLines, motionLines, controlLines, handoffLines, runLines, stateLines, eventLines, markLines, lastLines, tallyLines, traceText};
 use lictor_core::fuse::Clock;
 use lictor_core::fuse::Control;
 use lictor_core::fuse::FuseRt;
 use lictor_core::fuse::Motion;
+use lictor_core::scores::Scores;
 use lictor_core::tally::Tally;
 use lictor_core::verdict::SafetyVerdict;
 use text::Line;
@@ -18,14 +19,14 @@ mod row;
 // How many lines there are.
 pub const TRACE_LINES: usize = 74;
 
-fn verdict_head(k: usize, v: SafetyVerdict) -> Line
-    ensures { λ r. ⌜ r ≡ lineOf (getD (verdictHead v) k []) ⌝ }
+// ---- the verdict
+
+fn tick_line(k: usize, v: SafetyVerdict) -> Line
+    ensures { λ r. ⌜ r ≡ lineOf (getD (tickLines v) k []) ⌝ }
 {
     let status = v.status;
     let state = v.state;
     let prev_state = v.prev_state;
-    let action = v.action;
-    let action_src = v.action_src;
     match k {
         0 => row::number32(b"v.seq=", v.seq),
         1 => row::number32(b"v.t=", v.t),
@@ -33,35 +34,52 @@ fn verdict_head(k: usize, v: SafetyVerdict) -> Line
         3 => row::state(b"v.state=", state),
         4 => row::state(b"v.prev_state=", prev_state),
         5 => row::number32(b"v.trips=", v.trips),
-        6 => row::floats(b"v.action=", &action),
-        7 => row::number16(b"v.action_dim=", v.action_dim),
-        8 => row::source(b"v.action_src=", action_src),
-        9 => row::flag(b"v.substituted=", v.substituted),
-        10 => row::number32(b"v.clamped_dims=", v.clamped_dims),
         _ => empty(),
     }
 }
 
-fn verdict_tail(k: usize, v: SafetyVerdict) -> Line
-    ensures { λ r. ⌜ r ≡ lineOf (getD (verdictTail v) k []) ⌝ }
+fn action_line(k: usize, v: SafetyVerdict) -> Line
+    ensures { λ r. ⌜ r ≡ lineOf (getD (actionLines v) k []) ⌝ }
 {
-    let scores = v.scores;
+    let action = v.action;
+    let action_src = v.action_src;
+    match k {
+        0 => row::floats(b"v.action=", &action),
+        1 => row::number16(b"v.action_dim=", v.action_dim),
+        2 => row::source(b"v.action_src=", action_src),
+        3 => row::flag(b"v.substituted=", v.substituted),
+        4 => row::number32(b"v.clamped_dims=", v.clamped_dims),
+        _ => empty(),
+    }
+}
+
+fn score_line(k: usize, scores: Scores) -> Line
+    ensures { λ r. ⌜ r ≡ lineOf (getD (scoreLines scores) k []) ⌝ }
+{
     let z = scores.z;
-    let reason = v.reason;
-    let handoff_seq = v.handoff_seq;
     match k {
         0 => row::floats(b"v.z=", &z),
         1 => row::float(b"v.s=", scores.s),
         2 => row::number32(b"v.valid=", scores.valid),
         3 => row::number32(b"v.fired=", scores.fired),
-        4 => row::float(b"v.tau=", v.tau),
-        5 => row::number(b"v.window=", v.window),
-        6 => row::number8(b"v.window_hits=", v.window_hits),
-        7 => row::float(b"v.brake_margin=", v.brake_margin),
-        8 => row::reason(b"v.reason=", reason),
-        9 => row::handoff(b"v.handoff_seq=", handoff_seq),
-        10 => row::flag(b"v.ack_consumed=", v.ack_consumed),
-        11 => row::flag(b"v.violation_reached_env=", v.violation_reached_env),
+        _ => empty(),
+    }
+}
+
+fn reason_line(k: usize, v: SafetyVerdict) -> Line
+    ensures { λ r. ⌜ r ≡ lineOf (getD (reasonLines v) k []) ⌝ }
+{
+    let reason = v.reason;
+    let handoff_seq = v.handoff_seq;
+    match k {
+        0 => row::float(b"v.tau=", v.tau),
+        1 => row::number(b"v.window=", v.window),
+        2 => row::number8(b"v.window_hits=", v.window_hits),
+        3 => row::float(b"v.brake_margin=", v.brake_margin),
+        4 => row::reason(b"v.reason=", reason),
+        5 => row::handoff(b"v.handoff_seq=", handoff_seq),
+        6 => row::flag(b"v.ack_consumed=", v.ack_consumed),
+        7 => row::flag(b"v.violation_reached_env=", v.violation_reached_env),
         _ => empty(),
     }
 }
@@ -69,11 +87,20 @@ fn verdict_tail(k: usize, v: SafetyVerdict) -> Line
 fn verdict_line(k: usize, v: SafetyVerdict) -> Line
     ensures { λ r. ⌜ r ≡ lineOf (getD (verdictLines v) k []) ⌝ }
 {
-    if k < 11 {
-        return verdict_head(k, v);
+    if k >= 15 {
+        return reason_line(k - 15, v);
     }
-    verdict_tail(k - 11, v)
+    if k >= 11 {
+        let scores = v.scores;
+        return score_line(k - 11, scores);
+    }
+    if k >= 6 {
+        return action_line(k - 6, v);
+    }
+    tick_line(k, v)
 }
+
+// ---- the run state
 
 fn clock_line(k: usize, clock: Clock, control: Control) -> Line
     ensures { λ r. ⌜ r ≡ lineOf (getD (clockLines clock control) k []) ⌝ }
@@ -108,11 +135,10 @@ fn motion_line(k: usize, motion: Motion) -> Line
     }
 }
 
-fn control_line(k: usize, control: Control, clock: Clock) -> Line
-    ensures { λ r. ⌜ r ≡ lineOf (getD (controlLines control clock) k []) ⌝ }
+fn control_line(k: usize, control: Control) -> Line
+    ensures { λ r. ⌜ r ≡ lineOf (getD (controlLines control) k []) ⌝ }
 {
     let hold = control.hold;
-    let last_nonce = control.last_nonce;
     match k {
         0 => row::floats(b"rt.hold=", &hold),
         1 => row::number16(b"rt.clean_run=", control.clean_run),
@@ -122,12 +148,21 @@ fn control_line(k: usize, control: Control, clock: Clock) -> Line
         5 => row::number8(b"rt.stopped_ticks=", control.stopped_ticks),
         6 => row::number16(b"rt.held_ticks=", control.held_ticks),
         7 => row::number16(b"rt.held_clean=", control.held_clean),
-        8 => row::number32(b"rt.escalated_ticks=", control.escalated_ticks),
-        9 => row::number8(b"rt.rearms=", control.rearms),
-        10 => row::number32(b"rt.handoff_seq=", control.handoff_seq),
-        11 => row::flag(b"rt.handoff_pending=", control.handoff_pending),
-        12 => row::flag(b"rt.chunk_ok_this_tick=", clock.chunk_ok_this_tick),
-        13 => row::numbers(b"rt.last_nonce=", &last_nonce),
+        _ => empty(),
+    }
+}
+
+fn handoff_line(k: usize, control: Control, clock: Clock) -> Line
+    ensures { λ r. ⌜ r ≡ lineOf (getD (handoffLines control clock) k []) ⌝ }
+{
+    let last_nonce = control.last_nonce;
+    match k {
+        0 => row::number32(b"rt.escalated_ticks=", control.escalated_ticks),
+        1 => row::number8(b"rt.rearms=", control.rearms),
+        2 => row::number32(b"rt.handoff_seq=", control.handoff_seq),
+        3 => row::flag(b"rt.handoff_pending=", control.handoff_pending),
+        4 => row::flag(b"rt.chunk_ok_this_tick=", clock.chunk_ok_this_tick),
+        5 => row::numbers(b"rt.last_nonce=", &last_nonce),
         _ => empty(),
     }
 }
@@ -135,17 +170,22 @@ fn control_line(k: usize, control: Control, clock: Clock) -> Line
 fn run_line(k: usize, control: Control, motion: Motion, clock: Clock) -> Line
     ensures { λ r. ⌜ r ≡ lineOf (getD (runLines control motion clock) k []) ⌝ }
 {
-    if k < 6 {
-        return clock_line(k, clock, control);
+    if k >= 19 {
+        return handoff_line(k - 19, control, clock);
     }
-    if k < 11 {
+    if k >= 11 {
+        return control_line(k - 11, control);
+    }
+    if k >= 6 {
         return motion_line(k - 6, motion);
     }
-    control_line(k - 11, control, clock)
+    clock_line(k, clock, control)
 }
 
-fn count_line(k: usize, t: Tally) -> Line
-    ensures { λ r. ⌜ r ≡ lineOf (getD (countLines t) k []) ⌝ }
+// ---- the tally
+
+fn state_line(k: usize, t: Tally) -> Line
+    ensures { λ r. ⌜ r ≡ lineOf (getD (stateLines t) k []) ⌝ }
 {
     match k {
         0 => row::number32(b"tally.ticks=", t.ticks),
@@ -157,13 +197,21 @@ fn count_line(k: usize, t: Tally) -> Line
         6 => row::number32(b"tally.escalated=", t.escalated),
         7 => row::number32(b"tally.fault=", t.fault),
         8 => row::number32(b"tally.terminated=", t.terminated),
-        9 => row::number32(b"tally.substituted=", t.substituted),
-        10 => row::number32(b"tally.chunks_seen=", t.chunks_seen),
-        11 => row::number32(b"tally.chunks_rejected=", t.chunks_rejected),
-        12 => row::number32(b"tally.clamps=", t.clamps),
-        13 => row::number32(b"tally.holds=", t.holds),
-        14 => row::number32(b"tally.rearms=", t.rearms),
-        15 => row::number32(b"tally.escalations=", t.escalations),
+        _ => empty(),
+    }
+}
+
+fn event_line(k: usize, t: Tally) -> Line
+    ensures { λ r. ⌜ r ≡ lineOf (getD (eventLines t) k []) ⌝ }
+{
+    match k {
+        0 => row::number32(b"tally.substituted=", t.substituted),
+        1 => row::number32(b"tally.chunks_seen=", t.chunks_seen),
+        2 => row::number32(b"tally.chunks_rejected=", t.chunks_rejected),
+        3 => row::number32(b"tally.clamps=", t.clamps),
+        4 => row::number32(b"tally.holds=", t.holds),
+        5 => row::number32(b"tally.rearms=", t.rearms),
+        6 => row::number32(b"tally.escalations=", t.escalations),
         _ => empty(),
     }
 }
@@ -177,8 +225,6 @@ fn mark_line(k: usize, t: Tally) -> Line
     let trip_reason = t.first_trip_reason;
     let stop_tick = t.first_stop_tick;
     let handoff_tick = t.handoff_tick;
-    let max_z = t.max_z;
-    let terminal_state = t.terminal_state;
     match k {
         0 => row::counts(b"tally.trips_by_bit=", &trips),
         1 => row::counts(b"tally.fired_by_feat=", &fired),
@@ -186,10 +232,20 @@ fn mark_line(k: usize, t: Tally) -> Line
         3 => row::reason_mark(b"tally.first_trip_reason=", trip_reason),
         4 => row::mark(b"tally.first_stop_tick=", stop_tick),
         5 => row::mark(b"tally.handoff_tick=", handoff_tick),
-        6 => row::number32(b"tally.violations_reached_env=", t.violations_reached_env),
-        7 => row::float(b"tally.max_s=", t.max_s),
-        8 => row::floats(b"tally.max_z=", &max_z),
-        9 => row::state(b"tally.terminal_state=", terminal_state),
+        _ => empty(),
+    }
+}
+
+fn last_line(k: usize, t: Tally) -> Line
+    ensures { λ r. ⌜ r ≡ lineOf (getD (lastLines t) k []) ⌝ }
+{
+    let max_z = t.max_z;
+    let terminal_state = t.terminal_state;
+    match k {
+        0 => row::number32(b"tally.violations_reached_env=", t.violations_reached_env),
+        1 => row::float(b"tally.max_s=", t.max_s),
+        2 => row::floats(b"tally.max_z=", &max_z),
+        3 => row::state(b"tally.terminal_state=", terminal_state),
         _ => empty(),
     }
 }
@@ -197,25 +253,33 @@ fn mark_line(k: usize, t: Tally) -> Line
 fn tally_line(k: usize, t: Tally) -> Line
     ensures { λ r. ⌜ r ≡ lineOf (getD (tallyLines t) k []) ⌝ }
 {
-    if k < 16 {
-        return count_line(k, t);
+    if k >= 22 {
+        return last_line(k - 22, t);
     }
-    mark_line(k - 16, t)
+    if k >= 16 {
+        return mark_line(k - 16, t);
+    }
+    if k >= 9 {
+        return event_line(k - 9, t);
+    }
+    state_line(k, t)
 }
+
+// ---- the whole
 
 // Line k of the trace after a tick; from TRACE_LINES on there are none, and the answer is the empty line.
 pub fn trace_line(k: usize, v: SafetyVerdict, rt: FuseRt) -> Line
     ensures { λ r. ⌜ r ≡ lineOf (traceText k v rt) ⌝ }
 {
-    if k < 23 {
-        return verdict_line(k, v);
+    if k >= 48 {
+        let tally = rt.tally;
+        return tally_line(k - 48, tally);
     }
-    if k < 48 {
+    if k >= 23 {
         let control = rt.control;
         let motion = rt.motion;
         let clock = rt.clock;
         return run_line(k - 23, control, motion, clock);
     }
-    let tally = rt.tally;
-    tally_line(k - 48, tally)
+    verdict_line(k, v)
 }
