@@ -2,3 +2,5 @@
 pub mod Nearest
 pub mod Double
 pub mod Signed
+pub mod Cases
+pub mod Fits

@@ -3,11 +3,14 @@ use Prim.Native.Nat.{ℕ, zero, suc, _+_, _-_, _*_, _/_, _%_, _^_, _≤_, _<_}
 use mathlib.Core.Path.{_≡_, refl, sym, ap, ap₂, _∙_}
 use mathlib.Core.Bool.{Bool, true, false, cond}
 use native.Mathlib.Omega.{arith}
-use native.Mathlib.Decide.{decLe}
+use native.Mathlib.Decide.{decLe, decLt}
 use native.Mathlib.Nat.{mul-comm, mul-assoc, mul-right-comm, add-mul, div-add-mod', mod-lt, mul-le-mul-right, mul-lt-mul-of-pos-right, le-of-mul-le-mul-right, lt-of-mul-lt-mul-right, le-antisymm}
-use borrow.Author.Tests.{le-leb, lt-leb}
-use lib.Dec.{leb}
-use Rattle.report.specs.Margin.{takesUp, nearestWhole}
+use borrow.Author.Tests.{le-leb, lt-leb, lt-ltb, le-ltb}
+use lib.IntN.{ℤ, natAbs}
+use lib.Ieee.{fin, up, down}
+use lib.Ieee.Fits.{down-pos}
+use Rattle.report.specs.declared.margin.Margin.the-variants.{Millis}
+use Rattle.report.specs.Margin.{nearestWhole, farOf, signed, marginOf}
 use Rattle.report.specs.Nearest.{Nearest}
 
 -- the two cases of the definition
@@ -71,3 +74,29 @@ module _ (n d a c : ℕ) (D : 0 < d) (C : 0 < c) (same : n * c ≡ a * d) where
 
   pub nearest-same : nearestWhole n d ≡ nearestWhole a c
   nearest-same = sym (nearest-only n d D (nearestWhole a c) (nearest-moves (nearestWhole a c) (nearest-is a c C)))
+
+-- ---- the margin
+
+natAbs-signed : (s : Bool) (n : ℕ) → natAbs (signed s n) ≡ n
+natAbs-signed true zero = refl
+natAbs-signed true (suc n) = refl
+natAbs-signed false n = refl
+
+-- the sign apart, the millimetres that a finite margin of m * 2 ^ e metres prints are the nearest whole number of millimetres, and at most 999999
+module _ (s : Bool) (m : ℕ) (e z : ℤ) (h : marginOf (fin s m e) ≡ Millis z) where
+  printed-by : Dec (999999 < nearestWhole (m * up e * 1000) (down e)) → (z ≡ signed s (natAbs z)) × Nearest (m * up e * 1000) (down e) (natAbs z) × (natAbs z ≤ 999999)
+  unfolding marginOf
+  printed-by (yes p) = absurd (far-no s (rw (lt-ltb _ _ p) at h))
+    where
+      far-no : (b : Bool) → farOf b ≡ Millis z → ⊥
+      far-no true q = let c : _≡_ {A = ℕ} 0 1 = cc in omega arith
+      far-no false q = let c : _≡_ {A = ℕ} 0 1 = cc in omega arith
+  printed-by (no p) =
+      let n = nearestWhole (m * up e * 1000) (down e) in
+      let q : Millis (signed s n) ≡ Millis z = rw (le-ltb 999999 n (omega arith)) at h in
+      let r : signed s n ≡ z = cc in
+      let a : natAbs z ≡ n = ap natAbs (sym r) ∙ natAbs-signed s n in
+      (rw a (sym r), rw a (nearest-is (m * up e * 1000) (down e) (down-pos e)), rw a (omega arith))
+
+  pub printed-nearest : (z ≡ signed s (natAbs z)) × Nearest (m * up e * 1000) (down e) (natAbs z) × (natAbs z ≤ 999999)
+  printed-nearest = printed-by (decLt 999999 _)

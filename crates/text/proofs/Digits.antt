@@ -8,11 +8,12 @@ use native.Mathlib.Nat.{pow-suc, pow-le-pow-right, one-le-pow}
 use native.Mathlib.Decide.{decLe}
 use borrow.Author.Tests.{lt-ltb, le-ltb}
 use lib.Dec.{T, ltb, lit<, lit≤}
+use lib.IntN.{ℤ, pos, negsuc}
 use lib.ListN.{length, length-append}
 use lib.Ieee.{Float, nan, inf, fin, ne, isNan, binary64, toBits}
 use Rattle.io.specs.Digits.{digits, Fewest, glyph}
 use Rattle.text.proofs.Nan.{is-nan}
-use Rattle.text.specs.Number.{decimalIn, decimalOf, hexIn, hexDigit, floatText}
+use Rattle.text.specs.Number.{decimalIn, decimalOf, signedOf, hexIn, hexDigit, floatText}
 
 dec-is : (r f n : ℕ) → r ≤ f → 1 ≤ r → n < 10 ^ r → (1 < r → 10 ^ (r - 1) ≤ n) → digits 10 r n ≡ decimalIn f n
 unfolding decimalIn
@@ -87,3 +88,21 @@ unfolding floatText isNan
 float-hex nan h = absurd h
 float-hex (inf s) h = refl
 float-hex (fin s m e) h = refl
+
+-- whatever the number, its text is short
+in-most : (f n : ℕ) → length (decimalIn f n) ≤ f
+unfolding decimalIn
+in-most zero n = omega arith
+in-most (suc f) n = in-most-by (ltb n 10) (in-most f (n / 10))
+  where
+    in-most-by : (t : Bool) → length (decimalIn f (n / 10)) ≤ f → length (cond t ((48 + n) ∷ []) (decimalIn f (n / 10) ++ ((48 + n % 10) ∷ []))) ≤ suc f
+    in-most-by true h = omega arith
+    in-most-by false h = omega (arith, length-append (decimalIn f (n / 10)) ((48 + n % 10) ∷ []))
+
+pub decimal-20 : (n : ℕ) → length (decimalOf n) ≤ 20
+decimal-20 n = in-most 20 n
+
+pub signed-21 : (z : ℤ) → length (signedOf z) ≤ 21
+unfolding signedOf
+signed-21 (pos n) = omega (arith, decimal-20 n)
+signed-21 (negsuc k) = omega (arith, decimal-20 (suc k))
