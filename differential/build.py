@@ -159,6 +159,16 @@ def reference(folder: pathlib.Path) -> list:
     ]
 
 
+def comparison() -> list:
+    """The generator, and the program that compares."""
+    rust = HERE / "rust"
+    uses = ["lictor_core", "lictor_fuse", "oracle"]
+    return [
+        Crate("generate", rust / "generate" / "lib.rs", "rlib", uses),
+        Crate("compare", rust / "compare" / "main.rs", "bin", uses + ["generate"]),
+    ]
+
+
 def build(src: pathlib.Path, out: pathlib.Path, flags: list, variants: list) -> Builder:
     """Everything, into `out`."""
     builder = Builder(out, flags)
@@ -166,7 +176,7 @@ def build(src: pathlib.Path, out: pathlib.Path, flags: list, variants: list) -> 
     for name in variants:
         todo += edits.VARIANTS[name]
     assemble(src, out / "src", todo)
-    crates = stubs() + lictor(out / "src") + reference(HERE / "rust" / "reference")
+    crates = stubs() + lictor(out / "src") + reference(HERE / "rust" / "reference") + comparison()
     for crate in crates:
         builder.make(crate)
     return builder

@@ -7,6 +7,7 @@ use lictor_core::{
 use lictor_fuse::{
     fuse::{decide, FuseRt, TickInput},
     outcome,
+    tally::Tally,
 };
 
 use crate::records::*;
@@ -39,10 +40,13 @@ pub struct Before {
     pub clean_run: u16,
     pub clamp_streak: u8,
     pub clamps: u16,
+    pub held_ticks: u16,
     pub held_clean: u16,
+    pub escalated_ticks: u32,
     pub rearms: u8,
     pub handoff_seq: u32,
     pub last_nonce: [u64; 8],
+    pub window: u64,
     pub max_s: f64,
 }
 
@@ -58,10 +62,13 @@ impl Before {
             clean_run: rt.clean_run,
             clamp_streak: rt.clamp_streak,
             clamps: rt.clamps,
+            held_ticks: rt.held_ticks,
             held_clean: rt.held_clean,
+            escalated_ticks: rt.escalated_ticks,
             rearms: rt.rearms,
             handoff_seq: rt.handoff_seq,
             last_nonce: rt.last_nonce,
+            window: rt.window.bits,
             max_s: rt.tally.max_s,
         }
     }
@@ -69,7 +76,11 @@ impl Before {
 
 pub trait Observer {
     fn settings(&mut self, _settings: &Settings) {}
+    /// `waiting`: collected records were thrown away.
+    fn reset(&mut self, _waiting: bool) {}
     fn ticked(&mut self, _tick: &Ticked) {}
+    /// The end of input; `waiting`: collected records were left over.
+    fn ended(&mut self, _waiting: bool, _ticks: u32) {}
     /// `causes` are all rows of the table that apply, in its order; the first one is the refusal's.
     fn refused(&mut self, _causes: &[u8]) {}
 }
@@ -118,15 +129,15 @@ impl Journal {
         observer: &mut impl Observer,
     ) -> Result<(usize, Option<SafetyVerdict>), Refusal> {
         let kind = rest[0];
-        let body = body_len(kind).and_then(|n| rest.get(1..1 + n));
-        let record = Record { kind, body: body.unwrap_or(&[]), whole: body.is_some() };
+        let record = Record { kind, body: body_len(kind).and_then(|n| rest.get(1..1 + n)) };
         if let Some(number) = record.refusals(self).next() {
             let causes: Vec<u8> = record.refusals(self).collect();
             observer.refused(&causes);
             return Err(Refusal { number, place: self.place });
         }
-        let verdict = self.take(kind, record.body, observer);
-        let used = 1 + record.body.len();
+        let body = record.body.expect("refused if there is no body");
+        let verdict = self.take(kind, body, observer);
+        let used = 1 + body.len();
         self.place += used as u64;
         Ok((used, verdict))
     }
@@ -139,9 +150,10 @@ impl Journal {
                 observer.settings(&settings);
                 self.cfg = Some(Box::new(config(&settings)));
                 self.settings = Some(settings);
-                self.rt = Box::new(FuseRt::new());
+                *self.rt = FuseRt::new();
             }
             RESET => {
+                observer.reset(self.waiting());
                 self.rt.reset(EpisodeInit { episode_index: 0, seed: 0, delay_steps: 0, exec: ExecMode::Sync });
                 self.empty();
             }
@@ -155,6 +167,17 @@ impl Journal {
             _ => return Some(self.tick(Tick::read(body), observer)),
         }
         None
+    }
+
+    /// The end of the input.
+    pub fn end(&self, observer: &mut impl Observer) -> &Tally {
+        observer.ended(self.waiting(), self.rt.tally.ticks);
+        &self.rt.tally
+    }
+
+    fn waiting(&self) -> bool {
+        let lists = self.lists.iter().any(|list| !list.is_empty());
+        lists || self.ack.is_some() || self.head.is_some() || self.outcome.is_some()
     }
 
     /// Forgets the collected records.
@@ -194,18 +217,20 @@ impl Journal {
     }
 }
 
-/// A record as it stands in the journal; `body` is empty where the end cuts it, or where there is no such kind.
+/// A record as it stands in the journal; no body where the end cuts it, or where there is no such kind.
 struct Record<'a> {
     kind: u8,
-    body: &'a [u8],
-    whole: bool,
+    body: Option<&'a [u8]>,
 }
 
-/// The table of refusals in its order: number, and whether the cause is there. From the third row on the body is whole.
-const TABLE: [(u8, fn(&Record, &Journal) -> bool); 10] = [
+/// A row of the table of refusals: number, and whether the cause is there.
+type Row = (u8, fn(&Record, &Journal) -> bool);
+
+/// The table in its order.
+const TABLE: [Row; 10] = [
     (5, |r, _| body_len(r.kind).is_none()),
-    (6, |r, _| !r.whole),
-    (8, |r, j| r.kind != SETTINGS && j.settings.is_none()),
+    (6, |r, _| body_len(r.kind).is_some() && r.body.is_none()),
+    (8, |r, j| (RESET..=TICK).contains(&r.kind) && j.settings.is_none()),
     (9, |r, j| match r.kind {
         SETTINGS => j.settings.is_some(),
         ACK => j.ack.is_some(),
@@ -213,64 +238,73 @@ const TABLE: [(u8, fn(&Record, &Journal) -> bool); 10] = [
         OUTCOME => j.outcome.is_some(),
         _ => false,
     }),
-    (1, |r, _| r.unlisted_code()),
-    (2, |r, _| r.kind == SETTINGS && sizes_wrong(&Settings::read(r.body))),
-    (3, |r, _| r.kind == SETTINGS && float_wrong(&Settings::read(r.body))),
-    (4, |r, _| r.kind == SETTINGS && box_wrong(&Settings::read(r.body))),
-    (7, |r, j| {
-        r.kind == VALUE && {
-            let list = Value::read(r.body).list as usize;
-            list < 5 && j.lists[list].len() >= CAPACITY[list]
-        }
-    }),
-    (10, |r, j| {
-        r.kind == TICK
-            && (j.outcome.is_none()
-                || (j.head.is_none() && !j.lists[CHUNK as usize].is_empty())
-                || (Tick::read(r.body).velocity == 0 && !j.lists[VEL as usize].is_empty()))
-    }),
+    (1, |r, _| r.body.is_some_and(|body| code_wrong(r.kind, body))),
+    (2, |r, _| r.settings().is_some_and(sizes_wrong)),
+    (3, |r, _| r.settings().is_some_and(float_wrong)),
+    (4, |r, _| r.settings().is_some_and(box_wrong)),
+    (7, |r, j| r.of_kind(VALUE).is_some_and(|body| list_full(&Value::read(body), j))),
+    (10, |r, j| r.of_kind(TICK).is_some_and(|body| tick_lacks(&Tick::read(body), j))),
 ];
 
-impl Record<'_> {
-    /// The numbers of all rows that apply. The first two hide the rest, which need a body.
-    fn refusals<'a>(&'a self, journal: &'a Journal) -> impl Iterator<Item = u8> + 'a {
-        let rows = if self.whole { 0..TABLE.len() } else { 0..2 };
-        TABLE[rows].iter().filter(|(_, applies)| applies(self, journal)).map(|(number, _)| *number)
+impl<'a> Record<'a> {
+    /// The numbers of all rows that apply.
+    fn refusals<'b>(&'b self, journal: &'b Journal) -> impl Iterator<Item = u8> + 'b {
+        TABLE.iter().filter(|(_, applies)| applies(self, journal)).map(|(number, _)| *number)
     }
 
-    fn unlisted_code(&self) -> bool {
-        match self.kind {
-            SETTINGS => {
-                let s = Settings::read(self.body);
-                s.mode > 1 || s.kind > 4 || s.clamp > 1 || s.rearm > 1
-            }
-            ACK => Ack::read(self.body).decision > 2,
-            VALUE => Value::read(self.body).list > 4,
-            OUTCOME => Outcome::read(self.body).feasible > 1,
-            TICK => {
-                let t = Tick::read(self.body);
-                t.schema > 1 || t.velocity > 1
-            }
-            _ => false,
-        }
+    fn of_kind(&self, kind: u8) -> Option<&'a [u8]> {
+        self.body.filter(|_| self.kind == kind)
+    }
+
+    fn settings(&self) -> Option<Settings> {
+        self.of_kind(SETTINGS).map(Settings::read)
     }
 }
 
-fn sizes_wrong(s: &Settings) -> bool {
+/// A code or flag that is not listed.
+fn code_wrong(kind: u8, body: &[u8]) -> bool {
+    match kind {
+        SETTINGS => {
+            let s = Settings::read(body);
+            s.mode > 1 || s.kind > 4 || s.clamp > 1 || s.rearm > 1
+        }
+        ACK => Ack::read(body).decision > 2,
+        VALUE => Value::read(body).list > 4,
+        OUTCOME => Outcome::read(body).feasible > 1,
+        TICK => {
+            let t = Tick::read(body);
+            t.schema > 1 || t.velocity > 1
+        }
+        _ => false,
+    }
+}
+
+fn sizes_wrong(s: Settings) -> bool {
     !(1..=8).contains(&s.dim)
         || !(1..=8).contains(&s.pos_dim)
         || !(1..=64).contains(&s.horizon)
         || !(1..=s.horizon).contains(&s.exec)
 }
 
-fn float_wrong(s: &Settings) -> bool {
+fn float_wrong(s: Settings) -> bool {
     let finite = [s.dt, s.inv_dt, s.a_max, s.v_stop_eps, s.warn_margin];
     let mut all = finite.iter().chain(&s.box_lo).chain(&s.box_hi);
     all.any(|x| !x.is_finite()) || s.tau.is_nan()
 }
 
-fn box_wrong(s: &Settings) -> bool {
+fn box_wrong(s: Settings) -> bool {
     s.box_lo.iter().zip(&s.box_hi).any(|(lo, hi)| lo > hi)
+}
+
+fn list_full(value: &Value, j: &Journal) -> bool {
+    j.lists.get(usize::from(value.list)).is_some_and(|list| list.len() >= CAPACITY[usize::from(value.list)])
+}
+
+/// No outcome, chunk values without a head, or vel values without the velocity flag.
+fn tick_lacks(tick: &Tick, j: &Journal) -> bool {
+    j.outcome.is_none()
+        || (j.head.is_none() && !j.lists[usize::from(CHUNK)].is_empty())
+        || (tick.velocity == 0 && !j.lists[usize::from(VEL)].is_empty())
 }
 
 /// The Rust's configuration for accepted settings. What the settings do not give, no ported function reads.

@@ -2,7 +2,6 @@
 //!
 //! Records, reader and printing are written from 01-scope.md, the tick is the Rust's.
 
-pub mod coverage;
 pub mod journal;
 pub mod print;
 pub mod records;

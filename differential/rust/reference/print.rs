@@ -30,7 +30,7 @@ impl<'a> Answer<'a> {
             return false;
         }
         if self.rest.is_empty() {
-            end_line(out, &self.journal.rt.tally);
+            end_line(out, self.journal.end(observer));
             self.over = true;
             return true;
         }

@@ -1,0 +1,729 @@
+//! What a run reached, counted on the reference's side.
+//!
+//! Each point is a situation that a wrong port could get wrong. Points that no journal can reach are listed with the
+//! reason, and it is reported if one is reached after all.
+
+use std::io::{self, Write};
+
+use lictor_core::{fmath, AckDecision, ActionSource, FuseState, ReasonCode, TripMask};
+
+use oracle::{
+    journal::{Observer, Ticked},
+    records::Settings,
+};
+
+use crate::{
+    counts::{Counts, Point},
+    points::*,
+};
+
+/// A fact that later ticks of an episode need.
+#[derive(Default)]
+struct Memory {
+    fault_position: bool,
+    ticks: u32,
+    resets: u32,
+    settings: bool,
+    ignored: Vec<(u8, u64)>,
+    resumed_with_clamps: bool,
+}
+
+pub struct Coverage {
+    pub ticks: u64,
+    pub journals: u64,
+    rows: Counts,
+    states: Counts,
+    reasons: Counts,
+    fault_ticks: Counts,
+    guard_bits: Counts,
+    causes: Counts,
+    guard: Counts,
+    sources: Counts,
+    actions: Counts,
+    sizes: Counts,
+    numbers: Counts,
+    pairs: Counts,
+    acks: Counts,
+    ack_more: Counts,
+    ends: Counts,
+    limits: Counts,
+    odd: Counts,
+    margins: Counts,
+    velocity: Counts,
+    scored: Counts,
+    shapes: Counts,
+    now: Memory,
+}
+
+impl Default for Coverage {
+    fn default() -> Self {
+        Self::new()
+    }
+}
+
+impl Coverage {
+    pub fn new() -> Self {
+        let reason_names: Vec<String> = ReasonCode::ALL.iter().map(|r| format!("{} {r:?}", *r as u8)).collect();
+        let reason_names: Vec<&str> = reason_names.iter().map(String::as_str).collect();
+        let decisions = [" Resume", " Abort", " Retune"];
+        let mut ack_rows = Vec::new();
+        for state in STATES {
+            for decision in decisions {
+                ack_rows.push(format!("{state}{decision}"));
+            }
+        }
+        let ack_rows: Vec<&str> = ack_rows.iter().map(String::as_str).collect();
+        let mut action_rows = Vec::new();
+        for kind in KINDS {
+            for what in [" brakes", " holds", " holds in a fault tick"] {
+                action_rows.push(format!("{kind}{what}"));
+            }
+        }
+        let action_rows: Vec<&str> = action_rows.iter().map(String::as_str).collect();
+        let dims = ["dim 1", "dim 2", "dim 3", "dim 4", "dim 5", "dim 6", "dim 7", "dim 8"];
+        let pos_dims: [String; 8] = dims.map(|d| format!(", pos_{d}"));
+        let pairs: Vec<String> = PAIRS.iter().map(|(a, b)| format!("{a} before {b}")).collect();
+        Self {
+            ticks: 0,
+            journals: 0,
+            rows: Counts::grid("rows of fsm.rs", Row::NAMES, &[""], row_never),
+            states: Counts::grid("end states", &STATES, &MODES, |state, _| {
+                (state == 0).then_some("every row leaves Idle")
+            }),
+            reasons: Counts::grid("reasons", &reason_names, &MODES, |reason, mode| match (reason, mode) {
+                (27, _) => Some("no row gives it"),
+                (1, 1) => Some("row 23 gives it in Observe alone"),
+                _ => None,
+            }),
+            fault_ticks: Counts::grid("fault ticks by the state they start from", &STATES, &MODES, |_, _| None),
+            guard_bits: Counts::of(
+                "guard bits",
+                &["128", "256", "128 + 256", "512", "128 + 512", "256 + 512", "128 + 256 + 512"],
+            ),
+            causes: Counts::of("guard causes, each alone", Cause::NAMES),
+            guard: Counts::of("about the guard", Guard::NAMES),
+            sources: Counts::grid("action sources", &["Policy", "Clamped", "Brake", "Hold"], &MODES, |source, mode| {
+                (mode == 0 && (source == 1 || source == 2)).then_some("Observe passes the policy row, or holds")
+            }),
+            actions: Counts::grid(
+                "brake and hold actions in Enforce",
+                &action_rows,
+                &[", dim below pos_dim", ", dim is pos_dim", ", dim above pos_dim"],
+                |_, _| None,
+            ),
+            sizes: Counts::grid("sizes", &dims, &pos_dims.each_ref().map(|d| d.as_str()), |_, _| None),
+            numbers: Counts::of("refusals", &["1", "2", "3", "4", "5", "6", "7", "8", "9", "10"]),
+            pairs: Counts::of("refusals with a later cause too", &pairs.iter().map(String::as_str).collect::<Vec<_>>()),
+            acks: Counts::grid(
+                "acknowledgements on ticks without a fault bit",
+                &ack_rows,
+                AckClass::NAMES,
+                |row, class| {
+                    (row / 3 == 0 && class == AckClass::NonceBelow as usize)
+                        .then_some("before a reset all nonces are 0")
+                },
+            ),
+            ack_more: Counts::of("acknowledgements against other lines", AckMore::NAMES),
+            ends: Counts::of("counters at their ends", End::NAMES),
+            limits: Counts::of("limits and masks", Limit::NAMES),
+            odd: Counts::of("odd floats", Odd::NAMES),
+            margins: Counts::of("printed margins", Margin::NAMES),
+            velocity: Counts::of("velocity", Velocity::NAMES),
+            scored: Counts::of("window, scores, chunks, marks", Scored::NAMES),
+            shapes: Counts::of("journals", Shape::NAMES),
+            now: Memory::default(),
+        }
+    }
+
+    fn groups(&self) -> [&Counts; 21] {
+        [
+            &self.rows,
+            &self.states,
+            &self.reasons,
+            &self.fault_ticks,
+            &self.guard_bits,
+            &self.causes,
+            &self.guard,
+            &self.sources,
+            &self.actions,
+            &self.sizes,
+            &self.numbers,
+            &self.pairs,
+            &self.acks,
+            &self.ack_more,
+            &self.ends,
+            &self.limits,
+            &self.odd,
+            &self.margins,
+            &self.velocity,
+            &self.scored,
+            &self.shapes,
+        ]
+    }
+
+    /// A new journal begins.
+    pub fn begin(&mut self) {
+        self.journals += 1;
+        self.now = Memory::default();
+    }
+
+    /// The points that were not reached though they can be, as `group: point`.
+    pub fn missing(&self) -> Vec<String> {
+        let mut missing = Vec::new();
+        for group in self.groups() {
+            for point in group.points.iter().filter(|p| p.reached == 0 && p.never.is_none()) {
+                missing.push(format!("{}: {}", group.title, point.name));
+            }
+        }
+        missing
+    }
+
+    /// One line for each group; with `all` every point too. Then what is missing, and what should not be there.
+    pub fn print(&self, to: &mut impl Write, all: bool) -> io::Result<()> {
+        for group in self.groups() {
+            let can: Vec<&Point> = group.points.iter().filter(|p| p.never.is_none()).collect();
+            let reached = can.iter().filter(|p| p.reached > 0).count();
+            writeln!(to, "{:>4} of {:>3}  {}", reached, can.len(), group.title)?;
+            if all {
+                for point in &can {
+                    writeln!(to, "  {:>12}  {}", point.reached, point.name)?;
+                }
+            }
+        }
+        for group in self.groups() {
+            for point in group.points.iter() {
+                match point.never {
+                    Some(why) if point.reached > 0 => {
+                        writeln!(to, "REACHED: {}: {}, though {why}", group.title, point.name)?
+                    }
+                    Some(why) if all => writeln!(to, "cannot be: {}: {} ({why})", group.title, point.name)?,
+                    _ => {}
+                }
+            }
+        }
+        for what in self.missing() {
+            writeln!(to, "missing: {what}")?;
+        }
+        Ok(())
+    }
+
+    /// The causes that the guard finds, by this file's own reading of 01-scope.md and fuse.rs.
+    fn causes_of(&self, k: &Ticked) -> Vec<Cause> {
+        let (s, obs) = (k.settings, &k.input.obs);
+        let bad = |list: &[f64]| list.iter().any(|x| !x.is_finite());
+        let mut causes = Vec::new();
+        let mut add = |cause: Cause, applies: bool| {
+            if applies {
+                causes.push(cause);
+            }
+        };
+        add(Cause::NanPos, bad(obs.pos));
+        add(Cause::NanVel, obs.vel.is_some_and(bad));
+        add(Cause::NanAux, bad(obs.aux));
+        add(Cause::NanExt, bad(obs.ext));
+        add(Cause::NanChunk, k.input.chunk.is_some_and(|c| bad(c.data)));
+        add(Cause::Flag, k.input.schema_fault);
+        add(Cause::Idx, k.input.idx >= s.horizon);
+        add(Cause::PosLen, obs.pos.len() != usize::from(s.pos_dim));
+        add(Cause::VelLen, obs.vel.is_some_and(|v| v.len() != usize::from(s.pos_dim)));
+        add(Cause::AuxLen, obs.aux.len() > 8);
+        add(Cause::ExtLen, obs.ext.len() > 4);
+        match k.input.chunk {
+            Some(c) => {
+                add(Cause::HeadDim, c.dim != u16::from(s.dim));
+                add(Cause::HeadHorizon, c.horizon != s.horizon);
+                add(Cause::HeadExec, c.exec_steps != s.exec);
+                add(Cause::ChunkLen, c.data.len() as u64 != u64::from(c.horizon) * u64::from(c.dim));
+                add(Cause::ChunkSeq, c.seq != k.before.next_chunk_seq);
+                add(Cause::EmitLate, c.t_emit > obs.t);
+                add(Cause::IdxEmit, c.t_emit <= obs.t && u32::from(k.input.idx) != obs.t - c.t_emit);
+            }
+            None => add(Cause::NoChunk, !k.before.filled),
+        }
+        let next = u64::from(k.before.last_t) + 1 + u64::from(k.input.missed_ticks);
+        if k.before.seq == 0 {
+            add(Cause::FirstT, obs.t != 0);
+        } else {
+            add(Cause::WrongT, next <= u64::from(u32::MAX) && next != u64::from(obs.t));
+            add(Cause::NoNextT, next > u64::from(u32::MAX));
+        }
+        add(Cause::Watchdog, k.input.missed_ticks > s.watchdog);
+        causes
+    }
+
+    fn fault_tick(&mut self, k: &Ticked, causes: &[Cause]) {
+        let bits = causes.iter().fold(0, |bits, cause| {
+            bits | match *cause as usize {
+                0..=4 => TripMask::NONFINITE,
+                22 => TripMask::WATCHDOG,
+                _ => TripMask::SCHEMA,
+            }
+        });
+        assert_eq!(bits, k.verdict.trips, "the guard finds other bits than this file's reading of it");
+        self.guard_bits.hit(((bits >> 7) - 1) as usize);
+        self.fault_ticks.hit(k.before.state as usize * 2 + usize::from(k.settings.mode));
+        if let [cause] = causes {
+            self.causes.hit(*cause);
+        }
+        let pos = k.input.obs.pos;
+        let length = pos.len() == usize::from(k.settings.pos_dim);
+        let finite = pos.iter().all(|x| x.is_finite());
+        self.now.fault_position = length && finite;
+        let guard = &mut self.guard;
+        guard.hit_if(Guard::PosTaken, length && finite);
+        guard.hit_if(Guard::PosNotFinite, length && !finite);
+        guard.hit_if(Guard::PosLength, !length && finite);
+        guard.hit_if(Guard::WithChunk, k.input.chunk.is_some());
+        guard.hit_if(Guard::WithAck, acceptable(k) && hears(k.before.state));
+        guard.hit_if(Guard::ChunkOkStays, k.after.chunk_ok_this_tick);
+        guard.hit_if(Guard::PendingStays, k.after.handoff_pending);
+        guard.hit_if(Guard::WindowStays, k.after.window.bits != 0);
+        self.odd.hit_if(Odd::MaxSByFault, k.before.max_s.is_nan());
+        self.ends.hit_if(End::LastT, k.after.last_t == u32::MAX);
+    }
+
+    fn clean_tick(&mut self, k: &Ticked) {
+        let fault_bit = k.verdict.trips & (TripMask::NONFINITE | TripMask::SCHEMA | TripMask::WATCHDOG) != 0;
+        self.guard_passes(k);
+        self.motion(k);
+        self.scores(k);
+        self.limits_and_masks(k, fault_bit);
+        self.margin(k.verdict.brake_margin);
+        if k.input.ack.is_some() {
+            if fault_bit {
+                let here = acceptable(k) && hears(k.before.state);
+                self.guard.hit_if(Guard::AckAndOutcomeFault, here);
+            } else {
+                self.ack(k);
+            }
+        }
+    }
+
+    fn guard_passes(&mut self, k: &Ticked) {
+        let guard = &mut self.guard;
+        let missed = k.input.missed_ticks;
+        guard.hit_if(Guard::AtLimit, missed > 0 && missed == k.settings.watchdog);
+        guard.hit_if(Guard::Aux8, k.input.obs.aux.len() == 8);
+        guard.hit_if(Guard::Ext4, k.input.obs.ext.len() == 4);
+        guard.hit_if(Guard::FirstMissed, k.before.seq == 0 && missed > 0);
+        guard.hit_if(Guard::IdxLast, k.input.idx > 0 && k.input.idx + 1 == k.settings.horizon);
+    }
+
+    fn motion(&mut self, k: &Ticked) {
+        let s = k.settings;
+        let supplied = k.input.obs.vel.is_some();
+        let velocity = &mut self.velocity;
+        match (supplied, k.before.have_prev_pos) {
+            (true, true) => velocity.hit(Velocity::Supplied),
+            (true, false) => velocity.hit(Velocity::FirstSupplied),
+            (false, true) => {
+                velocity.hit(Velocity::Difference);
+                velocity.hit_if(Velocity::AfterFault, self.now.fault_position);
+            }
+            (false, false) => {
+                velocity.hit(Velocity::First);
+                velocity.hit_if(Velocity::FirstAfterFault, self.now.fault_position);
+            }
+        }
+        self.now.fault_position = false;
+
+        let odd = &mut self.odd;
+        let pos = &k.after.pos[..usize::from(s.pos_dim)];
+        let vel = &k.after.vel[..usize::from(s.pos_dim)];
+        odd.hit_if(Odd::PosSubnormal, pos.iter().any(|x| x.is_subnormal()));
+        odd.hit_if(Odd::PosNegZero, pos.iter().any(|x| is_neg_zero(*x)));
+        odd.hit_if(Odd::PosHuge, pos.iter().any(|x| x.abs() > 1e300));
+        odd.hit_if(Odd::VelOverflow, vel.iter().any(|x| x.is_infinite()));
+        odd.hit_if(Odd::VelNan, vel.iter().any(|x| x.is_nan()));
+        odd.hit_if(Odd::VelSubnormal, vel.iter().any(|x| x.is_subnormal()));
+        odd.hit_if(Odd::VelNegZero, vel.iter().any(|x| is_neg_zero(*x)));
+        let norm = fmath::norm(vel, vel.len());
+        let squares: f64 = vel.iter().map(|x| x * x).sum();
+        odd.hit_if(Odd::NormOverflow, norm.is_infinite() && vel.iter().all(|x| x.is_finite()));
+        odd.hit_if(Odd::NormSubnormal, squares.is_subnormal());
+        odd.hit_if(Odd::EpsNegative, s.mode == 1 && s.v_stop_eps < 0.0);
+        odd.hit_if(Odd::EpsZero, s.mode == 1 && s.v_stop_eps == 0.0 && norm == 0.0);
+        odd.hit_if(Odd::EpsEqual, s.mode == 1 && norm == s.v_stop_eps && norm > 0.0);
+        odd.hit_if(Odd::InvDtZero, s.inv_dt == 0.0 && !supplied && k.before.have_prev_pos);
+        if s.mode == 1 {
+            self.enforced_action(k);
+        }
+    }
+
+    /// Actions in Enforce, a fault tick's too.
+    fn enforced_action(&mut self, k: &Ticked) {
+        let (s, v) = (k.settings, k.verdict);
+        let action = &v.action[..usize::from(s.dim)];
+        let odd = &mut self.odd;
+        odd.hit_if(Odd::ActionNegZero, action.iter().any(|x| is_neg_zero(*x)));
+        match v.action_src {
+            ActionSource::Policy | ActionSource::Clamped => {
+                odd.hit_if(Odd::RowNan, action.iter().any(|x| x.is_nan()));
+                odd.hit_if(Odd::RowInf, action.iter().any(|x| x.is_infinite()));
+            }
+            ActionSource::Brake if matches!(s.kind, 1 | 3) => {
+                let vel = &k.after.vel[..usize::from(s.pos_dim)];
+                let norm = fmath::norm(vel, usize::from(s.pos_dim.min(s.dim)));
+                let factor = fmath::max(0.0, 1.0 - s.a_max * s.dt / (norm + 1e-9));
+                odd.hit_if(Odd::FactorNan, factor.is_nan());
+                odd.hit_if(Odd::FactorZero, factor == 0.0 && norm > 0.0);
+                odd.hit_if(Odd::FactorAbove1, factor > 1.0);
+                odd.hit_if(Odd::FactorInf, factor.is_infinite());
+                odd.hit_if(Odd::ActionInf, action.iter().any(|x| x.is_infinite()));
+                odd.hit_if(Odd::DtNegative, s.dt < 0.0);
+                odd.hit_if(Odd::AMaxNegative, s.a_max < 0.0);
+            }
+            _ => {
+                let beyond = usize::from(s.pos_dim.min(s.dim))..usize::from(s.dim);
+                let moved = beyond.clone().any(|c| action[c] != 0.0);
+                odd.hit_if(Odd::BoxNoZero, moved);
+            }
+        }
+        let held = v.action_src == ActionSource::Hold && !matches!(s.kind, 1 | 3);
+        let turned = action.iter().zip(&k.after.hold).any(|(a, h)| is_neg_zero(*a) && !is_neg_zero(*h) && *h == 0.0);
+        odd.hit_if(Odd::HoldNegZero, held && turned);
+    }
+
+    fn scores(&mut self, k: &Ticked) {
+        let (s, v, o) = (k.settings, k.verdict, k.input.outcome);
+        let odd = &mut self.odd;
+        odd.hit_if(Odd::SNan, o.s.is_nan());
+        odd.hit_if(Odd::SInf, o.s == f64::INFINITY);
+        odd.hit_if(Odd::SMinusInf, o.s == f64::NEG_INFINITY);
+        odd.hit_if(Odd::SIsTau, o.s == s.tau);
+        odd.hit_if(Odd::SIsBand, o.s == s.tau - s.warn_margin && s.warn_margin != 0.0);
+        odd.hit_if(Odd::TauInf, s.tau == f64::INFINITY);
+        odd.hit_if(Odd::TauMinusInf, s.tau == f64::NEG_INFINITY);
+        odd.hit_if(Odd::WarnNegative, s.warn_margin < 0.0);
+        let (before, after) = (k.before.max_s, k.after.tally.max_s);
+        odd.hit_if(Odd::MaxSNan, after.is_nan());
+        odd.hit_if(Odd::MaxSForgets, before.is_nan() && !after.is_nan());
+        odd.hit_if(Odd::MaxSZero, before.to_bits() == 0 && is_neg_zero(after));
+        odd.hit_if(Odd::MaxZNan, k.after.tally.max_z.iter().any(|z| z.is_nan()));
+        let live = s.calib_mask & v.scores.valid;
+        odd.hit_if(Odd::ZDead, (0..12).any(|j| live & 1 << j == 0 && o.z[j] != 0.0));
+
+        let scored = &mut self.scored;
+        let top = 1 << 63;
+        scored.hit_if(Scored::Bit63, k.after.window.bits & top != 0);
+        scored.hit_if(Scored::Dropped, k.before.window & top != 0);
+        scored.hit_if(Scored::Hits64, v.window_hits == 64);
+        let wide = s.window_mask.wrapping_add(1);
+        scored.hit_if(Scored::Holes, s.window_mask & wide != 0 && v.window_hits > 0);
+        scored.hit_if(Scored::Mask0, s.window_mask == 0 && o.s > s.tau);
+        scored.hit_if(Scored::Cleared, v.window_hits > 0 && v.window == 0);
+        scored.hit_if(Scored::ValidUncalibrated, s.calib_mask == 0 && o.valid != 0);
+        scored.hit_if(Scored::FiredDead, o.fired & !o.valid & 0xfff != 0);
+        scored.hit_if(Scored::FiredHigh, o.fired >> 12 != 0);
+        scored.hit_if(Scored::ClampedDims, o.clamped_dims != 0 && v.state != FuseState::Clamped);
+        if k.input.chunk.is_some() {
+            let rejected = v.trips & TripMask::TIER0_HARD != 0;
+            let fault_bit = v.trips & (TripMask::TIER0_HARD & !TripMask::BRAKE) != 0;
+            scored.hit(if rejected { Scored::Rejected } else { Scored::Accepted });
+            scored.hit_if(Scored::ChunkInFault, k.before.state == FuseState::Fault);
+            scored.hit_if(Scored::ChunkInTerminated, k.before.state == FuseState::Terminated);
+            scored.hit_if(Scored::FilledByIdle, k.before.state == FuseState::Idle);
+            scored.hit_if(Scored::FilledByFaultBit, fault_bit && !k.before.filled);
+        }
+        let tally = &k.after.tally;
+        let first = tally.first_trip_tick == Some(v.t) && v.trips != 0;
+        let plain = matches!(v.reason, ReasonCode::HeldStandstill | ReasonCode::Stopping);
+        scored.hit_if(Scored::FirstTripPlain, first && plain);
+        let escalates = v.handoff_seq.is_some();
+        scored.hit_if(Scored::HandoffTwice, escalates && tally.escalations > 1);
+    }
+
+    fn limits_and_masks(&mut self, k: &Ticked, fault_bit: bool) {
+        let (s, b, v, o) = (k.settings, k.before, k.verdict, k.input.outcome);
+        let given = o.trips | if o.feasible { 0 } else { TripMask::BRAKE };
+        let kept = given & (s.tier0_enabled | TripMask::TIER0_HARD);
+        let masked = given & !kept;
+        let hit = o.s > s.tau;
+        let warn = !hit && o.s > s.tau - s.warn_margin;
+        let chunk = k.input.chunk.is_some();
+        let running = matches!(b.state, FuseState::Armed | FuseState::Watching | FuseState::Clamped);
+        let by = v.reason;
+        let l = &mut self.limits;
+        l.hit_if(Limit::MaskedSoft, masked & TripMask::TIER0_SOFT != 0 && running);
+        l.hit_if(Limit::MaskedChunkOk, masked != 0 && k.after.chunk_ok_this_tick);
+        l.hit_if(Limit::HardUnmasked, s.tier0_enabled == 0 && kept != 0);
+        l.hit_if(Limit::StrayKept, kept >> 16 != 0);
+        l.hit_if(Limit::StrayMasked, masked >> 16 != 0);
+        l.hit_if(Limit::K0, s.k == 0 && by == ReasonCode::BrakeTier1Cp);
+        l.hit_if(Limit::KAbove64, s.k > 64 && v.window_hits == 64);
+        l.hit_if(Limit::KEqual, s.k == v.window_hits && by == ReasonCode::BrakeTier1Cp);
+        l.hit_if(Limit::KOneShort, s.k == v.window_hits + 1 && v.window_hits > 0 && running);
+        if fault_bit {
+            return;
+        }
+        match b.state {
+            FuseState::Braking => {
+                l.hit_if(Limit::B0, s.brake == 0);
+                if v.state == FuseState::Held {
+                    let which = [Limit::Confirm0, Limit::Confirm1, Limit::ConfirmMore];
+                    l.hit(which[usize::from(s.confirm.min(2))]);
+                }
+            }
+            FuseState::Held => {
+                let due = s.rearm == 0 && b.held_clean >= s.rearm_hold && b.rearms < s.max_rearms;
+                l.hit_if(Limit::ChunkNotOk, due && chunk && kept != 0 && v.state == FuseState::Held);
+                let budget = by == ReasonCode::EscalateRearmBudget;
+                l.hit_if(Limit::MaxRearms0, budget && s.max_rearms == 0);
+                l.hit_if(Limit::Budget, budget && s.max_rearms > 0 && k.after.last_nonce != [0; 8]);
+                l.hit_if(Limit::AckOnlyBudget, budget && s.rearm == 1);
+                l.hit_if(Limit::H0, s.hold == 0 && v.state == FuseState::Escalated);
+                if by == ReasonCode::RearmedAuto {
+                    l.hit_if(Limit::RearmHold0, s.rearm_hold == 0);
+                    l.hit_if(Limit::RearmPredictive, v.window_hits >= s.k);
+                    l.hit_if(Limit::RearmDirty, warn);
+                    self.ends.hit_if(End::RearmLast, b.held_clean == u16::MAX);
+                    self.ends.hit_if(End::Auto255, k.after.rearms == 255);
+                }
+            }
+            FuseState::Escalated => l.hit_if(Limit::E0, s.handoff == 0 && by == ReasonCode::TerminatedTimeout),
+            FuseState::Armed | FuseState::Watching | FuseState::Clamped => {
+                let streak = b.clamp_streak >= s.streak;
+                let clamps = b.clamps > s.max_clamps;
+                if by == ReasonCode::BrakeClampBudget {
+                    l.hit_if(Limit::Streak0, s.streak == 0);
+                    l.hit_if(Limit::Clamps0, s.max_clamps == 0 && !streak);
+                    l.hit(match (streak, clamps) {
+                        (true, false) => Limit::ByStreak,
+                        (false, _) => Limit::ByClamps,
+                        (true, true) => Limit::ByBoth,
+                    });
+                    l.hit_if(Limit::ResumeKeepsClamps, self.now.resumed_with_clamps && clamps);
+                    self.ends.hit_if(End::ClampsOver, s.max_clamps == 65534);
+                }
+                let cleared = b.state != FuseState::Armed && v.state == FuseState::Armed;
+                l.hit_if(Limit::Clear0, cleared && s.clear == 0);
+                l.hit_if(Limit::ClearDirty, cleared && (warn || v.window_hits > 0));
+                let clamped = v.state == FuseState::Clamped && by != ReasonCode::Ok;
+                l.hit_if(Limit::StreakNoChunk, clamped && !chunk);
+                let kept_streak = chunk && kept == 0 && b.clamp_streak > 0 && k.after.clamp_streak > 0;
+                l.hit_if(Limit::StreakKept, kept_streak && v.state == FuseState::Clamped);
+                self.ends.hit_if(End::Clamps, clamped && b.clamps == u16::MAX);
+            }
+            _ => {}
+        }
+        self.now.resumed_with_clamps = match by {
+            ReasonCode::RearmedAck => b.clamps > 0,
+            _ => self.now.resumed_with_clamps && v.state == FuseState::Armed,
+        };
+    }
+
+    fn counters(&mut self, k: &Ticked) {
+        let (b, a) = (k.before, k.after);
+        let e = &mut self.ends;
+        e.hit_if(End::CleanRun, b.clean_run == u16::MAX && a.clean_run == u16::MAX);
+        e.hit_if(End::Rearms, b.rearms == 255 && k.verdict.reason == ReasonCode::RearmedAck);
+        e.hit_if(End::Streak, a.clamp_streak == 255);
+        e.hit_if(End::Stopped, a.stopped_ticks == 254);
+        e.hit_if(End::BrakeTicks, a.brake_ticks == u16::MAX);
+        e.hit_if(End::HeldTicks, a.held_ticks == u16::MAX);
+        e.hit_if(End::HeldClean, a.held_clean == u16::MAX);
+        e.hit_if(End::EscalatedTicks, a.escalated_ticks > 65535);
+        e.hit_if(End::Chunks, a.next_chunk_seq > 65535);
+        e.hit_if(End::Seq, a.seq > 65535);
+    }
+
+    fn margin(&mut self, x: f64) {
+        use Margin::*;
+        let size = x.abs();
+        let below = x < 0.0;
+        let odd_sixteenth = |x: f64| (x * 16.0) % 2.0 == 1.0;
+        let bits = size.to_bits();
+        let m = &mut self.margins;
+        m.hit_if(Infinite, x.is_infinite());
+        m.hit_if(Subnormal, x.is_subnormal());
+        m.hit(if x.is_nan() {
+            None
+        } else if size >= 1000.0 {
+            [Far, MinusFar][usize::from(below)]
+        } else if size >= 999.9995 {
+            FarByRounding
+        } else if size >= 999.9985 {
+            [Last, MinusLast][usize::from(below)]
+        } else if size < 0.0005 {
+            [Zero, MinusZero][usize::from(x.is_sign_negative())]
+        } else if odd_sixteenth(size) {
+            [Half, MinusHalf][usize::from(below)]
+        } else if odd_sixteenth(f64::from_bits(bits - 1)) {
+            HalfUp
+        } else if odd_sixteenth(f64::from_bits(bits + 1)) {
+            HalfDown
+        } else {
+            [Plain, MinusPlain][usize::from(below)]
+        });
+    }
+
+    fn ack(&mut self, k: &Ticked) {
+        let (b, s) = (k.before, k.settings);
+        let Some(ack) = k.input.ack else { return };
+        let slot = usize::from(ack.operator_slot);
+        let stored = b.last_nonce.get(slot).copied();
+        let handoff = ack.handoff_seq == b.handoff_seq;
+        let class = match (stored, handoff) {
+            (None, true) => AckClass::Slot,
+            (None, false) => AckClass::Several,
+            (Some(n), true) if ack.nonce > n => AckClass::Accepted,
+            (Some(n), true) if ack.nonce == n => AckClass::NonceEqual,
+            (Some(_), true) => AckClass::NonceBelow,
+            (Some(n), false) if ack.nonce > n => AckClass::Handoff,
+            (Some(_), false) => AckClass::Several,
+        };
+        let row = b.state as usize * 3 + ack.decision as usize;
+        self.acks.hit(row * AckClass::NAMES.len() + class as usize);
+        if !matches!(class, AckClass::Accepted) {
+            return;
+        }
+        let same = (ack.operator_slot, ack.nonce);
+        if !k.verdict.ack_consumed {
+            self.now.ignored.push(same);
+        }
+        let a = &mut self.ack_more;
+        a.hit_if(AckMore::IgnoredLater, k.verdict.ack_consumed && self.now.ignored.contains(&same));
+        a.hit_if(AckMore::Slot7, slot == 7 && k.verdict.ack_consumed);
+        a.hit_if(AckMore::NonceMax, ack.nonce > u64::from(u32::MAX) && k.verdict.ack_consumed);
+        a.hit_if(AckMore::HandoffAbove255, ack.handoff_seq > 255 && k.verdict.ack_consumed);
+        match b.state {
+            FuseState::Held => {
+                let over = b.held_ticks >= s.hold;
+                let due = s.rearm == 0
+                    && b.held_clean >= s.rearm_hold
+                    && k.after.chunk_ok_this_tick
+                    && b.rearms < s.max_rearms;
+                a.hit_if(AckMore::ResumeAtH, over && ack.decision == AckDecision::Resume);
+                a.hit_if(AckMore::AbortAtH, over && ack.decision == AckDecision::Abort);
+                a.hit_if(AckMore::RetuneAtH, over && !due && ack.decision == AckDecision::Retune);
+                a.hit_if(AckMore::RetuneAndRearm, due && ack.decision == AckDecision::Retune);
+                a.hit_if(AckMore::ResumeAndRearm, due && ack.decision == AckDecision::Resume);
+            }
+            FuseState::Escalated => a.hit_if(AckMore::AtE, b.escalated_ticks >= s.handoff),
+            _ => {}
+        }
+    }
+
+    fn row(&mut self, k: &Ticked) {
+        use FuseState::*;
+        let (from, v) = (k.before.state, k.verdict);
+        let still = k.after.stopped_ticks > 0;
+        let warn = k.input.outcome.s > k.settings.tau - k.settings.warn_margin;
+        // Rows of several states stand in the order of these.
+        let any = from as usize;
+        let running = any.wrapping_sub(Armed as usize);
+        let (row, nth) = match (from, v.reason as u32, v.state) {
+            (_, 17..=19, _) => (Row::R1Idle, any),
+            (Terminated, ..) => (Row::R2, 0),
+            (Fault, ..) => (Row::R3, 0),
+            (Escalated, 24, _) => (Row::R4, 0),
+            (Escalated, 26, _) => (Row::R5, 0),
+            (Escalated, 23, _) => (Row::R6, 0),
+            (Escalated, 25, _) => (Row::R7, 0),
+            (Escalated, ..) => (Row::R8, 0),
+            (Held, 23, _) => (Row::R9, 0),
+            (Held, 24, _) => (Row::R10, 0),
+            (Held, 22, _) => (Row::R11, 0),
+            (Held, 15, _) => (Row::R12Budget, 0),
+            (Held, 16, _) => (Row::R12Tier1, 0),
+            (Held, 14, _) => (Row::R12Timeout, 0),
+            (Held, ..) if k.after.held_clean > 0 => (Row::R13Clean, 0),
+            (Held, ..) => (Row::R13, 0),
+            (Braking, 20, _) if stands_still(k) => (Row::R14Still, 0),
+            (Braking, 20, _) => (Row::R14Moving, 0),
+            (Braking, 12, _) if still => (Row::R16Still, 0),
+            (Braking, 12, _) => (Row::R16Moving, 0),
+            (Braking, ..) => (Row::R15, 0),
+            (Idle, ..) => (Row::Idle, 0),
+            (_, 9, _) => (Row::R17Armed, running),
+            (_, 10, _) => (Row::R18Armed, running),
+            (_, 11, _) => (Row::R19Armed, running),
+            (_, 3..=8, Braking) => (Row::R17bArmed, running),
+            (_, 3..=8, _) => (Row::R20Armed, running),
+            (Armed, 0 | 1, _) => (Row::R23, 0),
+            (_, 0, Armed) => (Row::R21Watching, running - 1),
+            (Watching, 2, _) if !warn && v.window_hits == 0 => (Row::StayWatching, 0),
+            (_, 2, _) => (Row::R22Armed, running),
+            _ => (Row::StayClamped, 0),
+        };
+        self.rows.hit(row as usize + nth);
+    }
+}
+
+impl Observer for Coverage {
+    fn settings(&mut self, _: &Settings) {
+        self.now.settings = true;
+    }
+
+    fn reset(&mut self, waiting: bool) {
+        self.shapes.hit_if(Shape::ThrownAway, waiting);
+        self.now = Memory { ticks: self.now.ticks, resets: self.now.resets + 1, settings: true, ..Memory::default() };
+    }
+
+    fn ticked(&mut self, k: &Ticked) {
+        self.ticks += 1;
+        self.now.ticks += 1;
+        let (s, v) = (k.settings, k.verdict);
+        let mode = usize::from(s.mode);
+        self.row(k);
+        self.states.hit(v.state as usize * 2 + mode);
+        self.reasons.hit(v.reason as usize * 2 + mode);
+        self.sources.hit(v.action_src as usize * 2 + mode);
+        self.sizes.hit(usize::from(s.dim - 1) * 8 + usize::from(s.pos_dim - 1));
+        self.counters(k);
+        let causes = self.causes_of(k);
+        if causes.is_empty() {
+            self.clean_tick(k);
+        } else {
+            self.fault_tick(k, &causes);
+        }
+        let what = match v.action_src {
+            ActionSource::Brake => 0,
+            ActionSource::Hold if causes.is_empty() => 1,
+            ActionSource::Hold => 2,
+            _ => return,
+        };
+        if mode == 1 {
+            let relation = s.dim.cmp(&s.pos_dim) as i8 + 1;
+            self.actions.hit((usize::from(s.kind) * 3 + what) * 3 + relation as usize);
+        }
+    }
+
+    fn refused(&mut self, causes: &[u8]) {
+        self.numbers.hit(usize::from(causes[0]) - 1);
+        for later in &causes[1..] {
+            let pair = PAIRS.iter().position(|p| *p == (causes[0], *later));
+            self.pairs.hit(pair.expect("a pair of causes that is not listed"));
+        }
+    }
+
+    fn ended(&mut self, waiting: bool, ticks: u32) {
+        let shapes = &mut self.shapes;
+        shapes.hit_if(Shape::Empty, !self.now.settings);
+        shapes.hit_if(Shape::NoTick, self.now.settings && self.now.ticks == 0);
+        shapes.hit_if(Shape::AfterReset, self.now.ticks > 0 && ticks == 0);
+        shapes.hit_if(Shape::NoReset, self.now.ticks > 0 && self.now.resets == 0);
+        shapes.hit_if(Shape::LeftOver, waiting);
+    }
+}
+
+fn is_neg_zero(x: f64) -> bool {
+    x == 0.0 && x.is_sign_negative()
+}
+
+/// The states that listen to acknowledgements.
+fn hears(state: FuseState) -> bool {
+    matches!(state, FuseState::Held | FuseState::Escalated)
+}
+
+fn acceptable(k: &Ticked) -> bool {
+    k.input.ack.is_some_and(|ack| {
+        let stored = k.before.last_nonce.get(usize::from(ack.operator_slot));
+        ack.handoff_seq == k.before.handoff_seq && stored.is_some_and(|n| ack.nonce > *n)
+    })
+}
+
+fn stands_still(k: &Ticked) -> bool {
+    let n = usize::from(k.settings.pos_dim);
+    k.settings.mode == 0 || fmath::norm(&k.after.vel, n) <= k.settings.v_stop_eps
+}
