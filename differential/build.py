@@ -192,7 +192,7 @@ def main() -> int:
     try:
         build(given.src, given.out, FAST if given.fast else CHECKED, given.variant)
     except Missing as what:
-        print(f"differential: missing: {what}", file=sys.stderr)
+        print(what, file=sys.stderr)
         return 3
     except (BuildError, edits.EditError) as what:
         print(f"differential: {what}", file=sys.stderr)
