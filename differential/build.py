@@ -22,6 +22,7 @@ import edits  # noqa: E402
 
 HERE = pathlib.Path(__file__).resolve().parent
 TOP = HERE.parent
+RUST = HERE / "rust"
 DEFAULT_SRC = TOP.parent / "shared" / "docs" / "src"
 DEFAULT_OUT = TOP / "target" / "differential"
 
@@ -67,10 +68,8 @@ def assemble(src: pathlib.Path, to: pathlib.Path, todo: list) -> None:
                 text = edits.apply(text, edit)
         write_if_changed(to / name, text)
     for root in ["lictor_core", "lictor_detect", "lictor_fuse"]:
-        text = (HERE / "rust" / "crates" / f"{root}.rs").read_text()
+        text = (RUST / "crates" / f"{root}.rs").read_text()
         write_if_changed(to / root.replace("_", "-") / "src" / "lib.rs", text)
-    outcome = (HERE / "rust" / "crates" / "outcome.rs").read_text()
-    write_if_changed(to / "lictor-fuse" / "src" / "outcome.rs", outcome)
 
 
 class Crate:
@@ -134,38 +133,54 @@ class Builder:
 
 
 def stubs() -> list:
-    folder = HERE / "rust" / "stubs"
     return [
-        Crate("serde", folder / "serde.rs", "proc-macro", []),
-        Crate("libm", folder / "libm.rs", "rlib", []),
+        Crate("serde", RUST / "stubs" / "serde.rs", "proc-macro", []),
+        Crate("libm", RUST / "stubs" / "libm.rs", "rlib", []),
     ]
 
 
 def lictor(src: pathlib.Path) -> list:
-    """The three crates of the Rust, from assembled sources."""
+    """The three crates of the Rust from assembled and edited sources, and the outcome record that the edits bring in."""
+    uses = ["lictor_core", "lictor_detect", "outcome"]
     return [
         Crate("lictor_core", src / "lictor-core" / "src" / "lib.rs", "rlib", ["serde", "libm"]),
         Crate("lictor_detect", src / "lictor-detect" / "src" / "lib.rs", "rlib", ["lictor_core"]),
-        Crate("lictor_fuse", src / "lictor-fuse" / "src" / "lib.rs", "rlib", ["lictor_core", "lictor_detect"]),
+        Crate("outcome", RUST / "outcome" / "lib.rs", "rlib", ["lictor_core"]),
+        Crate("lictor_fuse", src / "lictor-fuse" / "src" / "lib.rs", "rlib", uses),
     ]
 
 
 def reference(folder: pathlib.Path) -> list:
     """The reference as a library, and the program over it."""
-    uses = ["lictor_core", "lictor_fuse", "lictor_detect"]
     return [
-        Crate("oracle", folder / "lib.rs", "rlib", uses),
+        Crate("oracle", folder / "lib.rs", "rlib", ["lictor_core", "lictor_fuse", "outcome"]),
         Crate("reference", folder / "main.rs", "bin", ["oracle"]),
     ]
 
 
 def comparison() -> list:
-    """The generator, and the program that compares."""
-    rust = HERE / "rust"
+    """The generator, the coverage, and the programs over them."""
     uses = ["lictor_core", "lictor_fuse", "oracle"]
+    more = uses + ["generate", "coverage"]
     return [
-        Crate("generate", rust / "generate" / "lib.rs", "rlib", uses),
-        Crate("compare", rust / "compare" / "main.rs", "bin", uses + ["generate"]),
+        Crate("generate", RUST / "generate" / "lib.rs", "rlib", uses),
+        Crate("coverage", RUST / "coverage" / "lib.rs", "rlib", uses),
+        Crate("compare", RUST / "compare" / "main.rs", "bin", more),
+        Crate("sample", RUST / "sample" / "main.rs", "bin", more),
+    ]
+
+
+def unedited(src: pathlib.Path) -> list:
+    """The Rust as published, its detectors behind a crate that records what they answer, and the program that checks
+    the edits by it."""
+    uses = ["lictor_core", "lictor_detect"]
+    detect = src / "lictor-detect" / "src" / "lib.rs"
+    return [
+        Crate("lictor_core", src / "lictor-core" / "src" / "lib.rs", "rlib", ["serde", "libm"]),
+        Crate("detectors", detect, "rlib", ["lictor_core"]),
+        Crate("lictor_detect", RUST / "unedited" / "recording.rs", "rlib", ["lictor_core", "detectors"]),
+        Crate("lictor_fuse", src / "lictor-fuse" / "src" / "lib.rs", "rlib", uses),
+        Crate("unedited", RUST / "unedited" / "main.rs", "bin", uses + ["lictor_fuse"]),
     ]
 
 
@@ -176,10 +191,18 @@ def build(src: pathlib.Path, out: pathlib.Path, flags: list, variants: list) -> 
     for name in variants:
         todo += edits.VARIANTS[name]
     assemble(src, out / "src", todo)
-    crates = stubs() + lictor(out / "src") + reference(HERE / "rust" / "reference") + comparison()
-    for crate in crates:
+    for crate in stubs() + lictor(out / "src") + reference(RUST / "reference") + comparison():
         builder.make(crate)
     return builder
+
+
+def build_unedited(src: pathlib.Path, out: pathlib.Path, flags: list) -> pathlib.Path:
+    """The program that checks the edits, in a folder of its own since its crates have the same names."""
+    builder = Builder(out / "unedited", flags)
+    assemble(src, out / "unedited" / "src", [])
+    for crate in stubs() + unedited(out / "unedited" / "src"):
+        made = builder.make(crate)
+    return made
 
 
 def main() -> int:

@@ -45,7 +45,7 @@ OUTCOME = [
         """    pub schema_fault: bool,
 }""",
         """    pub schema_fault: bool,
-    pub outcome: &'a crate::outcome::Outcome,
+    pub outcome: &'a outcome::Outcome,
 }""",
     ),
     Edit(

@@ -14,9 +14,6 @@
 //!     --list         list the profiles
 //! The exit status is 0 if nothing differs, 1 if something does, 2 for anything else.
 
-mod counts;
-mod coverage;
-mod points;
 mod shrink;
 mod subject;
 
@@ -24,7 +21,7 @@ use std::{fs, io, path::PathBuf, process::ExitCode, time::Instant};
 
 use coverage::Coverage;
 use generate::profiles::{named, Often, Profile, PROFILES};
-use oracle::{journal::Unobserved, print::Program};
+use oracle::{answer::Program, journal::Unobserved};
 use subject::{Difference, Subject};
 
 struct Options {

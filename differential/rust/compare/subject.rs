@@ -9,8 +9,8 @@ use std::{
 };
 
 use oracle::{
+    answer::{Answer, Program},
     journal::{Observer, Unobserved},
-    print::{Answer, Program},
 };
 
 /// A program under comparison: what it should print, and its command with arguments.

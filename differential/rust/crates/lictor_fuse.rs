@@ -4,5 +4,4 @@
 
 pub mod fsm;
 pub mod fuse;
-pub mod outcome;
 pub mod tally;

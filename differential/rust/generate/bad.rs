@@ -6,7 +6,7 @@ use crate::{
     draft::{calm, Draft},
     floats,
     rng::Rng,
-    settings::small,
+    settings::{roomy, small},
     walk::{self, walk, CALM},
 };
 
@@ -302,6 +302,47 @@ fn lists_at_the_edge(rng: &Rng) -> Vec<u8> {
     draft.tick(Tick { t: 0, idx: rng.pick(&[0, 65535]), missed: 0, schema: 0, velocity: 1 });
     walk(&mut draft, rng, &CALM, 2);
     draft.bytes
+}
+
+/// Every code, flag, size and settings float by itself: values on both sides of what is accepted.
+pub fn codes(rng: &Rng) -> Vec<Vec<u8>> {
+    const BYTES: [u8; 18] = [0, 1, 2, 3, 4, 5, 6, 7, 8, 9, 10, 16, 64, 127, 128, 129, 254, 255];
+    const SIZES: [u16; 9] = [0, 1, 2, 3, 63, 64, 65, 256, 65535];
+    let floats = [f64::INFINITY, f64::NEG_INFINITY, f64::NAN, -f64::NAN, f64::MAX, f64::MIN, -0.0, f64::from_bits(1)];
+    let good = bytes_of(SETTINGS, |to| Settings { horizon: 3, exec: 2, ..roomy() }.write(to));
+    let mut journals = Vec::new();
+    let mut with = |at: usize, field: &[u8]| {
+        let mut bytes = good.clone();
+        bytes[1 + at..1 + at + field.len()].copy_from_slice(field);
+        journals.push(bytes);
+    };
+    for at in 0..6 {
+        BYTES.iter().for_each(|x| with(at, &[*x]));
+    }
+    for at in [12, 14] {
+        SIZES.iter().for_each(|x| with(at, &x.to_le_bytes()));
+    }
+    for at in (44..220).step_by(8) {
+        floats.iter().for_each(|x| with(at, &x.to_le_bytes()));
+    }
+    let start = Draft::new(roomy());
+    for x in BYTES {
+        let ack = Ack { decision: x, ..walk::ack(&start, rng, 1000) };
+        let outcome = Outcome { feasible: x, ..calm() };
+        let tick = Tick { t: 0, idx: 0, missed: 0, schema: 0, velocity: 0 };
+        let waiting = bytes_of(OUTCOME, |to| calm().write(to));
+        for record in [
+            bytes_of(ACK, |to| ack.write(to)),
+            bytes_of(VALUE, |to| Value { list: x, x: 0.5 }.write(to)),
+            bytes_of(OUTCOME, |to| outcome.write(to)),
+            [&waiting, &*bytes_of(TICK, |to| Tick { schema: x, ..tick }.write(to))].concat(),
+            [&waiting, &*bytes_of(TICK, |to| Tick { velocity: x, ..tick }.write(to))].concat(),
+            vec![x],
+        ] {
+            journals.push([&*start.bytes, &*record].concat());
+        }
+    }
+    journals
 }
 
 pub fn bytes(rng: &Rng) -> Vec<Vec<u8>> {

@@ -41,7 +41,7 @@ const fn once(name: &'static str, what: &'static str, make: fn(&Rng) -> Vec<Vec<
     Profile { name, what, often: Often::Once, make }
 }
 
-pub const PROFILES: [Profile; 31] = [
+pub const PROFILES: [Profile; 32] = [
     each("mixed", "a bit of everything under small limits", |rng| {
         let s = small(rng);
         run(s, rng, &CALM, 300)
@@ -153,6 +153,7 @@ pub const PROFILES: [Profile; 31] = [
     each("refusals", "each cause of refusal, alone and with others", bad::refusals),
     each("bytes", "random bytes, and good journals damaged", bad::bytes),
     each("cuts", "a good journal cut anywhere", bad::cuts),
+    once("codes", "every code, flag, size and settings float by itself", bad::codes),
     once("prefixes", "every prefix of a good journal", bad::prefixes),
     once("ends-8", "8-bit counters at their ends", long::ends8),
     once("long-armed", "clean_run at its end, chunk numbers above 16 bits", long::armed),

@@ -6,7 +6,6 @@ use lictor_core::{
 };
 use lictor_fuse::{
     fuse::{decide, FuseRt, TickInput},
-    outcome,
     tally::Tally,
 };
 

@@ -2,6 +2,7 @@
 //!
 //! Records, reader and printing are written from 01-scope.md, the tick is the Rust's.
 
+pub mod answer;
 pub mod journal;
-pub mod print;
+pub mod lines;
 pub mod records;

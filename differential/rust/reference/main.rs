@@ -4,7 +4,7 @@ use std::io::{self, Read, Write};
 
 use oracle::{
     journal::Unobserved,
-    print::{Answer, Program},
+    answer::{Answer, Program},
 };
 
 fn main() -> io::Result<()> {

@@ -3,65 +3,6 @@
 use lictor_core::SafetyVerdict;
 use lictor_fuse::{fuse::FuseRt, tally::Tally};
 
-use crate::journal::{Journal, Observer, Refusal};
-
-#[derive(Clone, Copy, Debug, PartialEq)]
-pub enum Program {
-    Fuse,
-    Trace,
-}
-
-/// The printed answer to a journal, made record by record.
-pub struct Answer<'a> {
-    program: Program,
-    journal: Journal,
-    rest: &'a [u8],
-    over: bool,
-}
-
-impl<'a> Answer<'a> {
-    pub fn new(program: Program, bytes: &'a [u8]) -> Self {
-        Self { program, journal: Journal::new(), rest: bytes, over: false }
-    }
-
-    /// Takes one more record and appends what it prints; false once everything is printed.
-    pub fn step(&mut self, out: &mut Vec<u8>, observer: &mut impl Observer) -> bool {
-        if self.over {
-            return false;
-        }
-        if self.rest.is_empty() {
-            end_line(out, self.journal.end(observer));
-            self.over = true;
-            return true;
-        }
-        match self.journal.step(self.rest, observer) {
-            Ok((used, verdict)) => {
-                self.rest = &self.rest[used..];
-                if let Some(v) = verdict {
-                    tick_line(out, &v);
-                    if self.program == Program::Trace {
-                        let rt = &self.journal.rt;
-                        trace_lines(out, &v, rt, rt.filled);
-                    }
-                }
-            }
-            Err(refusal) => {
-                refused_line(out, refusal);
-                self.over = true;
-            }
-        }
-        true
-    }
-}
-
-/// The whole answer at once.
-pub fn answer(program: Program, bytes: &[u8], observer: &mut impl Observer) -> Vec<u8> {
-    let mut out = Vec::new();
-    let mut answer = Answer::new(program, bytes);
-    while answer.step(&mut out, observer) {}
-    out
-}
-
 pub fn tick_line(out: &mut Vec<u8>, v: &SafetyVerdict) {
     out.extend_from_slice(b"tick");
     for number in [v.seq, v.t, v.state as u32, v.reason as u32, v.trips, v.action_src as u32] {
@@ -83,11 +24,11 @@ pub fn end_line(out: &mut Vec<u8>, tally: &Tally) {
     out.push(b'\n');
 }
 
-pub fn refused_line(out: &mut Vec<u8>, refusal: Refusal) {
+pub fn refused_line(out: &mut Vec<u8>, number: u8, place: u64) {
     out.extend_from_slice(b"refused ");
-    decimal(out, u64::from(refusal.number));
+    decimal(out, u64::from(number));
     out.push(b' ');
-    decimal(out, refusal.place);
+    decimal(out, place);
     out.push(b'\n');
 }
 

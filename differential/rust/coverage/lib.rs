@@ -6,7 +6,6 @@
 use std::io::{self, Write};
 
 use lictor_core::{fmath, AckDecision, ActionSource, FuseState, ReasonCode, TripMask};
-
 use oracle::{
     journal::{Observer, Ticked},
     records::Settings,
@@ -16,6 +15,9 @@ use crate::{
     counts::{Counts, Point},
     points::*,
 };
+
+mod counts;
+mod points;
 
 /// A fact that later ticks of an episode need.
 #[derive(Default)]
@@ -165,6 +167,16 @@ impl Coverage {
     pub fn begin(&mut self) {
         self.journals += 1;
         self.now = Memory::default();
+    }
+
+    /// Whether each point was reached, in a fixed order.
+    pub fn reached(&self) -> Vec<bool> {
+        self.groups().iter().flat_map(|group| &group.points).map(|point| point.reached > 0).collect()
+    }
+
+    /// How many causes of refusal, and pairs of them, were reached.
+    pub fn refusals_reached(&self) -> usize {
+        self.numbers.points.iter().chain(&self.pairs.points).filter(|point| point.reached > 0).count()
     }
 
     /// The points that were not reached though they can be, as `group: point`.
