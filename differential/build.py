@@ -1,5 +1,5 @@
 #!/usr/bin/env python3
-"""Builds the Rust reference and the programs that compare with it into target/differential.
+"""Builds the Rust reference, the programs that compare with it, and the check of its edits into target/differential.
 
     build.py [--src DIR] [--out DIR] [--fast] [--variant NAME ..]
 
@@ -154,7 +154,7 @@ def reference(folder: pathlib.Path) -> list:
     """The reference as a library, and the program over it."""
     return [
         Crate("oracle", folder / "lib.rs", "rlib", ["lictor_core", "lictor_fuse", "outcome"]),
-        Crate("reference", folder / "main.rs", "bin", ["oracle"]),
+        Crate("reference", folder / "main.rs", "bin", ["oracle", "lictor_core"]),
     ]
 
 
@@ -213,7 +213,10 @@ def main() -> int:
     args.add_argument("--variant", action="append", default=[], choices=sorted(edits.VARIANTS))
     given = args.parse_args()
     try:
-        build(given.src, given.out, FAST if given.fast else CHECKED, given.variant)
+        flags = FAST if given.fast else CHECKED
+        build(given.src, given.out, flags, given.variant)
+        if not given.variant:
+            build_unedited(given.src, given.out, flags)
     except Missing as what:
         print(what, file=sys.stderr)
         return 3

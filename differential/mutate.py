@@ -19,8 +19,6 @@ sys.dont_write_bytecode = True
 import build  # noqa: E402
 import edits  # noqa: E402
 
-LONG = ["ends-8", "long-armed", "long-clamps", "long-stops"]
-
 
 class Mutant:
     def __init__(self, number: int, fields: dict):
@@ -58,19 +56,20 @@ def read_mutants(path: pathlib.Path) -> list:
 
 
 def build_mutant(mutant: Mutant, good: build.Builder, folder: pathlib.Path) -> pathlib.Path:
-    """The reference program with the change made. Crates below the changed one are those of the good build."""
+    """The reference program with the change made. Crates that do not use the changed one are those of the good build."""
     shutil.rmtree(folder, ignore_errors=True)
-    builder = build.Builder(folder, ["-Copt-level=1"])
+    builder = build.Builder(folder, ["-Copt-level=1", "-Awarnings"])
     builder.made = dict(good.made)
     shutil.copytree(good.out / "src", folder / "src")
     shutil.copytree(build.HERE / "rust" / "reference", folder / "src" / "reference")
     mutant.apply(folder / "src" / mutant.file)
-    crates = build.lictor(folder / "src") + build.reference(folder / "src" / "reference")
-    changed = mutant.file.split("/")[0]
-    first = next(i for i, crate in enumerate(crates) if changed in str(crate.root.relative_to(folder / "src")))
-    for crate in crates[first:]:
-        made = builder.make(crate)
-    return made
+    changed = folder / "src" / mutant.file.split("/")[0]
+    remade = set()
+    for crate in build.lictor(folder / "src") + build.reference(folder / "src" / "reference"):
+        if changed in crate.root.parents or remade.intersection(crate.uses):
+            program = builder.make(crate)
+            remade.add(crate.name)
+    return program
 
 
 def differs(good: build.Builder, program: pathlib.Path, options: list):
@@ -85,10 +84,9 @@ def differs(good: build.Builder, program: pathlib.Path, options: list):
     return None
 
 
-def noticed_by(good: build.Builder, program: pathlib.Path, seeds: int):
-    """Short journals first, then the long ones, then more seeds."""
-    long_ones = [part for name in LONG for part in ("--profile", name)]
-    for options in (["--each", "--seeds", "2"], long_ones + ["--seeds", "1"], ["--each", "--seeds", str(seeds)]):
+def noticed_by(good: build.Builder, program: pathlib.Path, samples: list, seeds: int):
+    """The samples first, then short journals, then the profiles that are run once, then more seeds."""
+    for options in (samples, ["--each", "--seeds", "2"], ["--once"], ["--each", "--seeds", str(seeds)]):
         name = differs(good, program, options)
         if name:
             return name
@@ -102,10 +100,17 @@ def main() -> int:
     args.add_argument("--from", type=int, default=1, dest="start")
     args.add_argument("--seeds", type=int, default=20)
     given = args.parse_args()
-    good = build.build(given.src, build.DEFAULT_OUT, build.CHECKED, [])
+    try:
+        good = build.build(given.src, build.DEFAULT_OUT, build.CHECKED, [])
+    except build.Missing as what:
+        print(f"differential: SKIPPED, no mutant was made: {what}")
+        return 0
     folder = build.DEFAULT_OUT / "mutant"
+    stored = build.DEFAULT_OUT / "samples"
+    subprocess.run([str(good.out / "sample"), str(stored)], stdout=subprocess.DEVNULL, check=True)
+    samples = sorted(str(path) for path in stored.glob("*.journal"))
     wrong = 0
-    counts = {"noticed": 0, "same": 0}
+    counts = {"noticed": 0, "by the samples": 0, "same": 0}
     started = time.time()
     for mutant in read_mutants(build.HERE / "mutants.txt"):
         if given.only and mutant.number not in given.only or mutant.number < given.start:
@@ -116,9 +121,10 @@ def main() -> int:
             print(f"BROKEN   {mutant.title()}\n{what}", flush=True)
             wrong += 1
             continue
-        name = noticed_by(good, program, given.seeds)
+        name = noticed_by(good, program, samples, given.seeds)
         if name and not mutant.same:
             counts["noticed"] += 1
+            counts["by the samples"] += (stored / f"{name}.journal").exists()
             print(f"noticed  {mutant.title()}  [{name}]", flush=True)
         elif not name and mutant.same:
             counts["same"] += 1
@@ -127,7 +133,10 @@ def main() -> int:
             wrong += 1
             print(f"{'NOT SAME' if name else 'MISSED  '} {mutant.title()}  [{name}]", flush=True)
     shutil.rmtree(folder, ignore_errors=True)
-    print(f"{counts['noticed']} noticed, {counts['same']} change nothing, {wrong} wrong, {time.time() - started:.0f} s")
+    print(
+        f"{counts['noticed']} noticed ({counts['by the samples']} by the samples alone), {counts['same']} change nothing, "
+        f"{wrong} wrong, {time.time() - started:.0f} s"
+    )
     return 1 if wrong else 0
 
 

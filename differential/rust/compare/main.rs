@@ -6,22 +6,29 @@
 //!     --seeds N      so many seeds (20)
 //!     --first S      from this one on (1)
 //!     --profile P    this profile alone (may be repeated)
-//!     --each         leave out the profiles that are long and run once
+//!     --each         only the profiles that are run with every seed
+//!     --once         only those that are run with the first one alone
 //!     --failures D   folder for journals that show a difference (target/differential/failures)
 //!     --quick        stop at the first difference, do not shrink
 //!     --all          print every point of the coverage
 //!     --write D      write the journals to a folder instead of comparing
+//!     --show         print the files in words instead of comparing
 //!     --list         list the profiles
 //! The exit status is 0 if nothing differs, 1 if something does, 2 for anything else.
 
 mod shrink;
 mod subject;
 
-use std::{fs, io, path::PathBuf, process::ExitCode, time::Instant};
+use std::{
+    fs, io,
+    path::PathBuf,
+    process::ExitCode,
+    time::{Duration, Instant},
+};
 
 use coverage::Coverage;
 use generate::profiles::{named, Often, Profile, PROFILES};
-use oracle::{answer::Program, journal::Unobserved};
+use oracle::{answer::Program, journal::Unobserved, records::describe};
 use subject::{Difference, Subject};
 
 struct Options {
@@ -29,11 +36,13 @@ struct Options {
     seeds: u64,
     first: u64,
     profiles: Vec<&'static Profile>,
+    each: bool,
     once: bool,
     failures: PathBuf,
     quick: bool,
     all: bool,
     write: Option<PathBuf>,
+    show: bool,
     files: Vec<PathBuf>,
 }
 
@@ -43,11 +52,13 @@ fn options() -> Result<Options, String> {
         seeds: 20,
         first: 1,
         profiles: Vec::new(),
+        each: true,
         once: true,
         failures: PathBuf::from("target/differential/failures"),
         quick: false,
         all: false,
         write: None,
+        show: false,
         files: Vec::new(),
     };
     let mut args = std::env::args().skip(1);
@@ -64,10 +75,12 @@ fn options() -> Result<Options, String> {
                 given.profiles.push(named(&name).ok_or(format!("no profile {name}"))?);
             }
             "--each" => given.once = false,
+            "--once" => given.each = false,
             "--failures" => given.failures = value()?.into(),
             "--quick" => given.quick = true,
             "--all" => given.all = true,
             "--write" => given.write = Some(value()?.into()),
+            "--show" => given.show = true,
             "--list" => {
                 PROFILES.iter().for_each(|p| println!("{:16} {}", p.name, p.what));
                 std::process::exit(0);
@@ -79,7 +92,7 @@ fn options() -> Result<Options, String> {
     if given.profiles.is_empty() {
         given.profiles = PROFILES.iter().collect();
     }
-    if given.subjects.is_empty() && given.write.is_none() {
+    if given.subjects.is_empty() && given.write.is_none() && !given.show {
         return Err("nothing to compare: give --fuse or --trace".into());
     }
     Ok(given)
@@ -118,6 +131,12 @@ struct Run {
 
 impl Run {
     fn everything(&mut self) -> io::Result<()> {
+        if self.given.show {
+            for file in &self.given.files {
+                print!("{}", describe(&fs::read(file)?));
+            }
+            return Ok(());
+        }
         if self.given.files.is_empty() {
             self.generated()?;
         }
@@ -134,7 +153,11 @@ impl Run {
     fn generated(&mut self) -> io::Result<()> {
         for seed in self.given.first..self.given.first + self.given.seeds {
             for profile in self.given.profiles.clone() {
-                if profile.often == Often::Once && (seed != self.given.first || !self.given.once) {
+                let due = match profile.often {
+                    Often::EachSeed => self.given.each,
+                    Often::Once => self.given.once && seed == self.given.first,
+                };
+                if !due {
                     continue;
                 }
                 for (i, journal) in profile.journals(seed).iter().enumerate() {
@@ -180,7 +203,7 @@ impl Run {
         if self.given.quick {
             return Ok(());
         }
-        let small = shrink::shrink(journal, 3000, |bytes| {
+        let small = shrink::shrink(journal, Duration::from_secs(40), |bytes| {
             subject.compare(bytes, &mut Unobserved).is_ok_and(|found| found.is_some())
         });
         fs::create_dir_all(&self.given.failures)?;
@@ -201,6 +224,7 @@ impl Run {
     fn report(&self) -> io::Result<()> {
         let seconds = self.started.elapsed().as_secs_f64();
         self.coverage.print(&mut io::stdout().lock(), self.given.all)?;
+        self.coverage.missing().iter().for_each(|what| println!("missing: {what}"));
         println!(
             "{} ticks in {} journals of {} bytes, {} programs, {seconds:.1} s ({:.0} ticks/s), {} differences",
             self.coverage.ticks,

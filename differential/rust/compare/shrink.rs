@@ -1,5 +1,7 @@
 //! Makes a journal that shows a difference smaller.
 
+use std::time::{Duration, Instant};
+
 use oracle::records::*;
 
 /// A record as bytes; what the end cuts, or what has no kind, is one piece.
@@ -47,23 +49,35 @@ fn retimed(pieces: &[Vec<u8>]) -> Vec<Vec<u8>> {
     pieces
 }
 
-/// A smaller journal for which `fails` still holds: records dropped, then fields set to zero. Stops after `budget`
-/// tries.
-pub fn shrink(journal: &[u8], mut budget: usize, fails: impl Fn(&[u8]) -> bool) -> Vec<u8> {
-    let mut pieces = split(journal);
-    let mut try_it = |candidate: Vec<Vec<u8>>, pieces: &mut Vec<Vec<u8>>| {
-        if budget == 0 {
-            return false;
+/// The smallest number of records, counted from the start, for which `fails` holds.
+fn shortest_prefix(pieces: &[Vec<u8>], fails: &impl Fn(&[u8]) -> bool) -> usize {
+    let (mut low, mut high) = (0, pieces.len());
+    while low < high {
+        let middle = (low + high) / 2;
+        if fails(&pieces[..middle].concat()) {
+            high = middle;
+        } else {
+            low = middle + 1;
         }
-        budget -= 1;
-        let better = fails(&candidate.concat());
+    }
+    high
+}
+
+/// A smaller journal for which `fails` still holds: cut off, records dropped, then fields set to zero. Stops after
+/// `time`.
+pub fn shrink(journal: &[u8], time: Duration, fails: impl Fn(&[u8]) -> bool) -> Vec<u8> {
+    let end = Instant::now() + time;
+    let mut pieces = split(journal);
+    pieces.truncate(shortest_prefix(&pieces, &fails));
+    let try_it = |candidate: Vec<Vec<u8>>, pieces: &mut Vec<Vec<u8>>| {
+        let better = Instant::now() < end && fails(&candidate.concat());
         if better {
             *pieces = candidate;
         }
         better
     };
     let mut size = pieces.len() / 2;
-    while size > 0 {
+    while size > 0 && Instant::now() < end {
         let mut dropped = false;
         let mut end = pieces.len();
         while end > 0 {
@@ -85,7 +99,7 @@ pub fn shrink(journal: &[u8], mut budget: usize, fails: impl Fn(&[u8]) -> bool) 
             continue;
         }
         let mut from = 1;
-        while from < pieces[at].len() {
+        while from < pieces[at].len() && Instant::now() < end {
             // Single bytes in the small fields at the front, floats as a whole.
             let to = if pieces[at].len() > 200 && from > 44 { from + 8 } else { from + 1 };
             let to = to.min(pieces[at].len());
@@ -97,5 +111,6 @@ pub fn shrink(journal: &[u8], mut budget: usize, fails: impl Fn(&[u8]) -> bool) 
             from = to;
         }
     }
+    pieces.truncate(shortest_prefix(&pieces, &fails));
     pieces.concat()
 }

@@ -190,7 +190,7 @@ impl Coverage {
         missing
     }
 
-    /// One line for each group; with `all` every point too. Then what is missing, and what should not be there.
+    /// One line for each group; with `all` every point too. Then what should not be there.
     pub fn print(&self, to: &mut impl Write, all: bool) -> io::Result<()> {
         for group in self.groups() {
             let can: Vec<&Point> = group.points.iter().filter(|p| p.never.is_none()).collect();
@@ -212,9 +212,6 @@ impl Coverage {
                     _ => {}
                 }
             }
-        }
-        for what in self.missing() {
-            writeln!(to, "missing: {what}")?;
         }
         Ok(())
     }

@@ -201,7 +201,7 @@ impl Fields<'_> {
 }
 
 /// The 16 hexadecimal digits of the bits; every NaN is `nan`.
-fn float(out: &mut Vec<u8>, x: f64) {
+pub fn float(out: &mut Vec<u8>, x: f64) {
     if x.is_nan() {
         out.extend_from_slice(b"nan");
         return;

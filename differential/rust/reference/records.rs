@@ -135,3 +135,29 @@ record! {
 // The lengths that 01-scope.md states.
 const _: () = assert!(Settings::LEN == 220 && Ack::LEN == 14 && Head::LEN == 14);
 const _: () = assert!(Value::LEN == 9 && Outcome::LEN == 257 && Tick::LEN == 9);
+
+/// A journal in words, one record a line with its place, for a reader.
+pub fn describe(journal: &[u8]) -> String {
+    let mut text = String::new();
+    let mut at = 0;
+    while at < journal.len() {
+        let kind = journal[at];
+        let body = body_len(kind).and_then(|n| journal.get(at + 1..at + 1 + n));
+        let Some(body) = body else {
+            text += &format!("{at} kind {kind}, {} bytes to the end\n", journal.len() - at);
+            break;
+        };
+        let record = match kind {
+            SETTINGS => format!("{:?}", Settings::read(body)),
+            ACK => format!("{:?}", Ack::read(body)),
+            HEAD => format!("{:?}", Head::read(body)),
+            VALUE => format!("{:?}", Value::read(body)),
+            OUTCOME => format!("{:?}", Outcome::read(body)),
+            TICK => format!("{:?}", Tick::read(body)),
+            _ => "Reset".into(),
+        };
+        text += &format!("{at} {record}\n");
+        at += 1 + body.len();
+    }
+    text
+}

@@ -55,7 +55,7 @@ fn enforce() -> Settings {
 fn samples() -> Vec<(&'static str, Settings)> {
     let position = Settings { kind: 2, dim: 3, pos_dim: 2, ..enforce() };
     let observe = Settings { mode: OBSERVE, kind: EE_DELTA, dim: 1, pos_dim: 2, calib_mask: 0, brake: 3, ..enforce() };
-    let ack_only = Settings { kind: EE_DELTA, rearm: ACK_ONLY, clamp: OFF, dim: 2, pos_dim: 2, ..enforce() };
+    let ack_only = Settings { kind: EE_DELTA, rearm: ACK_ONLY, clamp: OFF, dim: 2, pos_dim: 2, k: 1, ..enforce() };
     vec![("enforce", enforce()), ("position", position), ("observe", observe), ("ack-only", ack_only)]
 }
 
