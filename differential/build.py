@@ -167,6 +167,7 @@ def comparison() -> list:
         Crate("coverage", RUST / "coverage" / "lib.rs", "rlib", uses),
         Crate("compare", RUST / "compare" / "main.rs", "bin", more),
         Crate("sample", RUST / "sample" / "main.rs", "bin", more),
+        Crate("cases", RUST / "cases" / "main.rs", "bin", more),
     ]
 
 

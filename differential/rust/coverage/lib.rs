@@ -11,13 +11,11 @@ use oracle::{
     records::Settings,
 };
 
-use crate::{
-    counts::{Counts, Point},
-    points::*,
-};
-
 mod counts;
 mod points;
+
+use counts::{product, Counts, Grid, Group, Named, Point};
+use points::*;
 
 /// A fact that later ticks of an episode need.
 #[derive(Default)]
@@ -33,27 +31,27 @@ struct Memory {
 pub struct Coverage {
     pub ticks: u64,
     pub journals: u64,
-    rows: Counts,
-    states: Counts,
-    reasons: Counts,
-    fault_ticks: Counts,
-    guard_bits: Counts,
-    causes: Counts,
-    guard: Counts,
-    sources: Counts,
-    actions: Counts,
-    sizes: Counts,
-    numbers: Counts,
-    pairs: Counts,
-    acks: Counts,
-    ack_more: Counts,
-    ends: Counts,
-    limits: Counts,
-    odd: Counts,
-    margins: Counts,
-    velocity: Counts,
-    scored: Counts,
-    shapes: Counts,
+    rows: Counts<Row>,
+    states: Grid,
+    reasons: Grid,
+    fault_ticks: Grid,
+    guard_bits: Counts<Bits>,
+    causes: Counts<Cause>,
+    guard: Counts<Guard>,
+    sources: Grid,
+    actions: Grid,
+    sizes: Grid,
+    numbers: Counts<Refused>,
+    pairs: Grid,
+    acks: Grid,
+    ack_more: Counts<AckMore>,
+    ends: Counts<End>,
+    limits: Counts<Limit>,
+    odd: Counts<Odd>,
+    margins: Counts<Margin>,
+    velocity: Counts<Velocity>,
+    scored: Counts<Scored>,
+    shapes: Counts<Shape>,
     now: Memory,
 }
 
@@ -65,101 +63,70 @@ impl Default for Coverage {
 
 impl Coverage {
     pub fn new() -> Self {
-        let reason_names: Vec<String> = ReasonCode::ALL.iter().map(|r| format!("{} {r:?}", *r as u8)).collect();
-        let reason_names: Vec<&str> = reason_names.iter().map(String::as_str).collect();
-        let decisions = [" Resume", " Abort", " Retune"];
-        let mut ack_rows = Vec::new();
-        for state in STATES {
-            for decision in decisions {
-                ack_rows.push(format!("{state}{decision}"));
-            }
-        }
-        let ack_rows: Vec<&str> = ack_rows.iter().map(String::as_str).collect();
-        let mut action_rows = Vec::new();
-        for kind in KINDS {
-            for what in [" brakes", " holds", " holds in a fault tick"] {
-                action_rows.push(format!("{kind}{what}"));
-            }
-        }
-        let action_rows: Vec<&str> = action_rows.iter().map(String::as_str).collect();
-        let dims = ["dim 1", "dim 2", "dim 3", "dim 4", "dim 5", "dim 6", "dim 7", "dim 8"];
-        let pos_dims: [String; 8] = dims.map(|d| format!(", pos_{d}"));
-        let pairs: Vec<String> = PAIRS.iter().map(|(a, b)| format!("{a} before {b}")).collect();
+        let reasons = ReasonCode::ALL.map(|r| format!("{} {r:?}", r as u8));
+        let acks = product(&STATES, &[" Resume", " Abort", " Retune"]);
+        let actions = product(&KINDS, &[" brakes", " holds", " holds in a fault tick"]);
+        let relations = [", dim below pos_dim", ", dim is pos_dim", ", dim above pos_dim"];
+        let dims = [1, 2, 3, 4, 5, 6, 7, 8];
         Self {
             ticks: 0,
             journals: 0,
-            rows: Counts::grid("rows of fsm.rs", Row::NAMES, &[""], row_never),
-            states: Counts::grid("end states", &STATES, &MODES, |state, _| {
-                (state == 0).then_some("every row leaves Idle")
-            }),
-            reasons: Counts::grid("reasons", &reason_names, &MODES, |reason, mode| match (reason, mode) {
-                (27, _) => Some("no row gives it"),
-                (1, 1) => Some("row 23 gives it in Observe alone"),
-                _ => None,
-            }),
-            fault_ticks: Counts::grid("fault ticks by the state they start from", &STATES, &MODES, |_, _| None),
-            guard_bits: Counts::of(
-                "guard bits",
-                &["128", "256", "128 + 256", "512", "128 + 512", "256 + 512", "128 + 256 + 512"],
-            ),
-            causes: Counts::of("guard causes, each alone", Cause::NAMES),
-            guard: Counts::of("about the guard", Guard::NAMES),
-            sources: Counts::grid("action sources", &["Policy", "Clamped", "Brake", "Hold"], &MODES, |source, mode| {
-                (mode == 0 && (source == 1 || source == 2)).then_some("Observe passes the policy row, or holds")
-            }),
-            actions: Counts::grid(
-                "brake and hold actions in Enforce",
-                &action_rows,
-                &[", dim below pos_dim", ", dim is pos_dim", ", dim above pos_dim"],
-                |_, _| None,
-            ),
-            sizes: Counts::grid("sizes", &dims, &pos_dims.each_ref().map(|d| d.as_str()), |_, _| None),
-            numbers: Counts::of("refusals", &["1", "2", "3", "4", "5", "6", "7", "8", "9", "10"]),
-            pairs: Counts::of("refusals with a later cause too", &pairs.iter().map(String::as_str).collect::<Vec<_>>()),
-            acks: Counts::grid(
-                "acknowledgements on ticks without a fault bit",
-                &ack_rows,
-                AckClass::NAMES,
-                |row, class| {
-                    (row / 3 == 0 && class == AckClass::NonceBelow as usize)
-                        .then_some("before a reset all nonces are 0")
-                },
-            ),
-            ack_more: Counts::of("acknowledgements against other lines", AckMore::NAMES),
-            ends: Counts::of("counters at their ends", End::NAMES),
-            limits: Counts::of("limits and masks", Limit::NAMES),
-            odd: Counts::of("odd floats", Odd::NAMES),
-            margins: Counts::of("printed margins", Margin::NAMES),
-            velocity: Counts::of("velocity", Velocity::NAMES),
-            scored: Counts::of("window, scores, chunks, marks", Scored::NAMES),
-            shapes: Counts::of("journals", Shape::NAMES),
+            rows: Counts::new("rows of fsm.rs")
+                .never(Row::R17bClamped, "clamping off never enters Clamped")
+                .never(Row::R19Watching, "entering Watching passes row 19, and nothing counts in Watching"),
+            states: Grid::new("end states", &STATES, &MODES).never("every row leaves Idle", |state, _| state == 0),
+            reasons: Grid::new("reasons", &reasons, &MODES)
+                .never("no row gives it", |reason, _| reason == 27)
+                .never("row 23 gives it in Observe alone", |reason, mode| (reason, mode) == (1, 1)),
+            fault_ticks: Grid::new("fault ticks by the state they start from", &STATES, &MODES),
+            guard_bits: Counts::new("guard bits"),
+            causes: Counts::new("guard causes, each alone"),
+            guard: Counts::new("about the guard"),
+            sources: Grid::new("action sources", &["Policy", "Clamped", "Brake", "Hold"], &MODES)
+                .never("Observe passes the policy row, or holds", |source, mode| mode == 0 && matches!(source, 1 | 2)),
+            actions: Grid::new("brake and hold actions in Enforce", &actions, &relations),
+            sizes: Grid::new("sizes", &dims.map(|n| format!("dim {n}")), &dims.map(|n| format!(", pos_dim {n}"))),
+            numbers: Counts::new("refusals"),
+            pairs: Grid::new("refusals with a later cause too", &PAIRS.map(|(a, b)| format!("{a} before {b}")), &[""]),
+            acks: Grid::new("acknowledgements on ticks without a fault bit", &acks, AckClass::NAMES)
+                .never("before a reset all nonces are 0", |row, class| {
+                    row < 3 && class == AckClass::NonceBelow as usize
+                }),
+            ack_more: Counts::new("acknowledgements against other lines"),
+            ends: Counts::new("counters at their ends"),
+            limits: Counts::new("limits and masks"),
+            odd: Counts::new("odd floats"),
+            margins: Counts::new("printed margins"),
+            velocity: Counts::new("velocity"),
+            scored: Counts::new("window, scores, chunks, marks"),
+            shapes: Counts::new("journals"),
             now: Memory::default(),
         }
     }
 
-    fn groups(&self) -> [&Counts; 21] {
+    fn groups(&self) -> [&Group; 21] {
         [
-            &self.rows,
-            &self.states,
-            &self.reasons,
-            &self.fault_ticks,
-            &self.guard_bits,
-            &self.causes,
-            &self.guard,
-            &self.sources,
-            &self.actions,
-            &self.sizes,
-            &self.numbers,
-            &self.pairs,
-            &self.acks,
-            &self.ack_more,
-            &self.ends,
-            &self.limits,
-            &self.odd,
-            &self.margins,
-            &self.velocity,
-            &self.scored,
-            &self.shapes,
+            &self.rows.group,
+            &self.states.group,
+            &self.reasons.group,
+            &self.fault_ticks.group,
+            &self.guard_bits.group,
+            &self.causes.group,
+            &self.guard.group,
+            &self.sources.group,
+            &self.actions.group,
+            &self.sizes.group,
+            &self.numbers.group,
+            &self.pairs.group,
+            &self.acks.group,
+            &self.ack_more.group,
+            &self.ends.group,
+            &self.limits.group,
+            &self.odd.group,
+            &self.margins.group,
+            &self.velocity.group,
+            &self.scored.group,
+            &self.shapes.group,
         ]
     }
 
@@ -176,7 +143,7 @@ impl Coverage {
 
     /// How many causes of refusal, and pairs of them, were reached.
     pub fn refusals_reached(&self) -> usize {
-        self.numbers.points.iter().chain(&self.pairs.points).filter(|point| point.reached > 0).count()
+        self.numbers.group.points.iter().chain(&self.pairs.group.points).filter(|point| point.reached > 0).count()
     }
 
     /// The points that were not reached though they can be, as `group: point`.
@@ -261,16 +228,17 @@ impl Coverage {
     }
 
     fn fault_tick(&mut self, k: &Ticked, causes: &[Cause]) {
+        use Cause::*;
         let bits = causes.iter().fold(0, |bits, cause| {
-            bits | match *cause as usize {
-                0..=4 => TripMask::NONFINITE,
-                22 => TripMask::WATCHDOG,
+            bits | match cause {
+                NanPos | NanVel | NanAux | NanExt | NanChunk => TripMask::NONFINITE,
+                Watchdog => TripMask::WATCHDOG,
                 _ => TripMask::SCHEMA,
             }
         });
         assert_eq!(bits, k.verdict.trips, "the guard finds other bits than this file's reading of it");
-        self.guard_bits.hit(((bits >> 7) - 1) as usize);
-        self.fault_ticks.hit(k.before.state as usize * 2 + usize::from(k.settings.mode));
+        self.guard_bits.hit_nth(Bits::N, (bits >> 7) as usize - 1);
+        self.fault_ticks.hit(k.before.state as usize, usize::from(k.settings.mode));
         if let [cause] = causes {
             self.causes.hit(*cause);
         }
@@ -292,6 +260,11 @@ impl Coverage {
     }
 
     fn clean_tick(&mut self, k: &Ticked) {
+        let (shown, given) = (k.verdict.brake_margin, k.input.outcome.margin);
+        assert!(
+            shown == given || shown.is_nan() && given.is_nan(),
+            "the guard finds a fault where this file finds none"
+        );
         let fault_bit = k.verdict.trips & (TripMask::NONFINITE | TripMask::SCHEMA | TripMask::WATCHDOG) != 0;
         self.guard_passes(k);
         self.motion(k);
@@ -359,7 +332,7 @@ impl Coverage {
         }
     }
 
-    /// Actions in Enforce, a fault tick's too.
+    /// The action of a clean tick in Enforce.
     fn enforced_action(&mut self, k: &Ticked) {
         let (s, v) = (k.settings, k.verdict);
         let action = &v.action[..usize::from(s.dim)];
@@ -581,8 +554,7 @@ impl Coverage {
             (Some(n), false) if ack.nonce > n => AckClass::Handoff,
             (Some(_), false) => AckClass::Several,
         };
-        let row = b.state as usize * 3 + ack.decision as usize;
-        self.acks.hit(row * AckClass::NAMES.len() + class as usize);
+        self.acks.hit(b.state as usize * 3 + ack.decision as usize, class as usize);
         if !matches!(class, AckClass::Accepted) {
             return;
         }
@@ -655,7 +627,7 @@ impl Coverage {
             (_, 2, _) => (Row::R22Armed, running),
             _ => (Row::StayClamped, 0),
         };
-        self.rows.hit(row as usize + nth);
+        self.rows.hit_nth(row, nth);
     }
 }
 
@@ -675,10 +647,10 @@ impl Observer for Coverage {
         let (s, v) = (k.settings, k.verdict);
         let mode = usize::from(s.mode);
         self.row(k);
-        self.states.hit(v.state as usize * 2 + mode);
-        self.reasons.hit(v.reason as usize * 2 + mode);
-        self.sources.hit(v.action_src as usize * 2 + mode);
-        self.sizes.hit(usize::from(s.dim - 1) * 8 + usize::from(s.pos_dim - 1));
+        self.states.hit(v.state as usize, mode);
+        self.reasons.hit(v.reason as usize, mode);
+        self.sources.hit(v.action_src as usize, mode);
+        self.sizes.hit(usize::from(s.dim) - 1, usize::from(s.pos_dim) - 1);
         self.counters(k);
         let causes = self.causes_of(k);
         if causes.is_empty() {
@@ -694,15 +666,15 @@ impl Observer for Coverage {
         };
         if mode == 1 {
             let relation = s.dim.cmp(&s.pos_dim) as i8 + 1;
-            self.actions.hit((usize::from(s.kind) * 3 + what) * 3 + relation as usize);
+            self.actions.hit(usize::from(s.kind) * 3 + what, relation as usize);
         }
     }
 
     fn refused(&mut self, causes: &[u8]) {
-        self.numbers.hit(usize::from(causes[0]) - 1);
+        self.numbers.hit_nth(Refused::R1, usize::from(causes[0]) - 1);
         for later in &causes[1..] {
             let pair = PAIRS.iter().position(|p| *p == (causes[0], *later));
-            self.pairs.hit(pair.expect("a pair of causes that is not listed"));
+            self.pairs.hit(pair.expect("a pair of causes that is not listed"), 0);
         }
     }
 

@@ -1,5 +1,7 @@
 //! The points of the coverage by name.
 
+use crate::counts::Named;
+
 /// A group whose points have names in the code too.
 macro_rules! points {
     ($group:ident { $($point:ident $text:literal),* $(,)? }) => {
@@ -7,14 +9,14 @@ macro_rules! points {
         #[allow(dead_code)] // some are reached by counting from another
         pub enum $group { $($point),* }
 
-        impl $group {
-            pub const NAMES: &'static [&'static str] = &[$($text),*];
-        }
-
         impl From<$group> for usize {
             fn from(point: $group) -> usize {
                 point as usize
             }
+        }
+
+        impl Named for $group {
+            const NAMES: &'static [&'static str] = &[$($text),*];
         }
     };
 }
@@ -48,15 +50,9 @@ points!(Row {
     Idle "Idle faults",
 });
 
-pub fn row_never(row: usize, _: usize) -> Option<&'static str> {
-    if row == Row::R17bClamped as usize {
-        Some("clamping off never enters Clamped")
-    } else if row == Row::R19Watching as usize {
-        Some("a tick that enters Watching has passed row 19, and nothing counts in Watching")
-    } else {
-        None
-    }
-}
+points!(Bits {
+    N "128", S "256", NS "128 + 256", W "512", NW "128 + 512", SW "256 + 512", NSW "128 + 256 + 512",
+});
 
 points!(Cause {
     NanPos "NONFINITE in pos", NanVel "in vel", NanAux "in aux", NanExt "in ext", NanChunk "in the chunk",
@@ -153,6 +149,10 @@ points!(Scored {
 points!(Shape {
     Empty "no record at all", NoTick "no tick", AfterReset "ticks, then a reset last", NoReset "ticks without a reset",
     LeftOver "records left over at the end", ThrownAway "reset throws records away",
+});
+
+points!(Refused {
+    R1 "1", R2 "2", R3 "3", R4 "4", R5 "5", R6 "6", R7 "7", R8 "8", R9 "9", R10 "10",
 });
 
 /// The pairs of causes that one record can have, in the table's order.

@@ -370,13 +370,13 @@ fn idle(rng: &Rng) -> Vec<Vec<u8>> {
     for _ in 0..6 {
         let mut draft = Draft::new(small(rng));
         let mix = Mix { guard: 200, outcome_fault: 200, soft: 200, ack: 500, ..CALM };
-        walk(&mut draft, rng, &mix, rng_len(rng));
+        walk(&mut draft, rng, &mix, few_ticks(rng));
         journals.push(draft.bytes);
     }
     journals
 }
 
-fn rng_len(rng: &Rng) -> usize {
+fn few_ticks(rng: &Rng) -> usize {
     rng.pick(&[0, 1, 1, 2, 5])
 }
 
@@ -384,7 +384,7 @@ fn resets(rng: &Rng) -> Vec<Vec<u8>> {
     let mut draft = Draft::new(small(rng));
     let mix = Mix { infeasible: 150, soft: 150, hit: 150, ack: 400, still: 900, reset_other: 50, ..CALM };
     for _ in 0..60 {
-        walk(&mut draft, rng, &mix, rng_len(rng));
+        walk(&mut draft, rng, &mix, few_ticks(rng));
         // Records that the next reset throws away.
         for _ in 0..rng.below(4) {
             let list = rng.below(5) as u8;
