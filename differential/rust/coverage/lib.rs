@@ -288,6 +288,7 @@ impl Coverage {
         guard.hit_if(Guard::Aux8, k.input.obs.aux.len() == 8);
         guard.hit_if(Guard::Ext4, k.input.obs.ext.len() == 4);
         guard.hit_if(Guard::FirstMissed, k.before.seq == 0 && missed > 0);
+        guard.hit_if(Guard::Chunk512, k.input.chunk.is_some_and(|c| c.data.len() == 512));
         guard.hit_if(Guard::IdxLast, k.input.idx > 0 && k.input.idx + 1 == k.settings.horizon);
     }
 
@@ -565,7 +566,8 @@ impl Coverage {
         let a = &mut self.ack_more;
         a.hit_if(AckMore::IgnoredLater, k.verdict.ack_consumed && self.now.ignored.contains(&same));
         a.hit_if(AckMore::Slot7, slot == 7 && k.verdict.ack_consumed);
-        a.hit_if(AckMore::NonceMax, ack.nonce > u64::from(u32::MAX) && k.verdict.ack_consumed);
+        a.hit_if(AckMore::NonceWide, ack.nonce > u64::from(u32::MAX) && k.verdict.ack_consumed);
+        a.hit_if(AckMore::NonceMax, ack.nonce == u64::MAX && k.verdict.ack_consumed);
         a.hit_if(AckMore::HandoffAbove255, ack.handoff_seq > 255 && k.verdict.ack_consumed);
         match b.state {
             FuseState::Held => {

@@ -66,6 +66,7 @@ points!(Cause {
 points!(Guard {
     AtLimit "missed is the watchdog limit: passes", Aux8 "8 aux: passes", Ext4 "4 ext: passes",
     FirstMissed "first tick with missed ticks: passes", IdxLast "idx is horizon - 1: passes",
+    Chunk512 "chunk of 512 values: passes",
     PosTaken "fault tick takes the position", PosNotFinite "fault tick, position not finite",
     PosLength "fault tick, position of wrong length", WithChunk "fault tick with a chunk",
     WithAck "fault tick with an acceptable ack", AckAndOutcomeFault "acceptable ack, fault bit from the outcome",
@@ -82,7 +83,7 @@ points!(AckMore {
     ResumeAtH "Resume as the hold limit is reached", AbortAtH "Abort as the hold limit is reached",
     RetuneAtH "Retune as the hold limit is reached: escalates", RetuneAndRearm "Retune as an automatic rearm is due",
     ResumeAndRearm "Resume as an automatic rearm is due", AtE "accepted as the handoff limit is reached",
-    IgnoredLater "accepted after the same ack was ignored", Slot7 "slot 7 accepted", NonceMax "nonce of 64 bits",
+    IgnoredLater "accepted after the same ack was ignored", Slot7 "slot 7 accepted", NonceWide "nonce above 32 bits", NonceMax "nonce 2^64 - 1",
     HandoffAbove255 "handoff number above 255",
 });
 

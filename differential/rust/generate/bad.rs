@@ -114,7 +114,7 @@ fn some(rng: &Rng) -> bool {
 }
 
 pub fn refusals(rng: &Rng) -> Vec<Vec<u8>> {
-    let cases: [fn(&Rng) -> Vec<u8>; 11] = [
+    let cases: [fn(&Rng) -> Vec<u8>; 12] = [
         unknown_kind,
         cut_record,
         before_settings,
@@ -126,6 +126,7 @@ pub fn refusals(rng: &Rng) -> Vec<Vec<u8>> {
         tick_lacks,
         settings_at_the_edge,
         lists_at_the_edge,
+        far_along,
     ];
     let mut journals: Vec<Vec<u8>> = cases.iter().map(|case| case(rng)).collect();
     for journal in &mut journals {
@@ -301,6 +302,19 @@ fn lists_at_the_edge(rng: &Rng) -> Vec<u8> {
     draft.outcome(&calm());
     draft.tick(Tick { t: 0, idx: rng.pick(&[0, 65535]), missed: 0, schema: 0, velocity: 1 });
     walk(&mut draft, rng, &CALM, 2);
+    draft.bytes
+}
+
+/// A refusal at a place above 16 bits.
+fn far_along(rng: &Rng) -> Vec<u8> {
+    let mut draft = Draft::new(small(rng));
+    draft.reset();
+    while draft.bytes.len() < 65536 {
+        walk(&mut draft, rng, &CALM, 10);
+    }
+    let bad = some(rng);
+    let record = any_record(rng, bad);
+    draft.bytes.extend_from_slice(&record[..rng.range(1, record.len())]);
     draft.bytes
 }
 

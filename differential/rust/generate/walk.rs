@@ -167,7 +167,7 @@ pub fn ack(draft: &Draft, rng: &Rng, good: u32) -> Ack {
     let used = rt.last_nonce.iter().position(|nonce| *nonce > 0);
     let slot = used.filter(|_| rng.chance(500)).unwrap_or(rng.below(8)) as u8;
     let stored = rt.last_nonce[usize::from(slot)];
-    let more = stored.saturating_add(rng.pick(&[1, 1, 2, 1000, 1 << 40]));
+    let more = stored.saturating_add(rng.pick(&[1, 1, 1, 2, 1000, 1 << 40, 1 << 63, u64::MAX]));
     let mut ack = Ack { decision: rng.pick(&[0, 0, 1, 2]), slot, nonce: more, handoff: rt.handoff_seq };
     if rng.chance(good) {
         return ack;
