@@ -55,10 +55,10 @@ def read_mutants(path: pathlib.Path) -> list:
     return mutants
 
 
-def build_mutant(mutant: Mutant, good: build.Builder, folder: pathlib.Path) -> pathlib.Path:
+def build_mutant(mutant: Mutant, good: build.Builder, folder: pathlib.Path, level: int) -> pathlib.Path:
     """The reference program with the change made. Crates that do not use the changed one are those of the good build."""
     shutil.rmtree(folder, ignore_errors=True)
-    builder = build.Builder(folder, ["-Copt-level=1", "-Awarnings"])
+    builder = build.Builder(folder, [f"-Copt-level={level}", "-Awarnings"])
     builder.made = dict(good.made)
     shutil.copytree(good.out / "src", folder / "src")
     shutil.copytree(build.HERE / "rust" / "reference", folder / "src" / "reference")
@@ -84,13 +84,15 @@ def differs(good: build.Builder, program: pathlib.Path, options: list):
     return None
 
 
-def noticed_by(good: build.Builder, program: pathlib.Path, samples: list, seeds: int):
-    """The samples first, then short journals, then the profiles that are run once, then more seeds."""
-    for options in (samples, ["--each", "--seeds", "2"], ["--once"], ["--each", "--seeds", str(seeds)]):
-        name = differs(good, program, options)
-        if name:
-            return name
-    return None
+def noticed_by(mutant: Mutant, good: build.Builder, folder: pathlib.Path, samples: list, seeds: int):
+    """The samples first, then short journals; where that is not enough the profiles that are run once, and more seeds,
+    with a program that is slower to build and faster to run."""
+    program = build_mutant(mutant, good, folder, 0)
+    name = differs(good, program, samples) or differs(good, program, ["--each", "--seeds", "1"])
+    if name:
+        return name
+    program = build_mutant(mutant, good, folder, 2)
+    return differs(good, program, ["--once"]) or differs(good, program, ["--each", "--seeds", str(seeds)])
 
 
 def main() -> int:
@@ -116,12 +118,11 @@ def main() -> int:
         if given.only and mutant.number not in given.only or mutant.number < given.start:
             continue
         try:
-            program = build_mutant(mutant, good, folder)
+            name = noticed_by(mutant, good, folder, samples, given.seeds)
         except (build.BuildError, edits.EditError) as what:
             print(f"BROKEN   {mutant.title()}\n{what}", flush=True)
             wrong += 1
             continue
-        name = noticed_by(good, program, samples, given.seeds)
         if name and not mutant.same:
             counts["noticed"] += 1
             counts["by the samples"] += (stored / f"{name}.journal").exists()

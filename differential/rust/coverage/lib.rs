@@ -237,7 +237,7 @@ impl Coverage {
             }
         });
         assert_eq!(bits, k.verdict.trips, "the guard finds other bits than this file's reading of it");
-        self.guard_bits.hit_nth(Bits::N, (bits >> 7) as usize - 1);
+        self.guard_bits.hit_nth(Bits::B1, (bits >> 7) as usize - 1);
         self.fault_ticks.hit(k.before.state as usize, usize::from(k.settings.mode));
         if let [cause] = causes {
             self.causes.hit(*cause);
@@ -265,19 +265,21 @@ impl Coverage {
             shown == given || shown.is_nan() && given.is_nan(),
             "the guard finds a fault where this file finds none"
         );
-        let fault_bit = k.verdict.trips & (TripMask::NONFINITE | TripMask::SCHEMA | TripMask::WATCHDOG) != 0;
         self.guard_passes(k);
         self.motion(k);
         self.scores(k);
-        self.limits_and_masks(k, fault_bit);
+        self.window(k);
+        self.chunks_and_marks(k);
         self.margin(k.verdict.brake_margin);
-        if k.input.ack.is_some() {
-            if fault_bit {
-                let here = acceptable(k) && hears(k.before.state);
-                self.guard.hit_if(Guard::AckAndOutcomeFault, here);
-            } else {
-                self.ack(k);
-            }
+        let o = k.input.outcome;
+        let given = o.trips | if o.feasible { 0 } else { TripMask::BRAKE };
+        let kept = given & (k.settings.tier0_enabled | TripMask::TIER0_HARD);
+        self.masks(k, kept, given & !kept);
+        if fault_bit(kept) {
+            self.guard.hit_if(Guard::AckAndOutcomeFault, acceptable(k) && hears(k.before.state));
+        } else {
+            self.by_state(k, kept);
+            self.ack(k);
         }
     }
 
@@ -385,7 +387,10 @@ impl Coverage {
         odd.hit_if(Odd::MaxZNan, k.after.tally.max_z.iter().any(|z| z.is_nan()));
         let live = s.calib_mask & v.scores.valid;
         odd.hit_if(Odd::ZDead, (0..12).any(|j| live & 1 << j == 0 && o.z[j] != 0.0));
+    }
 
+    fn window(&mut self, k: &Ticked) {
+        let (s, v, o) = (k.settings, k.verdict, k.input.outcome);
         let scored = &mut self.scored;
         let top = 1 << 63;
         scored.hit_if(Scored::Bit63, k.after.window.bits & top != 0);
@@ -398,101 +403,111 @@ impl Coverage {
         scored.hit_if(Scored::ValidUncalibrated, s.calib_mask == 0 && o.valid != 0);
         scored.hit_if(Scored::FiredDead, o.fired & !o.valid & 0xfff != 0);
         scored.hit_if(Scored::FiredHigh, o.fired >> 12 != 0);
+        let limits = &mut self.limits;
+        limits.hit_if(Limit::K0, s.k == 0 && v.reason == ReasonCode::BrakeTier1Cp);
+        limits.hit_if(Limit::KAbove64, s.k > 64 && v.window_hits == 64);
+        limits.hit_if(Limit::KEqual, s.k == v.window_hits && v.reason == ReasonCode::BrakeTier1Cp);
+        limits.hit_if(Limit::KOneShort, s.k == v.window_hits + 1 && v.window_hits > 0 && running(k.before.state));
+    }
+
+    fn chunks_and_marks(&mut self, k: &Ticked) {
+        let (v, o, tally) = (k.verdict, k.input.outcome, &k.after.tally);
+        let scored = &mut self.scored;
         scored.hit_if(Scored::ClampedDims, o.clamped_dims != 0 && v.state != FuseState::Clamped);
         if k.input.chunk.is_some() {
             let rejected = v.trips & TripMask::TIER0_HARD != 0;
-            let fault_bit = v.trips & (TripMask::TIER0_HARD & !TripMask::BRAKE) != 0;
             scored.hit(if rejected { Scored::Rejected } else { Scored::Accepted });
             scored.hit_if(Scored::ChunkInFault, k.before.state == FuseState::Fault);
             scored.hit_if(Scored::ChunkInTerminated, k.before.state == FuseState::Terminated);
             scored.hit_if(Scored::FilledByIdle, k.before.state == FuseState::Idle);
-            scored.hit_if(Scored::FilledByFaultBit, fault_bit && !k.before.filled);
+            scored.hit_if(Scored::FilledByFaultBit, fault_bit(v.trips) && !k.before.filled);
         }
-        let tally = &k.after.tally;
         let first = tally.first_trip_tick == Some(v.t) && v.trips != 0;
         let plain = matches!(v.reason, ReasonCode::HeldStandstill | ReasonCode::Stopping);
         scored.hit_if(Scored::FirstTripPlain, first && plain);
-        let escalates = v.handoff_seq.is_some();
-        scored.hit_if(Scored::HandoffTwice, escalates && tally.escalations > 1);
+        scored.hit_if(Scored::HandoffTwice, v.handoff_seq.is_some() && tally.escalations > 1);
     }
 
-    fn limits_and_masks(&mut self, k: &Ticked, fault_bit: bool) {
-        let (s, b, v, o) = (k.settings, k.before, k.verdict, k.input.outcome);
-        let given = o.trips | if o.feasible { 0 } else { TripMask::BRAKE };
-        let kept = given & (s.tier0_enabled | TripMask::TIER0_HARD);
-        let masked = given & !kept;
-        let hit = o.s > s.tau;
-        let warn = !hit && o.s > s.tau - s.warn_margin;
-        let chunk = k.input.chunk.is_some();
-        let running = matches!(b.state, FuseState::Armed | FuseState::Watching | FuseState::Clamped);
-        let by = v.reason;
-        let l = &mut self.limits;
-        l.hit_if(Limit::MaskedSoft, masked & TripMask::TIER0_SOFT != 0 && running);
-        l.hit_if(Limit::MaskedChunkOk, masked != 0 && k.after.chunk_ok_this_tick);
-        l.hit_if(Limit::HardUnmasked, s.tier0_enabled == 0 && kept != 0);
-        l.hit_if(Limit::StrayKept, kept >> 16 != 0);
-        l.hit_if(Limit::StrayMasked, masked >> 16 != 0);
-        l.hit_if(Limit::K0, s.k == 0 && by == ReasonCode::BrakeTier1Cp);
-        l.hit_if(Limit::KAbove64, s.k > 64 && v.window_hits == 64);
-        l.hit_if(Limit::KEqual, s.k == v.window_hits && by == ReasonCode::BrakeTier1Cp);
-        l.hit_if(Limit::KOneShort, s.k == v.window_hits + 1 && v.window_hits > 0 && running);
-        if fault_bit {
-            return;
-        }
-        match b.state {
+    fn masks(&mut self, k: &Ticked, kept: u32, masked: u32) {
+        let limits = &mut self.limits;
+        let soft = masked & TripMask::TIER0_SOFT != 0;
+        limits.hit_if(Limit::MaskedSoft, soft && running(k.before.state));
+        limits.hit_if(Limit::MaskedChunkOk, masked != 0 && k.after.chunk_ok_this_tick);
+        limits.hit_if(Limit::HardUnmasked, k.settings.tier0_enabled == 0 && kept != 0);
+        limits.hit_if(Limit::StrayKept, kept >> 16 != 0);
+        limits.hit_if(Limit::StrayMasked, masked >> 16 != 0);
+    }
+
+    /// Limits by the state that the tick starts from; no fault bit came. `kept` are the trips after the mask.
+    fn by_state(&mut self, k: &Ticked, kept: u32) {
+        let (s, v) = (k.settings, k.verdict);
+        match k.before.state {
             FuseState::Braking => {
-                l.hit_if(Limit::B0, s.brake == 0);
+                self.limits.hit_if(Limit::B0, s.brake == 0);
                 if v.state == FuseState::Held {
                     let which = [Limit::Confirm0, Limit::Confirm1, Limit::ConfirmMore];
-                    l.hit(which[usize::from(s.confirm.min(2))]);
+                    self.limits.hit(which[usize::from(s.confirm.min(2))]);
                 }
             }
-            FuseState::Held => {
-                let due = s.rearm == 0 && b.held_clean >= s.rearm_hold && b.rearms < s.max_rearms;
-                l.hit_if(Limit::ChunkNotOk, due && chunk && kept != 0 && v.state == FuseState::Held);
-                let budget = by == ReasonCode::EscalateRearmBudget;
-                l.hit_if(Limit::MaxRearms0, budget && s.max_rearms == 0);
-                l.hit_if(Limit::Budget, budget && s.max_rearms > 0 && k.after.last_nonce != [0; 8]);
-                l.hit_if(Limit::AckOnlyBudget, budget && s.rearm == 1);
-                l.hit_if(Limit::H0, s.hold == 0 && v.state == FuseState::Escalated);
-                if by == ReasonCode::RearmedAuto {
-                    l.hit_if(Limit::RearmHold0, s.rearm_hold == 0);
-                    l.hit_if(Limit::RearmPredictive, v.window_hits >= s.k);
-                    l.hit_if(Limit::RearmDirty, warn);
-                    self.ends.hit_if(End::RearmLast, b.held_clean == u16::MAX);
-                    self.ends.hit_if(End::Auto255, k.after.rearms == 255);
-                }
+            FuseState::Held => self.held(k, kept),
+            FuseState::Escalated => {
+                let timeout = v.reason == ReasonCode::TerminatedTimeout;
+                self.limits.hit_if(Limit::E0, s.handoff == 0 && timeout);
             }
-            FuseState::Escalated => l.hit_if(Limit::E0, s.handoff == 0 && by == ReasonCode::TerminatedTimeout),
-            FuseState::Armed | FuseState::Watching | FuseState::Clamped => {
-                let streak = b.clamp_streak >= s.streak;
-                let clamps = b.clamps > s.max_clamps;
-                if by == ReasonCode::BrakeClampBudget {
-                    l.hit_if(Limit::Streak0, s.streak == 0);
-                    l.hit_if(Limit::Clamps0, s.max_clamps == 0 && !streak);
-                    l.hit(match (streak, clamps) {
-                        (true, false) => Limit::ByStreak,
-                        (false, _) => Limit::ByClamps,
-                        (true, true) => Limit::ByBoth,
-                    });
-                    l.hit_if(Limit::ResumeKeepsClamps, self.now.resumed_with_clamps && clamps);
-                    self.ends.hit_if(End::ClampsOver, s.max_clamps == 65534);
-                }
-                let cleared = b.state != FuseState::Armed && v.state == FuseState::Armed;
-                l.hit_if(Limit::Clear0, cleared && s.clear == 0);
-                l.hit_if(Limit::ClearDirty, cleared && (warn || v.window_hits > 0));
-                let clamped = v.state == FuseState::Clamped && by != ReasonCode::Ok;
-                l.hit_if(Limit::StreakNoChunk, clamped && !chunk);
-                let kept_streak = chunk && kept == 0 && b.clamp_streak > 0 && k.after.clamp_streak > 0;
-                l.hit_if(Limit::StreakKept, kept_streak && v.state == FuseState::Clamped);
-                self.ends.hit_if(End::Clamps, clamped && b.clamps == u16::MAX);
-            }
+            state if running(state) => self.running(k, kept),
             _ => {}
         }
-        self.now.resumed_with_clamps = match by {
-            ReasonCode::RearmedAck => b.clamps > 0,
+        self.now.resumed_with_clamps = match v.reason {
+            ReasonCode::RearmedAck => k.before.clamps > 0,
             _ => self.now.resumed_with_clamps && v.state == FuseState::Armed,
         };
+    }
+
+    fn held(&mut self, k: &Ticked, kept: u32) {
+        let (s, b, v) = (k.settings, k.before, k.verdict);
+        let limits = &mut self.limits;
+        let due = s.rearm == 0 && b.held_clean >= s.rearm_hold && b.rearms < s.max_rearms;
+        let blocked = k.input.chunk.is_some() && kept != 0 && v.state == FuseState::Held;
+        limits.hit_if(Limit::ChunkNotOk, due && blocked);
+        let budget = v.reason == ReasonCode::EscalateRearmBudget;
+        limits.hit_if(Limit::MaxRearms0, budget && s.max_rearms == 0);
+        limits.hit_if(Limit::Budget, budget && s.max_rearms > 0 && k.after.last_nonce != [0; 8]);
+        limits.hit_if(Limit::AckOnlyBudget, budget && s.rearm == 1);
+        limits.hit_if(Limit::H0, s.hold == 0 && v.state == FuseState::Escalated);
+        if v.reason == ReasonCode::RearmedAuto {
+            limits.hit_if(Limit::RearmHold0, s.rearm_hold == 0);
+            limits.hit_if(Limit::RearmPredictive, v.window_hits >= s.k);
+            limits.hit_if(Limit::RearmDirty, warns(k));
+            self.ends.hit_if(End::RearmLast, b.held_clean == u16::MAX);
+            self.ends.hit_if(End::Auto255, k.after.rearms == 255);
+        }
+    }
+
+    fn running(&mut self, k: &Ticked, kept: u32) {
+        let (s, b, v) = (k.settings, k.before, k.verdict);
+        let limits = &mut self.limits;
+        let chunk = k.input.chunk.is_some();
+        let streak = b.clamp_streak >= s.streak;
+        let clamps = b.clamps > s.max_clamps;
+        if v.reason == ReasonCode::BrakeClampBudget {
+            limits.hit_if(Limit::Streak0, s.streak == 0);
+            limits.hit_if(Limit::Clamps0, s.max_clamps == 0 && !streak);
+            limits.hit(match (streak, clamps) {
+                (true, false) => Limit::ByStreak,
+                (false, _) => Limit::ByClamps,
+                (true, true) => Limit::ByBoth,
+            });
+            limits.hit_if(Limit::ResumeKeepsClamps, self.now.resumed_with_clamps && clamps);
+            self.ends.hit_if(End::ClampsOver, s.max_clamps == 65534);
+        }
+        let cleared = b.state != FuseState::Armed && v.state == FuseState::Armed;
+        limits.hit_if(Limit::Clear0, cleared && s.clear == 0);
+        limits.hit_if(Limit::ClearDirty, cleared && (warns(k) || v.window_hits > 0));
+        let clamped = v.state == FuseState::Clamped && v.reason != ReasonCode::Ok;
+        limits.hit_if(Limit::StreakNoChunk, clamped && !chunk);
+        let kept_streak = chunk && kept == 0 && b.clamp_streak > 0 && k.after.clamp_streak > 0;
+        limits.hit_if(Limit::StreakKept, kept_streak && v.state == FuseState::Clamped);
+        self.ends.hit_if(End::Clamps, clamped && b.clamps == u16::MAX);
     }
 
     fn counters(&mut self, k: &Ticked) {
@@ -692,6 +707,20 @@ impl Observer for Coverage {
 
 fn is_neg_zero(x: f64) -> bool {
     x == 0.0 && x.is_sign_negative()
+}
+
+fn fault_bit(trips: u32) -> bool {
+    trips & (TripMask::NONFINITE | TripMask::SCHEMA | TripMask::WATCHDOG) != 0
+}
+
+fn running(state: FuseState) -> bool {
+    matches!(state, FuseState::Armed | FuseState::Watching | FuseState::Clamped)
+}
+
+/// The score is in the watch band.
+fn warns(k: &Ticked) -> bool {
+    let (s, score) = (k.settings, k.input.outcome.s);
+    score > s.tau - s.warn_margin && !(score > s.tau)
 }
 
 /// The states that listen to acknowledgements.
