@@ -28,7 +28,7 @@ use Rattle.lictor_table.proofs.Lines.{by-test, and-l, and-r, Running, a
 
 -- ---- states
 
--- the states that a tick can end in, by the one that it starts from; a fault bit leads to Fault from each
+-- the states that a tick can end in, by the one that it starts from (Idle, Armed and so on, in the order of the source); a fault bit leads to Fault from each
 abbrev pub mayEnd : FuseState → FuseState → Bool
 mayEnd from q =
     isState Fault q
