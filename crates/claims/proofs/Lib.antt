@@ -7,3 +7,4 @@ pub mod Demand3
 pub mod Flag
 pub mod ClockEnd
 pub mod Tallies
+pub mod Limit

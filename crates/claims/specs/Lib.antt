@@ -5,3 +5,4 @@ pub mod Demand3
 pub mod Flag
 pub mod ClockEnd
 pub mod Tallies
+pub mod Limit
