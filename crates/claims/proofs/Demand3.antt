@@ -38,7 +38,7 @@ use Rattle.claims.proofs.Rows.{armIn, arm-law, floorIn, storedIn, store
 use Rattle.claims.proofs.Tick.{by-step, by-guard, guard-faults, decided, foundOf, cleanTurn, faultTurn}
 
 -- the state that the machine answers is the one that it stores
-settled : (cfg : FuseConfig) (rt : Control) (pos : List Float) (inp : FsmInput) → nextOf cfg rt pos inp .rt .state ≡ nextOf cfg rt pos inp .state
+pub settled : (cfg : FuseConfig) (rt : Control) (pos : List Float) (inp : FsmInput) → nextOf cfg rt pos inp .rt .state ≡ nextOf cfg rt pos inp .state
 unfolding nextOf nextFrom settledOf
 settled cfg rt pos inp = refl
 

@@ -4,5 +4,7 @@ pub mod Law
 pub mod Rows
 pub mod Tick
 pub mod Demand3
+pub mod Flag
 pub mod ClockEnd
 pub mod Tallies
+pub mod Limit

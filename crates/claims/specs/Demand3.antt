@@ -81,9 +81,13 @@ limit s = B s + H s + E s + 2
 
 -- ---- the four parts
 
--- once braking began, one of the next B + H + E + 2 ticks ends in Armed, Fault or Terminated, if the list goes that far
+-- once braking began, one of the next n ticks ends in Armed, Fault or Terminated, if the list goes that far
+abbrev pub StopsWithin : ℕ → List Seen → Type 0
+StopsWithin n l = Each (λ x after. T (begins x) → n ≤ length after → Some (λ y. T (closes y)) (take n after)) l
+
+-- one of the next B + H + E + 2
 abbrev pub Stops : Settings → List Seen → Type 0
-Stops s l = Each (λ x after. T (begins x) → limit s ≤ length after → Some (λ y. T (closes y)) (take (limit s) after)) l
+Stops s l = StopsWithin (limit s) l
 
 -- after a tick that ends in Fault every later one does
 abbrev pub Faults : List Seen → Type 0

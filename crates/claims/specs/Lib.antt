@@ -2,5 +2,7 @@
 pub mod Runs
 pub mod Calls
 pub mod Demand3
+pub mod Flag
 pub mod ClockEnd
 pub mod Tallies
+pub mod Limit

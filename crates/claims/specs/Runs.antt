@@ -31,6 +31,11 @@ module _ {A : Type 0} where
   First P (suc zero) (x ∷ l) = P x
   First P (suc (suc n)) (x ∷ l) = (¬ P x) × First P (suc n) l
 
+  -- n elements by their number, from i on
+  abbrev pub series : (ℕ → A) → ℕ → ℕ → List A
+  series f i zero = []
+  series f i (suc n) = f i ∷ series f (suc i) n
+
   -- the sum of a number of each element
   abbrev pub total : (A → ℕ) → List A → ℕ
   total f [] = 0

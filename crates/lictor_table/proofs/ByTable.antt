@@ -20,22 +20,18 @@ use Rattle.lictor_table.specs.Helpers.{acceptedAck, cleanOf, countRun, t
 use Rattle.lictor_table.specs.Rows.{faultRow, rearmAck, resumeRow, terminateRow, timeoutRow, waitRow, waitingOf, escalatedOf, mayRearm, rearmRow, escalateRow, holdRow, holdingOf, heldOf, confirmedOf, standstillRow, stoppingRow, brakingOf, enterBraking, brakeRow, unclampableOf, overBudget, clampRow, clearedOf, clearRow, watchedOf, quietOf, runningOf, byFrom, transitionOf, nextByRows}
 use Rattle.lictor_table.specs.Table.{Facts, firstOf, table, nextFrom, nextOf}
 
--- an acknowledgement by its fields: what goes by the decision goes by the first
-abbrev pub given : AckDecision → ℕ → ℕ → ℕ → MaybeAck
-given d slot nonce seq = Given (record { decision = d; «operator_slot» = slot; nonce = nonce; «handoff_seq» = seq })
-
 module _ (none : Turn) (cfg : FuseConfig) (rt : Control) (pos : List Float) (clean : Bool) (inp : FsmInput) where
   abbrev Says : FuseState → MaybeAck → Type 0
   Says from ack =
       transitionOf cfg rt pos from clean ack inp ≡ firstOf none table (record { cfg = cfg; rt = rt; pos = pos; from = from; clean = clean; ack = ack; inp = inp })
 
-  held-says : (d : AckDecision) (slot nonce seq : ℕ) → Says Held (given d slot nonce seq)
+  held-says : (d : AckDecision) (slot nonce seq : ℕ) → Says Held (Given (record { decision = d; «operator_slot» = slot; nonce = nonce; «handoff_seq» = seq }))
   unfolding transitionOf byFrom faultRow firstOf table heldOf resumeRow terminateRow rearmAck holdingOf mayRearm rearmRow escalateRow holdRow
   held-says Resume slot nonce seq = refl
   held-says Abort slot nonce seq = refl
   held-says Retune slot nonce seq = refl
 
-  escalated-says : (d : AckDecision) (slot nonce seq : ℕ) → Says Escalated (given d slot nonce seq)
+  escalated-says : (d : AckDecision) (slot nonce seq : ℕ) → Says Escalated (Given (record { decision = d; «operator_slot» = slot; nonce = nonce; «handoff_seq» = seq }))
   unfolding transitionOf byFrom faultRow firstOf table escalatedOf resumeRow terminateRow rearmAck
   escalated-says Resume slot nonce seq = refl
   escalated-says Abort slot nonce seq = refl
