@@ -7,6 +7,9 @@ use lib.IntN.{pos}
 use lib.ListN.{getD, set}
 use lib.Ieee.{Float, nan, inf, fin, binary64, ofBits, toBits}
 use Rattle.fmath.specs.Root.{rootOf}
+use Rattle.report.specs.Margin.{marginOf}
+use Rattle.report.specs.Lines.{marginText}
+use Rattle.text.specs.Ascii.{ascii}
 use Rattle.lictor_core.specs.declared.ack.AckDecision.{AckDecision}
 use Rattle.lictor_core.specs.declared.ack.AckDecision.the-variants.{Resume, Abort, Retune}
 use Rattle.lictor_core.specs.declared.ack.MaybeAck.{MaybeAck}
@@ -179,4 +182,7 @@ starred =
     ∷ ending (tick (limits 2 5 5) (started Armed 0) 0 0 NoAck 896) is (7 ∷ 896 ∷ 17 ∷ [])
     -- the root of 2.25 is 1.5, by their bits
     ∷ (toBits binary64 (rootOf (ofBits binary64 0x4002_0000_0000_0000)) ∷ []) is (0x3ff8_0000_0000_0000 ∷ [])
+    -- margin 0.0625 prints 63, and -0.0625 prints -63
+    ∷ marginText (marginOf (ofBits binary64 0x3fb0_0000_0000_0000)) is ascii "63"
+    ∷ marginText (marginOf (ofBits binary64 0xbfb0_0000_0000_0000)) is ascii "-63"
     ∷ []
