@@ -1,15 +1,15 @@
 -- What one tick makes of each counter: the proof of specs/Counters, by the rows of the transition table; and what follows at each end.
-use mathlib.Core.Path.{_≡_, refl, sym, subst, _∙_, ap}
-use mathlib.Core.Bool.{Bool, true, false, cond, not, _&&_, _||_}
+use mathlib.Core.Path.{_≡_, refl}
+use mathlib.Core.Bool.{Bool, true, false, cond}
 use mathlib.Core.List.{List}
-use Prim.Native.Nat.{ℕ, _+_, _-_, _%_, _^_, _≤_, _<_}
-use native.Mathlib.Omega.{arith}
 use mathlib.Core.Logic.{_⊎_, inl, inr}
+use Prim.Native.Nat.{ℕ, _+_, _-_, _^_, _≤_, _<_}
+use native.Mathlib.Omega.{arith}
+use native.Mathlib.Nat.{mod-self}
+use borrow.Author.Tests.{eq-eqb}
 use lib.Dec.{T, T-not, eqb}
 use lib.Ieee.{Float}
 use lib.Pow.{pow-pos}
-use native.Mathlib.Nat.{mod-self}
-use borrow.Author.Tests.{eq-eqb}
 use Rattle.lictor_core.specs.declared.ack.AckDecision.{AckDecision}
 use Rattle.lictor_core.specs.declared.ack.AckDecision.the-variants.{Resume, Abort, Retune}
 use Rattle.lictor_core.specs.declared.ack.MaybeAck.{MaybeAck}
@@ -21,11 +21,12 @@ use Rattle.lictor_core.specs.declared.fuse.FuseRt.{FuseRt}
 use Rattle.lictor_core.specs.declared.reason.ReasonCode.{ReasonCode}
 use Rattle.lictor_core.specs.declared.state.FuseState.{FuseState}
 use Rattle.lictor_core.specs.declared.state.FuseState.the-variants.{Idle, Armed, Watching, Clamped, Braking, Held, Escalated, Fault, Terminated}
-use Rattle.lictor_core.specs.Cases.{byState, byAck, byDecision}
+use Rattle.lictor_core.specs.Cases.{byDecision}
 use Rattle.lictor_core.specs.Masks.{anyOf, faultBits}
-use Rattle.lictor_core.specs.Num.{satUp, wrapUp}
+use Rattle.lictor_core.specs.Num.{wrapUp}
 use Rattle.lictor_core.specs.Settings.{configOf}
-use Rattle.lictor_stages.specs.Judge.{judgeOf, machineInput}
+use Rattle.lictor_stages.specs.Judge.{machineInput}
+use Rattle.lictor_stages.specs.Verdict.{eventsOf, noEvents}
 use Rattle.lictor_table.specs.declared.FsmInput.{FsmInput}
 use Rattle.lictor_table.specs.declared.Turn.{Turn}
 use Rattle.lictor_table.specs.Helpers.{countIf, upIf, consumeNonce, latchHold, acceptedAck, cleanOf, countRun, settledOf}
@@ -34,14 +35,13 @@ use Rattle.lictor_table.specs.Table.{nextOf}
 use Rattle.lictor_table.proofs.ByTable.{tells}
 use Rattle.lictor_table.proofs.Lines.{by-test}
 use Rattle.lictor_tally.specs.declared.TickEvents.{TickEvents}
-use Rattle.lictor_stages.specs.Verdict.{eventsOf, noEvents}
 use Rattle.lictor_fuse.specs.declared.tick.Decided.{Decided}
 use Rattle.lictor_fuse.specs.declared.tick.Ticked.{Ticked}
 use Rattle.lictor_fuse.specs.Tick.{readyOf, nextChunk, cleanClock, faultClock, closedOf, closeClean, cleanTick, closeFault, faultTick, givenOf}
 use Rattle.claims.specs.Calls.{Call, accepted, answerOf, guardBits}
 use Rattle.claims.specs.Tallies.{turnOf, itemOf}
-use Rattle.claims.specs.Counters.{Rises, stays, rises, Counts, kept, counted, cleared, Numbers, same, next, MachineCounts, ClockCounts, CountersGo, CountersTold}
-use Rattle.claims.proofs.Tick.{by-call, by-guard, decided, foundOf, cleanTurn, faultTurn}
+use Rattle.claims.specs.Counters.{Rises, stays, rises, Counts, kept, counted, cleared, Numbers, same, next, MachineCounts, ClockCounts, CountersTold}
+use Rattle.claims.proofs.Tick.{by-call, by-guard, decided, foundOf, cleanTurn}
 
 -- ---- one row
 
