@@ -1,6 +1,6 @@
 -- The end of the clock: the proofs of specs/ClockEnd.
 use mathlib.Core.Path.{_≡_, refl, _∙_}
-use mathlib.Core.Bool.{Bool, true, false, cond, not, _||_}
+use mathlib.Core.Bool.{Bool, true, false, not, _||_}
 use mathlib.Core.List.{List}
 use Prim.Native.Nat.{ℕ, _+_, _≤_, _<_}
 use native.Mathlib.Omega.{arith}
@@ -25,7 +25,7 @@ use Rattle.lictor_fuse.specs.declared.tick.Decided.{Decided}
 use Rattle.lictor_fuse.specs.declared.tick.Ticked.{Ticked}
 use Rattle.lictor_fuse.specs.Tick.{closedOf, closeFault, faultTick, givenOf}
 use Rattle.claims.specs.Calls.{Call, accepted, answerOf, guardBits}
-use Rattle.claims.specs.ClockEnd.{lastTime, SchemaFault, PastTheEnd, ClockEnds}
+use Rattle.claims.specs.ClockEnd.{lastTime, PastTheEnd, ClockEnds}
 use Rattle.claims.proofs.Tick.{by-call, by-guard, decided, faultTurn, guard-faults}
 
 -- past the end no t meets the sum

@@ -1,10 +1,10 @@
 -- Demand 3: every tick meets the laws of `Law`, so every list of calls meets the claim (specs/Demand3).
-use mathlib.Core.Path.{_≡_, refl, sym, subst, ap, _∙_}
+use mathlib.Core.Path.{_≡_, refl, sym, subst, _∙_}
 use mathlib.Core.Bool.{Bool, true, false, cond, not, _||_}
 use mathlib.Core.List.{List, [], _∷_}
 use Prim.Native.Nat.{ℕ, _-_, _≤_}
 use native.Mathlib.Omega.{arith}
-use lib.Dec.{T, T-not, eqb}
+use lib.Dec.{T, eqb}
 use lib.ListN.{length}
 use lib.Ieee.{Float}
 use Rattle.lictor_core.specs.declared.ack.MaybeAck.{MaybeAck}
@@ -16,25 +16,22 @@ use Rattle.lictor_core.specs.declared.fuse.FuseRt.{FuseRt}
 use Rattle.lictor_core.specs.declared.state.FuseState.{FuseState}
 use Rattle.lictor_core.specs.Initial.{freshControl, resetOf}
 use Rattle.lictor_core.specs.Masks.{anyOf, faultBits}
-use Rattle.lictor_core.specs.Settings.{checkOf, configOf}
+use Rattle.lictor_core.specs.Settings.{configOf}
 use Rattle.lictor_stages.specs.Judge.{judgeOf, machineInput, faultInput}
 use Rattle.lictor_stages.specs.Verdict.{verdictOf, faultVerdict}
 use Rattle.lictor_table.specs.declared.FsmInput.{FsmInput}
-use Rattle.lictor_table.specs.declared.Turn.{Turn}
 use Rattle.lictor_table.specs.Consumed.{takenIn, consumedOf}
 use Rattle.lictor_table.specs.Helpers.{acceptedAck, settledOf}
 use Rattle.lictor_table.specs.Table.{nextFrom, nextOf}
-use Rattle.lictor_table.proofs.Lines.{by-test}
 use Rattle.lictor_table.proofs.Stops.{StopLaw, stop-law, nonce-law, fresh-law}
 use Rattle.lictor_fuse.specs.declared.tick.Decided.{Decided}
-use Rattle.lictor_fuse.specs.declared.tick.Ticked.{Ticked}
-use Rattle.lictor_fuse.specs.Tick.{isAccepted, readyOf, closedOf, closeClean, cleanTick, closeFault, faultTick, givenOf, refusedTick}
-use Rattle.claims.specs.Runs.{All, total, Step, trace}
-use Rattle.claims.specs.Calls.{Call, Under, accepted, guardBits, tripsOf, bitsOf, ackOf, tookOf, Seen, seenOf, stepBy, stepOf, ticksFrom}
-use Rattle.claims.specs.Demand3.{maxRearms, Sized, rearms, Stops, Faults, Rearms, Acks, Demand3, StopsClose}
+use Rattle.lictor_fuse.specs.Tick.{readyOf, closedOf, closeClean, cleanTick, closeFault, faultTick, givenOf}
+use Rattle.claims.specs.Runs.{All, total, Step}
+use Rattle.claims.specs.Calls.{Call, Under, guardBits, tripsOf, bitsOf, ackOf, tookOf, Seen, seenOf, stepOf, ticksFrom}
+use Rattle.claims.specs.Demand3.{maxRearms, Sized, rearms, Stops, Faults, Acks, StopsClose}
 use Rattle.claims.proofs.Runs.{Run, Meets, runs}
 use Rattle.claims.proofs.Law.{Arm, ArmLaw, NonceLaw, stops-by, faults-by, rearms-by, acks-by}
-use Rattle.claims.proofs.Rows.{armIn, arm-law, floorIn, storedIn, stored-law, still-eight}
+use Rattle.claims.proofs.Rows.{armIn, arm-law, floorIn, stored-law, still-eight}
 use Rattle.claims.proofs.Tick.{by-step, by-guard, guard-faults, decided, foundOf, cleanTurn, faultTurn}
 
 -- the state that the machine answers is the one that it stores

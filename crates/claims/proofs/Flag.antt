@@ -1,10 +1,9 @@
 -- The verdict's flag and the consumed acknowledgement: the proof of specs/Flag. The flag goes by the reason, so: which lines of the table give its reasons.
-use mathlib.Core.Path.{_≡_, refl, _∙_, sym, ap}
+use mathlib.Core.Path.{_≡_, refl, sym}
 use mathlib.Core.Bool.{Bool, true, false, cond, not, _&&_, _||_}
 use mathlib.Core.List.{List}
 use Prim.Native.Nat.{ℕ}
-use lib.Bits.{bitAnd}
-use lib.Dec.{T, T-not, eqb, leb}
+use lib.Dec.{T-not, eqb}
 use lib.Ieee.{Float}
 use Rattle.lictor_core.specs.declared.ack.AckDecision.{AckDecision}
 use Rattle.lictor_core.specs.declared.ack.AckDecision.the-variants.{Resume, Abort, Retune}
@@ -17,8 +16,8 @@ use Rattle.lictor_core.specs.declared.reason.ReasonCode.{ReasonCode}
 use Rattle.lictor_core.specs.declared.state.FuseMode.{FuseMode}
 use Rattle.lictor_core.specs.declared.state.FuseState.{FuseState}
 use Rattle.lictor_core.specs.declared.state.FuseState.the-variants.{Idle, Armed, Watching, Clamped, Braking, Held, Escalated, Fault, Terminated}
-use Rattle.lictor_core.specs.Codes.{isState, reasonCode}
-use Rattle.lictor_core.specs.Masks.{anyOf, faultBits, brakeBit, tier0Soft}
+use Rattle.lictor_core.specs.Codes.{reasonCode}
+use Rattle.lictor_core.specs.Masks.{anyOf, faultBits}
 use Rattle.lictor_core.specs.Settings.{configOf}
 use Rattle.lictor_stages.specs.Judge.{judgeOf, machineInput}
 use Rattle.lictor_stages.specs.Verdict.{hasAck, consumedFlag, verdictOf, faultVerdict}
@@ -29,11 +28,11 @@ use Rattle.lictor_table.specs.Helpers.{faultReason, clampReason, armedReason, a
 use Rattle.lictor_table.specs.Rows.{faultRow, resumeRow, terminateRow, timeoutRow, waitRow, waitingOf, escalatedOf, rearmRow, escalateRow, holdRow, holdingOf, heldOf, standstillRow, stoppingRow, brakingOf, brakeRow, clampRow, clearRow, quietOf, runningOf, byFrom, transitionOf, nextByRows}
 use Rattle.lictor_table.specs.Table.{nextOf}
 use Rattle.lictor_table.proofs.ByTable.{tells}
-use Rattle.lictor_table.proofs.Lines.{by-test, by-bool}
+use Rattle.lictor_table.proofs.Lines.{by-bool}
 use Rattle.lictor_fuse.specs.declared.tick.Decided.{Decided}
 use Rattle.lictor_fuse.specs.declared.tick.Ticked.{Ticked}
 use Rattle.lictor_fuse.specs.Tick.{readyOf, closedOf, closeClean, cleanTick, closeFault, faultTick, givenOf}
-use Rattle.claims.specs.Calls.{Call, accepted, answerOf, guardBits, tripsOf, bitsOf, ackOf, tookOf}
+use Rattle.claims.specs.Calls.{Call, accepted, tripsOf, bitsOf, ackOf, tookOf}
 use Rattle.claims.specs.Demand3.{none?}
 use Rattle.claims.specs.Flag.{FlagTells}
 use Rattle.claims.proofs.Tick.{by-call, by-guard, decided, foundOf, cleanTurn}

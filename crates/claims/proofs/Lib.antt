@@ -8,3 +8,4 @@ pub mod Flag
 pub mod ClockEnd
 pub mod Tallies
 pub mod Limit
+pub mod Counters

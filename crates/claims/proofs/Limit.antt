@@ -1,18 +1,21 @@
 -- The limit of demand 3 is met: the proof of specs/Limit, tick by tick through the slowest stop.
-use mathlib.Core.Path.{_≡_, refl, sym, subst, subst₂, _∙_, ap}
-use mathlib.Core.Bool.{Bool, true, false, cond, not, _&&_, _||_}
+use mathlib.Core.Path.{_≡_, refl, sym, subst, subst₂}
+use mathlib.Core.Bool.{Bool, true, false, not, _||_}
 use mathlib.Core.List.{List, [], _∷_, _++_}
 use Prim.Native.Nat.{ℕ, zero, suc, _+_, _-_, _≤_, _<_}
 use native.Mathlib.Omega.{arith}
 use borrow.Author.Tests.{ne-eqb, eq-eqb, lt-leb, le-leb}
-use lib.Dec.{T, T-not, not-T, eqb, leb, leb→le, nleb→lt, ltb→lt, eqb→eq}
+use lib.Dec.{T, T-not, not-T, eqb, eqb→eq}
 use lib.Ieee.{Float, isNan, lt, le, mul, add}
 use lib.Ieee.Scale.{finite}
 use lib.ListN.{length, take, set}
 use Rattle.fmath.specs.Float.{allFinite, addSquares, normOf}
 use Rattle.fmath.specs.Root.{rootOf}
+use Rattle.lictor_core.specs.declared.ack.MaybeAck.{MaybeAck}
 use Rattle.lictor_core.specs.declared.ack.MaybeAck.the-variants.{NoAck}
 use Rattle.lictor_core.specs.declared.chunk.MaybeChunk.the-variants.{NoChunk}
+use Rattle.lictor_core.specs.declared.envelope.FuseConfig.{FuseConfig}
+use Rattle.lictor_core.specs.declared.envelope.Settings.{Settings}
 use Rattle.lictor_core.specs.declared.fuse.Control.{Control}
 use Rattle.lictor_core.specs.declared.fuse.FuseRt.{FuseRt}
 use Rattle.lictor_core.specs.declared.state.FuseState.{FuseState}
@@ -22,13 +25,11 @@ use Rattle.lictor_core.specs.Initial.{zeroFloat, zeros, freshControl, freshMoti
 use Rattle.lictor_core.specs.Masks.{anyOf, faultBits}
 use Rattle.lictor_core.specs.Rows.{rowTo}
 use Rattle.lictor_core.specs.Settings.{badCode, badSize, badFloat, anyBelow, crossedOf, badBox, settingsTable, firstRow, checkOf, configOf}
+use Rattle.lictor_core.proofs.Rows.{row-length}
 use Rattle.lictor_guard.specs.Guard.{deliveredOf, nonFinite, lengthsOf, shapeBad, sizesBad, placeBad, headBad, deliveryBad, clockBad, schemaBad, bitIf, guardOf}
 use Rattle.lictor_stages.specs.Ingest.{takenRow, velocityOf, ingestOf}
 use Rattle.lictor_stages.specs.Judge.{withBrake, maskedOf, slowOf, standstillOf, judgeOf, machineInput}
-use Rattle.lictor_core.proofs.Rows.{row-length}
-use Rattle.lictor_core.specs.declared.ack.MaybeAck.{MaybeAck}
-use Rattle.lictor_core.specs.declared.envelope.FuseConfig.{FuseConfig}
-use Rattle.lictor_core.specs.declared.envelope.Settings.{Settings}
+use Rattle.lictor_stages.specs.Verdict.{verdictOf}
 use Rattle.lictor_table.specs.declared.FsmInput.{FsmInput}
 use Rattle.lictor_table.specs.Helpers.{acceptedAck, settledOf, countRun}
 use Rattle.lictor_table.specs.Rows.{confirmedOf, standstillRow, stoppingRow, brakingOf, brakeRow, runningOf, byFrom, transitionOf, nextByRows}
@@ -36,11 +37,10 @@ use Rattle.lictor_table.specs.Table.{nextOf}
 use Rattle.lictor_table.proofs.ByTable.{tells}
 use Rattle.lictor_table.proofs.Stops.{StopLaw, stop-law}
 use Rattle.lictor_fuse.specs.declared.tick.Decided.{Decided}
-use Rattle.lictor_stages.specs.Verdict.{verdictOf}
 use Rattle.lictor_fuse.specs.Tick.{isAccepted, readyOf, cleanClock, closedOf, closeClean, cleanTick, givenOf}
 use Rattle.claims.specs.Runs.{All, Some, here, later, First, Where, at, past, series, Step, silent, event, andThen, trace}
-use Rattle.claims.specs.Demand3.{begins, closes, limit, Sized, StopsWithin}
-use Rattle.claims.specs.Calls.{Seen, Call, Under, accepted, guardBits, stepOf, seenOf, ticksFrom}
+use Rattle.claims.specs.Demand3.{begins, closes, limit, StopsWithin}
+use Rattle.claims.specs.Calls.{Seen, Call, accepted, guardBits, stepOf, seenOf, ticksFrom}
 use Rattle.claims.specs.ClockEnd.{lastTime}
 use Rattle.claims.specs.Limit.{oneFloat, slowSettings, callAt, trips, moves, stands, slowest, Met, LimitMet}
 use Rattle.claims.proofs.Demand3.{settled}
@@ -434,11 +434,17 @@ module _ (b h e : ℕ) (least : 1 ≤ b) (small : b ≤ 65535) (short : h ≤ 65
     each-stands P call (suc n) i top rest k f p = (f i (omega arith), each-stands P call n (suc i) top rest (omega arith) f p)
 
     every-call : (P : Call → Type 0) → P (trips slow) → ((t : ℕ) → t ≤ lastTime → P (moves slow t)) → ((t : ℕ) → t ≤ lastTime → P (stands slow t)) → All P (slowest b h e)
-    every-call P f g k =
-        (f, each-stands P (moves slow) (b - 1) 1 lastTime (stands slow b ∷ inHeld) (omega arith) g
-        (k b (omega arith), each-stands P (stands slow) h (b + 1) lastTime (stands slow (b + h + 1) ∷ inEscalated) (omega arith) k
-        (k (b + h + 1) (omega arith), each-stands P (stands slow) e (b + h + 2) lastTime (stands slow (b + h + e + 2) ∷ []) (omega arith) k
-        (k (b + h + e + 2) fits, tt))))
+    every-call P f g k = (
+      f,
+      each-stands P (moves slow) (b - 1) 1 lastTime (stands slow b ∷ inHeld) (omega arith) g (
+        k b (omega arith),
+        each-stands P (stands slow) h (b + 1) lastTime (stands slow (b + h + 1) ∷ inEscalated) (omega arith) k (
+          k (b + h + 1) (omega arith),
+          each-stands P (stands slow) e (b + h + 2) lastTime (stands slow (b + h + e + 2) ∷ []) (omega arith) k
+              (k (b + h + e + 2) fits, tt),
+        ),
+      ),
+    )
 
     tight : Where (λ x after. T (begins x) × First Closes (limit slow) after) (ticksFrom start (slowest b h e)) → ¬ StopsWithin (limit slow - 1) (ticksFrom start (slowest b h e))
     tight w u = one-less (limit slow - 1) (ticksFrom start (slowest b h e))

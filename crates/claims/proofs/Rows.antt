@@ -1,8 +1,8 @@
 -- A tick by the transition table (lictor_table, proofs/Stops) meets the two laws.
-use mathlib.Core.Path.{_≡_, refl, _∙_}
+use mathlib.Core.Path.{_≡_, _∙_}
 use mathlib.Core.Bool.{Bool, true, false, cond, not, _&&_, _||_}
 use mathlib.Core.List.{List}
-use Prim.Native.Nat.{ℕ, _+_, _-_, _≤_, _<_, min}
+use Prim.Native.Nat.{ℕ, _+_, _-_, _≤_, _<_}
 use native.Mathlib.Omega.{arith}
 use native.Mathlib.Decide.{ℕ-discrete}
 use lib.Dec.{T, not-T, leb→le, nleb→lt, ltb→lt, eqb→eq}
@@ -11,21 +11,20 @@ use lib.ListN.{getD, set, length, length-set}
 use lib.Seq.{getD-set-same, getD-set-other}
 use Rattle.lictor_core.specs.declared.ack.MaybeAck.{MaybeAck}
 use Rattle.lictor_core.specs.declared.ack.MaybeAck.the-variants.{NoAck, Given}
-use Rattle.lictor_core.specs.declared.envelope.FuseConfig.{FuseConfig}
 use Rattle.lictor_core.specs.declared.envelope.Settings.{Settings}
 use Rattle.lictor_core.specs.declared.fuse.Control.{Control}
+use Rattle.lictor_core.specs.declared.reason.ReasonCode.{ReasonCode}
 use Rattle.lictor_core.specs.declared.state.FuseState.{FuseState}
 use Rattle.lictor_core.specs.declared.state.FuseState.the-variants.{Idle, Armed, Watching, Clamped, Braking, Held, Escalated, Fault, Terminated}
 use Rattle.lictor_core.specs.Cases.{byState, byAck}
 use Rattle.lictor_core.specs.Codes.{isState}
 use Rattle.lictor_core.specs.Settings.{configOf}
-use Rattle.lictor_core.specs.declared.reason.ReasonCode.{ReasonCode}
 use Rattle.lictor_table.specs.Helpers.{to}
 use Rattle.lictor_table.specs.Consumed.{takenIn}
 use Rattle.lictor_table.proofs.Lines.{by-test}
-use Rattle.lictor_table.proofs.Stops.{StopLaw, Stores, Fresh, mayEnd}
+use Rattle.lictor_table.proofs.Stops.{StopLaw, Fresh}
 use Rattle.claims.specs.Calls.{Seen}
-use Rattle.claims.specs.Demand3.{B, H, E, maxRearms, Sized, begins, closes, endsIn, startsFrom, rearms, none?, Is, limit}
+use Rattle.claims.specs.Demand3.{B, H, E, maxRearms, Sized, rearms, none?, Is, limit}
 use Rattle.claims.proofs.Law.{Arm, ArmLaw, NonceLaw}
 
 ruleset tests = (arith, leb→le, nleb→lt, ltb→lt, eqb→eq)

@@ -1,10 +1,9 @@
 -- The tally and the ticks since the reset: the proofs of specs/Tallies.
 use mathlib.Core.Path.{_≡_, refl, _∙_, ap, sym}
-use mathlib.Core.Bool.{Bool, true, false, cond, not, _&&_}
+use mathlib.Core.Bool.{Bool, true, false, cond}
 use mathlib.Core.List.{List, [], _∷_}
-use Prim.Native.Nat.{ℕ, suc, _+_, _^_, _<_}
+use Prim.Native.Nat.{_+_, _^_, _<_}
 use native.Mathlib.Omega.{arith}
-use lib.Dec.{T, eqb}
 use lib.ListN.{length}
 use Rattle.lictor_core.specs.declared.fuse.FuseRt.{FuseRt}
 use Rattle.lictor_core.specs.declared.state.FuseState.the-variants as S
@@ -14,14 +13,14 @@ use Rattle.lictor_core.specs.Settings.{configOf}
 use Rattle.lictor_stages.specs.Judge.{judgeOf}
 use Rattle.lictor_stages.specs.Verdict.{verdictOf, faultVerdict, eventsOf}
 use Rattle.lictor_tally.specs.History as H
-use Rattle.lictor_tally.specs.History.{Item, Count, counts, recorded, tallyFrom, tallyOf}
+use Rattle.lictor_tally.specs.History.{Item, recorded, tallyFrom, tallyOf}
 use Rattle.lictor_tally.proofs.History.{history}
 use Rattle.lictor_fuse.specs.declared.tick.Decided.{Decided}
 use Rattle.lictor_fuse.specs.declared.tick.Ticked.{Ticked}
 use Rattle.lictor_fuse.specs.Tick.{isAccepted, chunkTally, closedOf, closeClean, cleanTick, closeFault, faultTick, givenOf}
-use Rattle.claims.specs.Runs.{Step, silent, event, trace, andThen}
-use Rattle.claims.specs.Calls.{Call, answerOf, tripsOf, stepOf, after}
-use Rattle.claims.specs.Tallies.{turnOf, itemBy, itemOf, verdictIn, historyFrom, verdictsFrom, number, endedIn, endedNominal, StateCounts, TallyTold, TalliesTold}
+use Rattle.claims.specs.Runs.{Step, silent, event, andThen}
+use Rattle.claims.specs.Calls.{Call, answerOf, tripsOf, after}
+use Rattle.claims.specs.Tallies.{itemBy, itemOf, historyFrom, verdictsFrom, number, endedIn, endedNominal, TalliesTold}
 use Rattle.claims.proofs.Tick.{by-step, by-guard, decided}
 
 -- a tick leaves the tally with its item recorded

@@ -1,31 +1,23 @@
 -- A call is refused and changes nothing, or it is a tick by the transition table: a clean tick, or a fault tick, which the guard makes.
 use mathlib.Core.Path.{_≡_, refl}
-use mathlib.Core.Bool.{Bool, true, false, cond, not, _||_}
-use mathlib.Core.List.{List}
-use Prim.Native.Nat.{ℕ}
+use mathlib.Core.Bool.{Bool, true, false, cond, not}
 use lib.Dec.{T, T-not, eqb}
 use lib.Bits.{bitOr}
-use lib.Ieee.{Float}
-use Rattle.lictor_core.specs.declared.envelope.FuseConfig.{FuseConfig}
-use Rattle.lictor_core.specs.declared.fuse.Control.{Control}
 use Rattle.lictor_core.specs.declared.fuse.FuseRt.{FuseRt}
-use Rattle.lictor_core.specs.declared.fuse.Motion.{Motion}
-use Rattle.lictor_core.specs.declared.settings.SettingsCheck.{SettingsCheck}
 use Rattle.lictor_core.specs.Masks as M
 use Rattle.lictor_core.specs.Settings.{checkOf, configOf}
 use Rattle.lictor_guard.specs.Guard.{deliveredOf, bitIf, guardOf}
 use Rattle.lictor_stages.specs.declared.judge.Findings.{Findings}
 use Rattle.lictor_stages.specs.Ingest.{ingestOf, faultMotion}
 use Rattle.lictor_stages.specs.Judge.{judgeOf, machineInput, faultInput}
-use Rattle.lictor_table.specs.declared.FsmInput.{FsmInput}
 use Rattle.lictor_table.specs.declared.Turn.{Turn}
 use Rattle.lictor_table.specs.Table.{nextOf}
+use Rattle.lictor_table.proofs.Lines.{by-test}
 use Rattle.lictor_fuse.specs.declared.tick.Decided.{Decided}
 use Rattle.lictor_fuse.specs.declared.tick.Ticked.{Ticked}
-use Rattle.lictor_fuse.specs.Tick.{isAccepted, readyOf, cleanTick, faultTick, decideBy, decideOf, givenOf, acceptedTick, refusedTick, tickBy, tickOf}
+use Rattle.lictor_fuse.specs.Tick.{readyOf, cleanTick, faultTick, decideBy, decideOf, givenOf, acceptedTick, refusedTick, tickBy, tickOf}
 use Rattle.claims.specs.Runs.{Step, silent, event}
 use Rattle.claims.specs.Calls.{Call, answerOf, accepted, guardBits, stepBy, stepOf}
-use Rattle.lictor_table.proofs.Lines.{by-test}
 
 -- ---- a call
 

@@ -3,7 +3,7 @@
 use mathlib.Core.Path.{_≡_}
 use mathlib.Core.Bool.{Bool, true, false}
 use mathlib.Core.List.{List, [], _∷_, _++_}
-use Prim.Native.Nat.{ℕ, suc, _+_, _-_, _≤_}
+use Prim.Native.Nat.{ℕ, _+_, _-_, _≤_}
 use lib.Dec.{T}
 use lib.Ieee.{Float, fin}
 use lib.IntN.{pos}
@@ -14,7 +14,7 @@ use Rattle.lictor_core.specs.declared.envelope.Settings.{Settings}
 use Rattle.lictor_core.specs.declared.fuse.FuseRt.{FuseRt}
 use Rattle.lictor_core.specs.Initial.{zeroFloat, zeros, resetOf}
 use Rattle.claims.specs.Runs.{All, First, Where, series}
-use Rattle.claims.specs.Calls.{Call, Under, accepted, ticksFrom}
+use Rattle.claims.specs.Calls.{Call, accepted, ticksFrom}
 use Rattle.claims.specs.ClockEnd.{lastTime}
 use Rattle.claims.specs.Demand3.{Sized, begins, closes, limit, StopsWithin}
 
