@@ -4,7 +4,7 @@ use mathlib.Core.Path.{_≡_, refl, sym, ap, ap₂, subst, _∙_}
 use mathlib.Core.Bool.{Bool, true, false, not, cond}
 use native.Mathlib.Omega.{arith}
 use native.Mathlib.Decide.{ℕ-discrete}
-use native.Mathlib.Nat.{div-eq-of-lt, mod-eq-of-lt, mul-comm, mul-assoc, mul-right-comm, le-div-iff-mul-le, mul-le-mul-right, mul-le-mul-left, le-trans}
+use native.Mathlib.Nat.{div-eq-of-lt, mod-eq-of-lt, mul-assoc, mul-right-comm, le-div-iff-mul-le, mul-le-mul-right, mul-le-mul-left, le-trans}
 use borrow.Author.Tests.{lt-ltb, ne-eqb}
 use lib.Pow.{pow-mono, pow-pos, pow-add}
 use lib.Dec.{T, leb, eqb, lit≤}

@@ -3,9 +3,7 @@ use Prim.Native.Nat.{ℕ, _≤_}
 use mathlib.Core.Path.{_≡_}
 use native.Mathlib.Omega.{arith}
 use lib.ListN.{length, length-append, take}
-use Rattle.text.specs.Ascii.{ascii}
 use Rattle.text.specs.Line.{lineOf}
-use Rattle.text.specs.Number.{decimalOf, signedOf}
 use Rattle.text.proofs.Lines.{line-text}
 use Rattle.text.proofs.Digits.{decimal-20, signed-21}
 use Rattle.lictor_core.specs.Codes.{stateCode, reasonCode, sourceCode}
@@ -14,7 +12,7 @@ use Rattle.lictor_core.specs.declared.verdict.SafetyVerdict.{SafetyVerdict}
 use Rattle.report.specs.declared.margin.Margin.{Margin}
 use Rattle.report.specs.declared.margin.Margin.the-variants.{NoMargin, PlusFar, MinusFar, Millis}
 use Rattle.report.specs.Margin.{marginOf}
-use Rattle.report.specs.Lines.{marginText, fieldText, tickText, stoppedOf, endText, refusedText}
+use Rattle.report.specs.Lines.{marginText, tickText, stoppedOf, endText, refusedText}
 
 margin-21 : (m : Margin) → length (marginText m) ≤ 21
 unfolding marginText

@@ -51,12 +51,16 @@ pub fn tick_line(v: SafetyVerdict) -> Line
 {
     let state = v.state;
     let reason = v.reason;
-    let src = v.action_src;
+    let action_src = v.action_src;
+    let s = state_code(state);
+    let w = reason_code(reason);
+    let src = source_code(action_src);
+    let m = margin_of(v.brake_margin);
     let a = push(empty(), b"tick");
     let b = field32(field32(a, v.seq), v.t);
-    let c = field8(field8(b, state_code(state)), reason_code(reason));
-    let d = field8(field32(c, v.trips), source_code(src));
-    let e = push_margin(push(d, b" "), margin_of(v.brake_margin));
+    let c = field8(field8(b, s), w);
+    let d = field8(field32(c, v.trips), src);
+    let e = push_margin(push(d, b" "), m);
     push(e, b"\n")
 }
 
@@ -86,7 +90,8 @@ pub fn end_line(t: Tally) -> Line
 pub fn refused_line(number: u8, place: u64) -> Line
     ensures { λ r. ⌜ r ≡ lineOf (refusedText number place) ⌝ }
 {
+    let n = number as u64;
     let a = push(empty(), b"refused");
-    let b = field(field8(a, number), place);
+    let b = field(field(a, n), place);
     push(b, b"\n")
 }

@@ -1,23 +1,14 @@
 -- What is pushed behind the line of some bytes is the line of both.
-use Prim.Native.Nat.{ℕ, zero, suc, _+_, _-_, _≤_, _<_, min}
-use mathlib.Core.Path.{_≡_, refl, sym, ap, ap₂, _∙_}
-use mathlib.Core.Bool.{Bool, true, false, cond}
+use Prim.Native.Nat.{ℕ, suc, _+_, _-_, _≤_, _<_, min}
+use mathlib.Core.Path.{_≡_, refl, sym, ap, _∙_}
 use mathlib.Core.List.{List, [], _∷_, _++_, append-nil, append-assoc}
 use native.Mathlib.Omega.{arith}
 use native.Mathlib.Decide.{decLe}
-use native.Mathlib.Numerals.{add-one}
-use borrow.Author.Tests.{lt-ltb, le-ltb}
-use lib.Dec.{ltb}
-use lib.ListN.{length, take, set, replicate, getD, length-append}
-use lib.Seq.{take-all, take-append-le, set-append-seam, take-suc, take-append-seam}
+use borrow.Author.Tests.{lt-ltb}
+use lib.ListN.{length, take, replicate, length-append}
+use lib.Seq.{take-all, take-append-le, set-append-seam, take-append-seam}
 use Rattle.text.specs.declared.Line.{Line}
 use Rattle.text.specs.Line.{lineOf, putOf, pushOf}
-
--- one more byte
-pub push-more : (l : Line) (s : List ℕ) (b : ℕ) → pushOf l (s ++ (b ∷ [])) ≡ putOf (pushOf l s) b
-unfolding pushOf
-push-more l [] b = refl
-push-more l (a ∷ s) b = push-more (putOf l a) s b
 
 -- bytes in two parts
 pub push-append : (l : Line) (s t : List ℕ) → pushOf l (s ++ t) ≡ pushOf (pushOf l s) t

@@ -2,4 +2,4 @@
 pub mod Ascii
 pub mod Line
 pub mod Number
-pub mod List
+pub mod Commas

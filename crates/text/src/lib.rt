@@ -4,7 +4,7 @@ ghost use mathlib.Core.List.{[]};
 ghost use lib.IntN.{natAbs};
 ghost use Rattle.text.specs.Line.{lineOf, pushOf};
 ghost use Rattle.text.specs.Number.{decimalOf, signedOf, floatText};
-ghost use Rattle.text.specs.List.{commaAt, numbersText, floatsText};
+ghost use Rattle.text.specs.Commas.{commaAt, numbersText, floatsText};
 
 // The first n bytes are the line's, the others are zero.
 pub struct Line {
@@ -61,7 +61,8 @@ pub fn push_signed(l: Line, z: i32) -> Line
     ensures { λ r. ⌜ r ≡ pushOf l (signedOf z) ⌝ }
 {
     let m = magnitude(z);
-    if z < 0 {
+    let minus = z < 0;
+    if minus {
         push_number(push(l, b"-"), m)
     } else {
         push_number(l, m)

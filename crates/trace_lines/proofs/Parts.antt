@@ -8,19 +8,19 @@ use Rattle.lictor_core.specs.declared.fuse.Control.{Control}
 use Rattle.lictor_core.specs.declared.fuse.Motion.{Motion}
 use Rattle.lictor_core.specs.declared.fuse.Clock.{Clock}
 use Rattle.lictor_core.specs.declared.fuse.FuseRt.{FuseRt}
-use Rattle.trace_lines.specs.Trace.{tickLines, actionLines, scoreLines, reasonLines, verdictLines, clockLines, motionLines, controlLines, handoffLines, runLines, stateLines, eventLines, markLines, lastLines, tallyLines, traceLines}
+use Rattle.trace_lines.specs.Trace.{headLines, actionLines, scoreLines, reasonLines, verdictLines, clockLines, motionLines, controlLines, handoffLines, runLines, stateLines, eventLines, markLines, lastLines, tallyLines, traceLines}
 use Rattle.trace_lines.proofs.Rows.{in-front, behind}
 
-pub verdict-6 : (v : SafetyVerdict) → length (tickLines v) ≡ 6
-unfolding tickLines
+pub verdict-6 : (v : SafetyVerdict) → length (headLines v) ≡ 6
+unfolding headLines
 verdict-6 v = refl
 
-pub verdict-11 : (v : SafetyVerdict) → length (tickLines v ++ actionLines v) ≡ 11
-unfolding tickLines actionLines
+pub verdict-11 : (v : SafetyVerdict) → length (headLines v ++ actionLines v) ≡ 11
+unfolding headLines actionLines
 verdict-11 v = refl
 
-pub verdict-15 : (v : SafetyVerdict) → length (tickLines v ++ actionLines v ++ scoreLines (v .scores)) ≡ 15
-unfolding tickLines actionLines scoreLines
+pub verdict-15 : (v : SafetyVerdict) → length (headLines v ++ actionLines v ++ scoreLines (v .scores)) ≡ 15
+unfolding headLines actionLines scoreLines
 verdict-15 v = refl
 
 pub run-6 : (k : Clock) (c : Control) → length (clockLines k c) ≡ 6
@@ -48,16 +48,16 @@ unfolding stateLines eventLines markLines
 tally-22 t = refl
 
 pub trace-23 : (v : SafetyVerdict) → length (verdictLines v) ≡ 23
-unfolding verdictLines tickLines actionLines scoreLines reasonLines
+unfolding verdictLines headLines actionLines scoreLines reasonLines
 trace-23 v = refl
 
 pub trace-48 : (v : SafetyVerdict) (c : Control) (m : Motion) (k : Clock) → length (verdictLines v ++ runLines c m k) ≡ 48
-unfolding verdictLines tickLines actionLines scoreLines reasonLines runLines clockLines motionLines controlLines handoffLines
+unfolding verdictLines headLines actionLines scoreLines reasonLines runLines clockLines motionLines controlLines handoffLines
 trace-48 v c m k = refl
 
 -- the constant TRACE_LINES
 pub trace-74 : (v : SafetyVerdict) (rt : FuseRt) → length (traceLines v rt) ≡ 74
-unfolding traceLines verdictLines tickLines actionLines scoreLines reasonLines runLines clockLines motionLines controlLines handoffLines tallyLines stateLines eventLines markLines lastLines
+unfolding traceLines verdictLines headLines actionLines scoreLines reasonLines runLines clockLines motionLines controlLines handoffLines tallyLines stateLines eventLines markLines lastLines
 trace-74 v rt = refl
 
 -- a function that tests k and calls the part is closed by these

@@ -6,7 +6,7 @@ use mathlib.Core.List.{List, [], _∷_, _++_, flatten}
 use lib.ListN.{getD}
 use Rattle.text.specs.Ascii.{ascii}
 use Rattle.text.specs.Number.{decimalOf, floatText}
-use Rattle.text.specs.List.{numbersText, floatsText}
+use Rattle.text.specs.Commas.{numbersText, floatsText}
 use Rattle.lictor_core.specs.Codes.{stateCode, statusCode, reasonCode, sourceCode}
 use Rattle.lictor_core.specs.Cases.{byMark, byReasonMark}
 use Rattle.lictor_core.specs.declared.reason.ReasonCode.{ReasonCode}
@@ -50,8 +50,8 @@ row name value = name ++ value ++ ascii "\n"
 
 -- ---- the verdict
 
-unfoldable pub tickLines : SafetyVerdict → List (List ℕ)
-tickLines v =
+unfoldable pub headLines : SafetyVerdict → List (List ℕ)
+headLines v =
     row (ascii "v.seq=") (decimalOf (v .seq))
     ∷ row (ascii "v.t=") (decimalOf (v .t))
     ∷ row (ascii "v.status=") (decimalOf (statusCode (v .status)))
@@ -90,7 +90,7 @@ reasonLines v =
     ∷ []
 
 unfoldable pub verdictLines : SafetyVerdict → List (List ℕ)
-verdictLines v = tickLines v ++ actionLines v ++ scoreLines (v .scores) ++ reasonLines v
+verdictLines v = headLines v ++ actionLines v ++ scoreLines (v .scores) ++ reasonLines v
 
 -- ---- the run state
 

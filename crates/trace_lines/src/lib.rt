@@ -3,7 +3,7 @@ ghost use mathlib.Core.Path.{_≡_};
 ghost use mathlib.Core.List.{[]};
 ghost use lib.ListN.{getD};
 ghost use Rattle.text.specs.Line.{lineOf};
-ghost use Rattle.trace_lines.specs.Trace.{tickLines, actionLines, scoreLines, reasonLines, verdictLines, clockLines, motionLines, controlLines, handoffLines, runLines, stateLines, eventLines, markLines, lastLines, tallyLines, traceText};
+ghost use Rattle.trace_lines.specs.Trace.{headLines, actionLines, scoreLines, reasonLines, verdictLines, clockLines, motionLines, controlLines, handoffLines, runLines, stateLines, eventLines, markLines, lastLines, tallyLines, traceText};
 use lictor_core::fuse::Clock;
 use lictor_core::fuse::Control;
 use lictor_core::fuse::FuseRt;
@@ -21,8 +21,8 @@ pub const TRACE_LINES: usize = 74;
 
 // ---- the verdict
 
-fn tick_line(k: usize, v: SafetyVerdict) -> Line
-    ensures { λ r. ⌜ r ≡ lineOf (getD (tickLines v) k []) ⌝ }
+fn head_line(k: usize, v: SafetyVerdict) -> Line
+    ensures { λ r. ⌜ r ≡ lineOf (getD (headLines v) k []) ⌝ }
 {
     let status = v.status;
     let state = v.state;
@@ -97,7 +97,7 @@ fn verdict_line(k: usize, v: SafetyVerdict) -> Line
     if k >= 6 {
         return action_line(k - 6, v);
     }
-    tick_line(k, v)
+    head_line(k, v)
 }
 
 // ---- the run state

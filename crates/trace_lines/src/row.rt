@@ -3,7 +3,7 @@ ghost use mathlib.Core.Path.{_≡_};
 ghost use Rattle.text.specs.Ascii.{ascii};
 ghost use Rattle.text.specs.Line.{lineOf};
 ghost use Rattle.text.specs.Number.{decimalOf, floatText};
-ghost use Rattle.text.specs.List.{numbersText, floatsText};
+ghost use Rattle.text.specs.Commas.{numbersText, floatsText};
 ghost use Rattle.lictor_core.specs.Codes.{statusCode, sourceCode};
 ghost use Rattle.trace_lines.specs.Trace.{row, flagText, stateText, reasonText, handoffText, markText, reasonMarkText};
 use lictor_core::reason::ReasonCode;

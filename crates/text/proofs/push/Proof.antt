@@ -1,7 +1,7 @@
 -- The loop has pushed the first i bytes. A turn pushes one more, or finds the line full.
 use Prim.Native.Nat.{ℕ, _≤_, _<_, _+_, _-_}
 use mathlib.Core.Path.{_≡_, refl, ap, _∙_}
-use mathlib.Core.List.{List}
+use mathlib.Core.List.{List, [], _∷_}
 use mathlib.Core.Logic.{⊎-elim}
 use native.Mathlib.Omega.{arith}
 use native.Mathlib.Numerals.{add-one}
@@ -10,7 +10,7 @@ use lib.ListN.{length, take, getD, set}
 use lib.Seq.{take-suc, take-length}
 use Rattle.text.specs.declared.Line.{Line}
 use Rattle.text.specs.Line.{putOf, pushOf}
-use Rattle.text.proofs.Lines.{push-more}
+use Rattle.text.proofs.Lines.{push-append}
 use Rattle.text.proofs.push.Statement.{statement}
 use Rattle.text.proofs.push.Tie as tie
 
@@ -21,7 +21,8 @@ record Pushed (l₀ : Line) (b : List ℕ) (l : Line) (i : ℕ) : Type 0 where
 
 module _ (l₀ : Line) (b : List ℕ) (l : Line) (i : ℕ) (h : i < length b) (p : Pushed l₀ b l i) where
   step : putOf l (getD b i 0) ≡ pushOf l₀ (take (i + 1) b)
-  step = rw (add-one i, take-suc b i 0 h, push-more) (ap (λ (x : Line). putOf x (getD b i 0)) (p .so-far))
+  unfolding pushOf
+  step = rw (add-one i, take-suc b i 0 h, push-append l₀ (take i b) (getD b i 0 ∷ [])) (ap (λ (x : Line). putOf x (getD b i 0)) (p .so-far))
 
   room : l .n < 512 → Pushed l₀ b (record { text = set (l .text) (l .n) (getD b i 0); n = l .n + 1 }) (i + 1)
   unfolding putOf

@@ -1,10 +1,7 @@
-use Prim.Native.Nat.{ℕ, _<_}
-use mathlib.Core.Path.{_≡_, sym, ap, _∙_}
-use mathlib.Core.List.{List}
+use mathlib.Core.Path.{sym, ap, _∙_}
 use lib.Ieee.{binary64}
 use lib.Ieee.Bits.{toBits-lt}
 use Rattle.text.specs.Line.{pushOf}
-use Rattle.text.specs.Number.{hexIn, floatText}
 use Rattle.text.proofs.Nan.{not-nan}
 use Rattle.text.proofs.Digits.{hex-is, nan-text, float-hex}
 use borrow.Author.Needs.{needs}

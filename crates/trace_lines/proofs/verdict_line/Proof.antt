@@ -25,12 +25,12 @@ returns-3 : tie.Need-returns-3
 unfolding verdictLines
 returns-3 c = search (needs, of-verdict)
 
-tick-line-requires : tie.Need-tick-line-requires
-tick-line-requires c κs = search needs
+head-line-requires : tie.Need-head-line-requires
+head-line-requires c κs = search needs
 
 returns-4 : tie.Need-returns-4
 unfolding verdictLines
 returns-4 c = search (needs, of-verdict)
 
 pub verdict-line-spec : {M : Type 1} → statement M
-verdict-line-spec = tie.close (tie.spec reason-line-requires returns score-line-requires returns-2 action-line-requires returns-3 tick-line-requires returns-4)
+verdict-line-spec = tie.close (tie.spec reason-line-requires returns score-line-requires returns-2 action-line-requires returns-3 head-line-requires returns-4)

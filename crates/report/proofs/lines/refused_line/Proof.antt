@@ -13,11 +13,11 @@ slice-aggregate-push c = search needs
 push-requires : tie.Need-push-requires
 push-requires c κs = search needs
 
-field8-requires : tie.Need-field8-requires
-field8-requires c κs = search needs
-
 field-requires : tie.Need-field-requires
 field-requires c κs = search needs
+
+field-requires-2 : tie.Need-field-requires-2
+field-requires-2 c κs = search needs
 
 slice-aggregate-push-2 : tie.Need-slice-aggregate-push-2
 slice-aggregate-push-2 c = search needs
@@ -27,7 +27,7 @@ push-requires-2 c κs = search needs
 
 returns : tie.Need-returns
 unfolding refusedText
-returns c = simp (c .push2 .ensures, c .before .before .field .ensures, c .before .before .before .field8 .ensures, c .before .before .before .before .push .ensures, c .before .before .before .before .before .before .empty .ensures, push-line)
+returns c = simp (c .push2 .ensures, c .before .before .field2 .ensures, c .before .before .before .field .ensures, c .before .before .before .before .push .ensures, c .before .before .before .before .before .before .empty .ensures, push-line)
 
 pub refused-line-spec : {M : Type 1} → statement M
 refused-line-spec =
@@ -36,8 +36,8 @@ refused-line-spec =
     empty-requires
     slice-aggregate-push
     push-requires
-    field8-requires
     field-requires
+    field-requires-2
     slice-aggregate-push-2
     push-requires-2
     returns)

@@ -1,3 +1,4 @@
+use native.Mathlib.Omega.{arith}
 use Rattle.report.specs.Lines.{stoppedOf}
 use borrow.Author.Needs.{needs}
 use Rattle.report.proofs.lines.stopped_of.Statement.{statement}
@@ -32,7 +33,7 @@ add-result-4 c = search needs
 
 returns : tie.Need-returns
 unfolding stoppedOf
-returns c = cc
+returns c = omega arith
 
 pub stopped-of-spec : {M : Type 1} → statement M
 stopped-of-spec =

@@ -1,13 +1,13 @@
 -- Each line by its number, and past the last the empty one.
 use borrow.Author.Needs.{needs}
-use Rattle.trace_lines.specs.Trace.{tickLines}
+use Rattle.trace_lines.specs.Trace.{headLines}
 use Rattle.trace_lines.proofs.Rows.{beyond}
-use Rattle.trace_lines.proofs.tick_line.Statement.{statement}
-use Rattle.trace_lines.proofs.tick_line.Tie as tie
+use Rattle.trace_lines.proofs.head_line.Statement.{statement}
+use Rattle.trace_lines.proofs.head_line.Tie as tie
 
-pub tick-line-spec : {M : Type 1} → statement M
-unfolding tickLines
-tick-line-spec =
+pub head-line-spec : {M : Type 1} → statement M
+unfolding headLines
+head-line-spec =
     tie.close
     (tie.spec
     (λ c. search needs) (λ c κs. search needs)
@@ -23,4 +23,4 @@ tick-line-spec =
     (λ c. rw (c .before .before .match .keys4) (c .state .ensures))
     (λ c. rw (c .before .before .match .keys5) (c .state2 .ensures))
     (λ c. rw (c .before .before .match .keys6) (c .number323 .ensures))
-    (λ c. beyond (tickLines (c .before .before .args .v)) (c .before .before .args .k) _ (c .empty .ensures) (c .before .match .rest)))
+    (λ c. beyond (headLines (c .before .before .args .v)) (c .before .before .args .k) _ (c .empty .ensures) (c .before .match .rest)))
