@@ -24,7 +24,7 @@ use Rattle.lictor_core.specs.declared.state.FuseState.{FuseState}
 use Rattle.lictor_core.specs.declared.state.FuseState.the-variants.{Idle, Armed, Watching, Clamped, Braking, Held, Escalated, Fault, Terminated}
 use Rattle.lictor_core.specs.Cases.{byDecision}
 use Rattle.lictor_core.specs.Masks.{anyOf, faultBits}
-use Rattle.lictor_core.specs.Num.{wrapUp}
+use Rattle.lictor_core.specs.Num.{satUp, wrapUp}
 use Rattle.lictor_core.specs.Settings.{configOf}
 use Rattle.lictor_stages.specs.Judge.{machineInput}
 use Rattle.lictor_stages.specs.Verdict.{eventsOf, noEvents}
@@ -203,6 +203,10 @@ stays-full e stays = refl
 stays-full e rises = omega arith
 
 -- no count passes its end
+pub rise-fits : {k x y : ℕ} → x < 2 ^ k → Rises k x y → y < 2 ^ k
+rise-fits h stays = h
+rise-fits h rises = omega arith
+
 pub count-fits : {k x y : ℕ} → x < 2 ^ k → Counts k x y → y < 2 ^ k
 count-fits h kept = h
 count-fits h counted = omega arith
@@ -213,6 +217,10 @@ pub full-or-anew : {k x y : ℕ} → x ≡ 2 ^ k - 1 → Counts k x y → (y ≡
 full-or-anew e kept = inl refl
 full-or-anew e counted = inl (omega arith)
 full-or-anew e cleared = inr refl
+
+-- one more is never 0
+pub above-zero : (k x : ℕ) → 1 < 2 ^ k → 0 < satUp k x
+above-zero k x h = omega arith
 
 -- after the largest number comes 0
 pub wraps : (k : ℕ) → wrapUp k (2 ^ k - 1) ≡ 0
