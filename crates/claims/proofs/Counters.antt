@@ -1,14 +1,15 @@
 -- What one tick makes of each counter: the proof of specs/Counters, by the rows of the transition table; and what follows at each end.
 use mathlib.Core.Path.{_≡_, refl}
-use mathlib.Core.Bool.{Bool, true, false, cond}
+use mathlib.Core.Bool.{Bool, true, false, cond, _&&_}
 use mathlib.Core.List.{List}
 use mathlib.Core.Logic.{_⊎_, inl, inr}
 use Prim.Native.Nat.{ℕ, _+_, _-_, _^_, _≤_, _<_}
 use native.Mathlib.Omega.{arith}
 use native.Mathlib.Nat.{mod-self}
-use borrow.Author.Tests.{eq-eqb}
-use lib.Dec.{T, T-not, eqb}
+use borrow.Author.Tests.{eq-eqb, le-ltb}
+use lib.Dec.{T, T-not, eqb, ltb}
 use lib.Ieee.{Float}
+use lib.ListN.{getD}
 use lib.Pow.{pow-pos}
 use Rattle.lictor_core.specs.declared.ack.AckDecision.{AckDecision}
 use Rattle.lictor_core.specs.declared.ack.AckDecision.the-variants.{Resume, Abort, Retune}
@@ -23,13 +24,13 @@ use Rattle.lictor_core.specs.declared.state.FuseState.{FuseState}
 use Rattle.lictor_core.specs.declared.state.FuseState.the-variants.{Idle, Armed, Watching, Clamped, Braking, Held, Escalated, Fault, Terminated}
 use Rattle.lictor_core.specs.Cases.{byDecision}
 use Rattle.lictor_core.specs.Masks.{anyOf, faultBits}
-use Rattle.lictor_core.specs.Num.{wrapUp}
+use Rattle.lictor_core.specs.Num.{satUp, wrapUp}
 use Rattle.lictor_core.specs.Settings.{configOf}
 use Rattle.lictor_stages.specs.Judge.{machineInput}
 use Rattle.lictor_stages.specs.Verdict.{eventsOf, noEvents}
 use Rattle.lictor_table.specs.declared.FsmInput.{FsmInput}
 use Rattle.lictor_table.specs.declared.Turn.{Turn}
-use Rattle.lictor_table.specs.Helpers.{countIf, upIf, consumeNonce, latchHold, acceptedAck, cleanOf, countRun, settledOf}
+use Rattle.lictor_table.specs.Helpers.{countIf, upIf, consumeNonce, latchHold, acceptedBy, acceptedAck, cleanOf, countRun, settledOf}
 use Rattle.lictor_table.specs.Rows.{faultRow, rearmAck, resumeRow, terminateRow, timeoutRow, waitRow, waitingOf, escalatedOf, rearmRow, escalateRow, holdRow, holdingOf, heldOf, standstillRow, stoppingRow, brakingOf, enterBraking, brakeRow, clampRow, clearRow, quietOf, runningOf, byFrom, transitionOf, nextByRows}
 use Rattle.lictor_table.specs.Table.{nextOf}
 use Rattle.lictor_table.proofs.ByTable.{tells}
@@ -202,6 +203,10 @@ stays-full e stays = refl
 stays-full e rises = omega arith
 
 -- no count passes its end
+pub rise-fits : {k x y : ℕ} → x < 2 ^ k → Rises k x y → y < 2 ^ k
+rise-fits h stays = h
+rise-fits h rises = omega arith
+
 pub count-fits : {k x y : ℕ} → x < 2 ^ k → Counts k x y → y < 2 ^ k
 count-fits h kept = h
 count-fits h counted = omega arith
@@ -212,6 +217,10 @@ pub full-or-anew : {k x y : ℕ} → x ≡ 2 ^ k - 1 → Counts k x y → (y ≡
 full-or-anew e kept = inl refl
 full-or-anew e counted = inl (omega arith)
 full-or-anew e cleared = inr refl
+
+-- one more is never 0
+pub above-zero : (k x : ℕ) → 1 < 2 ^ k → 0 < satUp k x
+above-zero k x h = omega arith
 
 -- after the largest number comes 0
 pub wraps : (k : ℕ) → wrapUp k (2 ^ k - 1) ≡ 0
@@ -232,3 +241,17 @@ module _ (r : FuseRt) (c : Call) (a : T (accepted c)) where
   pub full-clamps : r .control .clamps ≡ 65535 → itemOf r c (answerOf r c) .events .clamped ≡ false
   unfolding eventsOf noEvents
   full-clamps e = by-events (λ (ev : TickEvents). ev .clamped ≡ false) (rw (eq-eqb _ _ (stays-full e (counters-go r c a .machine .clamps))) refl) refl
+
+-- ---- the stored nonces
+
+and-off : (a b c : Bool) → c ≡ false → (a && (b && c)) ≡ false
+and-off true true c e = e
+and-off true false c e = refl
+and-off false b c e = refl
+
+-- a slot that stored the largest number of 64 bits accepts nothing more until a reset
+pub slot-ends : (handoff : ℕ) (nonces : List ℕ) (a : VerifiedAck) → getD nonces (a .«operator_slot») 0 ≡ 2 ^ 64 - 1 → a .nonce < 2 ^ 64
+    → acceptedAck handoff nonces (Given a) ≡ NoAck
+unfolding acceptedAck acceptedBy
+slot-ends handoff nonces a e h =
+    rw (and-off (ltb (a .«operator_slot») 8) (eqb (a .«handoff_seq») handoff) (ltb (getD nonces (a .«operator_slot») 0) (a .nonce)) (le-ltb (getD nonces (a .«operator_slot») 0) (a .nonce) (omega arith))) refl

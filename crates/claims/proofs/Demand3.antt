@@ -67,20 +67,22 @@ seenBy r c clean p =
     record { from = r .control .state; to = p; took = cond bits NoAck (takenIn (r .control .state) (ackOf r c)); bits = bits; ack = ackOf r c }
 
 module _ (r : FuseRt) (c : Call) (z : Sized (c .settings)) where
-  clean-turns : ArmLaw (c .settings) (armOf (c .settings) r) (seenBy r c true (cleanTurn r c .state)) (armIn (c .settings) (cleanTurn r c .rt .state) (cleanTurn r c .rt))
+  -- the law of the arm, for a tick under the call's own settings that ends in p and leaves r′
+  abbrev Holds : Bool → FuseState → Control → Type 0
+  Holds clean p r′ = ArmLaw (c .settings) (armOf (c .settings) r) (seenBy r c clean p) (armIn (c .settings) (r′ .state) r′)
+
+  clean-turns : Holds true (cleanTurn r c .state) (cleanTurn r c .rt)
   unfolding readyOf machineInput judgeOf tripsOf ackOf configOf
   clean-turns = turns (c .settings) z (readyOf (r .control) (foundOf r c)) _ _ _ _ _ refl refl
 
-  fault-turns : anyOf (guardBits r c) faultBits ≡ true
-      → ArmLaw (c .settings) (armOf (c .settings) r) (seenBy r c false (faultTurn r c .state)) (armIn (c .settings) (faultTurn r c .rt .state) (faultTurn r c .rt))
+  fault-turns : anyOf (guardBits r c) faultBits ≡ true → Holds false (faultTurn r c .state) (faultTurn r c .rt)
   unfolding faultInput
   fault-turns e = turns (c .settings) z (r .control) _ (faultInput (configOf (c .settings)) (c .input) (guardBits r c)) true NoAck _ e refl
 
-  -- the law of the arm, for a tick under the call's own settings
   arm-ticks : ArmLaw (c .settings) (armOf (c .settings) r) (seenOf r c (givenOf (decided r c))) (armOf (c .settings) (decided r c .rt))
   unfolding givenOf tookOf bitsOf cleanTick closeClean faultTick closeFault closedOf verdictOf faultVerdict
   arm-ticks =
-      by-guard (λ b (d : Decided). ArmLaw (c .settings) (armOf (c .settings) r) (seenBy r c b (d .verdict .state)) (armOf (c .settings) (d .rt))) r c
+      by-guard (λ b (d : Decided). Holds b (d .verdict .state) (d .rt .control)) r c
       (λ h. clean-turns) (λ h. fault-turns (guard-faults r c ∙ true-of (not (eqb (guardBits r c) 0)) h))
 
 module _ (s : Settings) (z : Sized s) where
@@ -90,11 +92,15 @@ module _ (s : Settings) (z : Sized s) where
   abbrev Arms : FuseRt → Step FuseRt Seen → Type 0
   Arms = Meets (stepOf seenOf) (armOf s) Any (Under s) (ArmLaw s)
 
-  -- a call under s meets the law, and a refused one changes nothing
+  -- a call under s meets the law, and a refused one changes nothing that is seen
   arm-meets : (r : FuseRt) (c : Call) → Unit {0} → Under s c → Arms r (stepOf seenOf r c)
   arm-meets r c o u =
       by-step seenOf (λ r′. Arms r) r c
-      (λ h. (tt, subst (λ (s′ : Settings). ArmLaw s′ (armOf s′ r) (seenOf r c (givenOf (decided r c))) (armOf s′ (decided r c .rt))) (u h) (arm-ticks r c (subst Sized (sym (u h)) z))))
+      (λ h. (
+        tt,
+        subst (λ (s′ : Settings). ArmLaw s′ (armOf s′ r) (seenOf r c (givenOf (decided r c))) (armOf s′ (decided r c .rt))) (u h)
+            (arm-ticks r c (subst Sized (sym (u h)) z)),
+      ))
       (λ h. (tt, refl))
 
   pub arm-runs : (r : FuseRt) (cs : List Call) → All (Under s) cs → Run (ArmLaw s) (armOf s r) (ticksFrom r cs)
@@ -109,7 +115,7 @@ floorOf r = floorIn (r .control .«last_nonce»)
 abbrev pub Eight : FuseRt → Type 0
 Eight r = length (r .control .«last_nonce») ≡ 8
 
--- a turn of the machine from `start`
+-- a turn of the machine from `start`; only what it consumes matters of what is seen
 spends : (cfg : FuseConfig) (start : Control) (pos : List Float) (inp : FsmInput) (from to : FuseState) (bits : Bool) (took shown : MaybeAck)
     → length (start .«last_nonce») ≡ 8 → took ≡ consumedOf start inp
     → let after = nextOf cfg start pos inp .rt .«last_nonce» in

@@ -49,22 +49,25 @@ Under s c = T (accepted c) → c .settings ≡ s
 
 -- ---- what a tick brings, and what it does with it
 
--- a fault bit: one that the guard finds, or one among the outcome's trips that the settings leave
+-- the bits that the guard finds
 unfoldable pub guardBits : FuseRt → Call → ℕ
 guardBits r c = guardOf (configOf (c .settings)) (r .clock) (c .input) (c .pos) (c .vel) (c .aux) (c .ext) (c .chunk)
 
+-- the outcome's trips, as far as the settings keep them
 unfoldable pub tripsOf : Call → ℕ
 tripsOf c = maskedOf (c .outcome .trips) (c .outcome .feasible) (c .settings .«tier0_enabled»)
 
+-- a fault bit comes: the guard finds one (it finds no others), or the trips hold one
 unfoldable pub bitsOf : FuseRt → Call → Bool
 bitsOf r c = not (eqb (guardBits r c) 0) || anyOf (tripsOf c) faultBits
 
--- the acknowledgement that comes, if it is accepted: its slot is below 8, its handoff number is the current one, its nonce exceeds the slot's stored nonce
+-- the acknowledgement that comes, if it is accepted (01-scope.md, Transitions; lictor_table, specs/Helpers, acceptedBy)
 unfoldable pub ackOf : FuseRt → Call → MaybeAck
 ackOf r c = acceptedAck (r .control .«handoff_seq») (r .control .«last_nonce») (c .input .ack)
 
--- The one that is consumed: brought and accepted, where the line for Escalated decides the tick, or where the line for Held does and it is a Resume or an
--- Abort. Those lines decide the ticks from Escalated and from Held, unless a fault bit comes.
+-- The one that the tick consumes (01-scope.md, The list in demand 3), from what the tick brings and the state that it starts from. A fault bit decides the tick
+-- before the lines for Held and Escalated; where none comes, these decide the ticks from those two states, and takenIn says what they consume. That the
+-- verdict's flag says the same is proved too (Flag).
 unfoldable pub tookOf : FuseRt → Call → MaybeAck
 tookOf r c = cond (bitsOf r c) NoAck (takenIn (r .control .state) (ackOf r c))
 
@@ -88,7 +91,8 @@ seenOf r c a = record { from = r .control .state; to = a .verdict .state; took =
 -- ---- the list
 
 module _ {A : Type 0} (see : FuseRt → Call → Ticked → A) where
-  -- A call and its answer. The next call gets the run state that this one returns, refused or not; a refused call is no tick.
+  -- A call and its answer. The next call gets the run state that this one returns, refused or not: a refused one returns what it got (proofs/Tick,
+  -- refused-keeps). It is no tick.
   abbrev pub stepBy : FuseRt → Call → Ticked → Step FuseRt A
   stepBy r c a = cond (isAccepted (a .check)) (event (see r c a) (a .rt)) (silent (a .rt))
 

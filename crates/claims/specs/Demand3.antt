@@ -1,5 +1,6 @@
--- Demand 3, stops close: one claim about every list of calls from a reset on (00-demands.md, Demand 3; 01-scope.md, The list in demand 3).
--- Proved in proofs/Demand3, `stops-close`.
+-- Demand 3, stops close: one claim about every list of calls from a reset on (00-demands.md, Demand 3; 01-scope.md, The list in demand 3). It stands at the end
+-- of this file, and is proved in proofs/Demand3, `stops-close`. Of other files it names: what is said of a list (Runs); a call, its settings, what is seen of
+-- its tick, the ticks of a list (Calls); the state that `reset` leaves, by the definition that it promises (lictor_core, specs/Initial, resetOf).
 use mathlib.Core.Bool.{Bool, true, false, cond, not, _&&_, _||_}
 use mathlib.Core.List.{List}
 use mathlib.Core.Path.{_≡_}
@@ -20,7 +21,7 @@ use Rattle.claims.specs.Calls.{Call, Under, Seen, ticksFrom}
 
 -- ---- the settings' limits
 
--- the brake, hold, handoff and rearm limits
+-- the brake, hold, handoff and rearm limits: B, H, E and max_rearms of the paper
 abbrev pub B : Settings → ℕ
 B s = s .hyst .«brake_timeout_ticks»
 
@@ -33,8 +34,8 @@ E s = s .hyst .«handoff_timeout_ticks»
 abbrev pub maxRearms : Settings → ℕ
 maxRearms s = s .hyst .«max_rearms»
 
--- Each limit is a number that its field holds: in the code they are a u16, a u16, a u32 and a u8 (crates/lictor_core/src/envelope.rt, Hysteresis), which a
--- definition does not show.
+-- Each limit is a number that its field can hold: a u16, a u16, a u32 and a u8 in the code (crates/lictor_core/src/envelope.rt, Hysteresis). A definition has
+-- whole numbers without bounds, so it is said here; every record that the code holds meets it, as `sized` promises (src/lib.rt).
 pub record Sized (s : Settings) : Type 0 where
   pub brake : B s ≤ 65535
   pub hold : H s ≤ 65535
@@ -51,53 +52,53 @@ endsIn q x = isState q (x .to)
 abbrev pub startsFrom : FuseState → Seen → Bool
 startsFrom q x = isState q (x .from)
 
--- braking begins: the tick ends in Braking from another state
+-- a stop begins (the paper: braking begins)
 abbrev pub begins : Seen → Bool
 begins x = endsIn Braking x && not (startsFrom Braking x)
 
--- the stop is over: the tick ends in Armed, Fault or Terminated
+-- a stop is over with this tick, whichever way
 abbrev pub closes : Seen → Bool
 closes x = endsIn Armed x || (endsIn Fault x || endsIn Terminated x)
 
--- the acknowledgement is the one with this slot and nonce, whatever else it carries
+-- it is the acknowledgement with this slot and nonce: these two alone tell one from another
 abbrev pub Is : MaybeAck → ℕ → ℕ → Type 0
 Is NoAck slot nonce = ⊥
 Is (Given a) slot nonce = (a .«operator_slot» ≡ slot) × (a .nonce ≡ nonce)
 
--- the tick consumes that one
+-- the tick consumes that one (what it consumes, if anything: Calls, tookOf)
 abbrev pub Consumes : Seen → ℕ → ℕ → Type 0
 Consumes x slot nonce = Is (x .took) slot nonce
 
 abbrev pub none? : MaybeAck → Bool
 none? ack = byAck ack true (λ a. false)
 
--- the fuse rearms by itself: the tick goes from Held to Armed and consumes no acknowledgement; one if so, else zero
+-- the fuse rearms by itself in this tick: 1, or it does not: 0
 abbrev pub rearms : Seen → ℕ
 rearms x = cond (endsIn Armed x && (startsFrom Held x && none? (x .took))) 1 0
 
--- a plain sum, with no ceiling
+-- a sum of whole numbers, which no type cuts off
 abbrev pub limit : Settings → ℕ
 limit s = B s + H s + E s + 2
 
--- ---- the four parts
+-- ---- the four parts, in the order of 00-demands.md
 
--- once braking began, one of the next n ticks ends in Armed, Fault or Terminated, if the list goes that far
+-- of every tick with which a stop begins: of the n after it, where there are as many, one closes the stop
 abbrev pub StopsWithin : ℕ → List Seen → Type 0
 StopsWithin n l = Each (λ x after. T (begins x) → n ≤ length after → Some (λ y. T (closes y)) (take n after)) l
 
--- one of the next B + H + E + 2
+-- stops: within the limit
 abbrev pub Stops : Settings → List Seen → Type 0
 Stops s l = StopsWithin (limit s) l
 
--- after a tick that ends in Fault every later one does
+-- faults: Fault is for good
 abbrev pub Faults : List Seen → Type 0
 Faults l = Each (λ x after. T (endsIn Fault x) → All (λ y. T (endsIn Fault y)) after) l
 
--- the fuse rearms by itself at most as often as the rearm limit (since the reset: a Resume does not clear the rearm count)
+-- rearms: by itself the fuse rearms no more often than the settings say. Counted from the reset, since a Resume adds to the rearm count and does not clear it.
 abbrev pub Rearms : Settings → List Seen → Type 0
 Rearms s l = total rearms l ≤ maxRearms s
 
--- no acknowledgement is consumed twice
+-- acks: what is consumed once is not consumed again
 abbrev pub Acks : List Seen → Type 0
 Acks l = (slot nonce : ℕ) → Each (λ x after. Consumes x slot nonce → All (λ y. ¬ Consumes y slot nonce) after) l
 
@@ -109,7 +110,7 @@ pub record Demand3 (s : Settings) (l : List Seen) : Type 0 where
   pub rearms : Rearms s l
   pub acks : Acks l
 
--- For every settings record s, from what a reset of any run state leaves, of every list of calls that are under s or refused. (Where s itself does not
--- pass the check, every call is refused, and the list has no tick.)
+-- For every settings record s, of every list of calls that are under s or refused, from what a reset of any run state leaves. (Where s itself does not pass
+-- the check, every call is refused, and the list has no tick.)
 abbrev pub StopsClose : Type 0
 StopsClose = (s : Settings) → Sized s → (r : FuseRt) (cs : List Call) → All (Under s) cs → Demand3 s (ticksFrom (resetOf r) cs)
