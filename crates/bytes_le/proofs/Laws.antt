@@ -33,21 +33,22 @@ leAt-more s at n i p =
 -- eight bytes, each times its weight
 pub leAt-8 : (s : List ℕ) (at : ℕ)
     → leAt s at 8
-        ≡ byteAt s at + byteAt s (at + 1) * 256 ^ 1 + byteAt s (at + 2) * 256 ^ 2 + byteAt s (at + 3) * 256 ^ 3 + byteAt s (at + 4) * 256 ^ 4 + byteAt s (at + 5) * 256 ^ 5
-            + byteAt s (at + 6) * 256 ^ 6 + byteAt s (at + 7) * 256 ^ 7
+    ≡ byteAt s at + byteAt s (at + 1) * 256 ^ 1 + byteAt s (at + 2) * 256 ^ 2 + byteAt s (at + 3) * 256 ^ 3 + byteAt s (at + 4) * 256 ^ 4 + byteAt s (at + 5) * 256 ^ 5
+    + byteAt s (at + 6) * 256 ^ 6 + byteAt s (at + 7) * 256 ^ 7
 leAt-8 s at =
     let z : at + 0 ≡ at = omega arith in
     let first : leAt s at 8 ≡ leAt s (at + 1) 7 * 256 + byteAt s at = rw z at (leAt-more s at 8 0 (lit< tt)) in
-    omega
-    (arith
-    , leAt-more s at 8 1 (lit< tt)
-    , leAt-more s at 8 2 (lit< tt)
-    , leAt-more s at 8 3 (lit< tt)
-    , leAt-more s at 8 4 (lit< tt)
-    , leAt-more s at 8 5 (lit< tt)
-    , leAt-more s at 8 6 (lit< tt)
-    , leAt-more s at 8 7 (lit< tt)
-    , leAt-none s (at + 8) 0 refl)
+    omega (
+      arith,
+      leAt-more s at 8 1 (lit< tt),
+      leAt-more s at 8 2 (lit< tt),
+      leAt-more s at 8 3 (lit< tt),
+      leAt-more s at 8 4 (lit< tt),
+      leAt-more s at 8 5 (lit< tt),
+      leAt-more s at 8 6 (lit< tt),
+      leAt-more s at 8 7 (lit< tt),
+      leAt-none s (at + 8) 0 refl,
+    )
 
 -- past the end there is nothing
 pub leAt-past : (s : List ℕ) (at w : ℕ) → length s ≤ at → leAt s at w ≡ 0

@@ -22,13 +22,14 @@ module _ (b : List ℕ) (at n : ℕ) where
   filled-none out l = record { short = omega arith; long = l; front = refl }
 
   pub filled-more : (out : List Float) (i : ℕ) (v : Float) → i < n → Filled b at n out i → v ≡ floatAt b (at + i * 8) → Filled b at n (set out i v) (i + 1)
-  filled-more out i v h f e = record
-    { short = omega arith
-    ; long = length-set out i v ∙ f .long
-    ; front = rw add-one
+  filled-more out i v h f e = record {
+    short = omega arith;
+    long = length-set out i v ∙ f .long;
+    front = rw add-one
         (take-suc-set out i v (omega (arith, f .long))
         ∙ ap₂ (λ (p : List Float) (x : Float). p ++ (x ∷ [])) (f .front) e
-        ∙ sym (floats-more b at i)) }
+        ∙ sym (floats-more b at i));
+  }
 
   pub filled-all : (out : List Float) (i : ℕ) → n ≤ i → Filled b at n out i → out ≡ floatsAt b at n
   filled-all out i h f =

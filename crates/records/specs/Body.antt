@@ -5,6 +5,7 @@ use Prim.Native.Nat.{ℕ}
 use lib.Dec.{eqb}
 use Rattle.bytes_le.specs.Little.{byteAt, leAt, floatAt, floatsAt}
 use Rattle.lictor_core.specs.Codes.{decisionOf}
+use Rattle.records.specs.Kinds.{settingsKind, resetKind, ackKind, headKind, valueKind, outcomeKind}
 use Rattle.lictor_core.specs.declared.ack.VerifiedAck.{VerifiedAck}
 use Rattle.lictor_core.specs.declared.chunk.ChunkHead.{ChunkHead}
 use Rattle.lictor_core.specs.declared.envelope.Hysteresis.{Hysteresis}
@@ -22,44 +23,46 @@ flag n = eqb n 1
 
 -- kind 1 has its limits in several places of its 220 bytes
 unfoldable pub limitsOf : List ℕ → Hysteresis
-limitsOf b = record
-  { k = byteAt b 6
-  ; «warn_margin» = floatAt b 76
-  ; «clear_ticks» = byteAt b 7
-  ; «clamp_streak_to_brake» = byteAt b 8
-  ; «max_clamps_per_episode» = leAt b 16 2
-  ; «stop_confirm_ticks» = byteAt b 9
-  ; «v_stop_eps» = floatAt b 68
-  ; «brake_timeout_ticks» = leAt b 18 2
-  ; «rearm_hold» = leAt b 20 2
-  ; «max_rearms» = byteAt b 11
-  ; «escalate_after_hold_ticks» = leAt b 22 2
-  ; «handoff_timeout_ticks» = leAt b 24 4
-  ; «watchdog_ticks» = byteAt b 10 }
+limitsOf b = record {
+  k = byteAt b 6;
+  «warn_margin» = floatAt b 76;
+  «clear_ticks» = byteAt b 7;
+  «clamp_streak_to_brake» = byteAt b 8;
+  «max_clamps_per_episode» = leAt b 16 2;
+  «stop_confirm_ticks» = byteAt b 9;
+  «v_stop_eps» = floatAt b 68;
+  «brake_timeout_ticks» = leAt b 18 2;
+  «rearm_hold» = leAt b 20 2;
+  «max_rearms» = byteAt b 11;
+  «escalate_after_hold_ticks» = leAt b 22 2;
+  «handoff_timeout_ticks» = leAt b 24 4;
+  «watchdog_ticks» = byteAt b 10;
+}
 
 unfoldable pub calibrationOf : List ℕ → Calibration
 calibrationOf b = record { mask = leAt b 32 4; tau = floatAt b 84 }
 
 -- kind 1: 12 single bytes (0 to 11), six 16-bit numbers (12 to 23), three of 32 bits (24 to 35), one of 64 (36 to 43), and 22 floats (44 to 219)
 unfoldable pub settingsOf : List ℕ → S.Settings
-settingsOf b = record
-  { mode = byteAt b 0
-  ; kind = byteAt b 1
-  ; clamp = byteAt b 2
-  ; rearm = byteAt b 3
-  ; dim = byteAt b 4
-  ; «pos_dim» = byteAt b 5
-  ; horizon = leAt b 12 2
-  ; exec = leAt b 14 2
-  ; dt = floatAt b 44
-  ; «inv_dt» = floatAt b 52
-  ; «a_max» = floatAt b 60
-  ; «box_lo» = floatsAt b 92 8
-  ; «box_hi» = floatsAt b 156 8
-  ; hyst = limitsOf b
-  ; «window_mask» = leAt b 36 8
-  ; «tier0_enabled» = leAt b 28 4
-  ; calib = calibrationOf b }
+settingsOf b = record {
+  mode = byteAt b 0;
+  kind = byteAt b 1;
+  clamp = byteAt b 2;
+  rearm = byteAt b 3;
+  dim = byteAt b 4;
+  «pos_dim» = byteAt b 5;
+  horizon = leAt b 12 2;
+  exec = leAt b 14 2;
+  dt = floatAt b 44;
+  «inv_dt» = floatAt b 52;
+  «a_max» = floatAt b 60;
+  «box_lo» = floatsAt b 92 8;
+  «box_hi» = floatsAt b 156 8;
+  hyst = limitsOf b;
+  «window_mask» = leAt b 36 8;
+  «tier0_enabled» = leAt b 28 4;
+  calib = calibrationOf b;
+}
 
 -- kind 3: decision, slot, nonce, handoff
 unfoldable pub ackOf : List ℕ → VerifiedAck
@@ -74,14 +77,15 @@ scoresOf b = record { z = floatsAt b 33 12; s = floatAt b 17; valid = leAt b 25 
 
 -- kind 6: trips, clamped_dims, feasible flag, margin, s, valid, fired, z (12), policy row (8), clamped row (8)
 unfoldable pub outcomeOf : List ℕ → O.Outcome
-outcomeOf b = record
-  { trips = leAt b 0 4
-  ; «clamped_dims» = leAt b 4 4
-  ; feasible = flag (byteAt b 8)
-  ; margin = floatAt b 9
-  ; scores = scoresOf b
-  ; policy = floatsAt b 129 8
-  ; clamped = floatsAt b 193 8 }
+outcomeOf b = record {
+  trips = leAt b 0 4;
+  «clamped_dims» = leAt b 4 4;
+  feasible = flag (byteAt b 8);
+  margin = floatAt b 9;
+  scores = scoresOf b;
+  policy = floatsAt b 129 8;
+  clamped = floatsAt b 193 8;
+}
 
 -- kind 7: t, idx, missed, schema flag, velocity flag
 unfoldable pub tickOf : List ℕ → TickNumbers
@@ -90,10 +94,10 @@ tickOf b = record { t = leAt b 0 4; idx = leAt b 4 2; «missed_ticks» = byteAt 
 -- the record of kind k with body b. Kind 5, value, has a list code and a float. A kind that is not listed is refused before, and its case here is the last.
 unfoldable pub recordOf : ℕ → List ℕ → Record
 recordOf k b =
-    cond (eqb k 1) Settings
-    (cond (eqb k 2) Reset
-    (cond (eqb k 3) (Ack (ackOf b))
-    (cond (eqb k 4) (Head (headOf b))
-    (cond (eqb k 5) (Value (byteAt b 0) (floatAt b 1))
-    (cond (eqb k 6) Outcome
+    cond (eqb k settingsKind) Settings
+    (cond (eqb k resetKind) Reset
+    (cond (eqb k ackKind) (Ack (ackOf b))
+    (cond (eqb k headKind) (Head (headOf b))
+    (cond (eqb k valueKind) (Value (byteAt b 0) (floatAt b 1))
+    (cond (eqb k outcomeKind) Outcome
     (Tick (tickOf b)))))))

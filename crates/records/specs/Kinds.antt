@@ -10,6 +10,27 @@ use lib.ListN.{length, getD}
 abbrev pub journalKinds : List ℕ
 journalKinds = 220 ∷ 0 ∷ 14 ∷ 14 ∷ 9 ∷ 257 ∷ 9 ∷ []
 
+abbrev pub settingsKind : ℕ
+settingsKind = 1
+
+abbrev pub resetKind : ℕ
+resetKind = 2
+
+abbrev pub ackKind : ℕ
+ackKind = 3
+
+abbrev pub headKind : ℕ
+headKind = 4
+
+abbrev pub valueKind : ℕ
+valueKind = 5
+
+abbrev pub outcomeKind : ℕ
+outcomeKind = 6
+
+abbrev pub tickKind : ℕ
+tickKind = 7
+
 -- kind k is one of these kinds
 unfoldable pub isKnown : List ℕ → ℕ → Bool
 isKnown kinds k = ltb 0 k && leb k (length kinds)

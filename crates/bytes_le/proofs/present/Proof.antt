@@ -55,7 +55,7 @@ loop-again c =
     let i = c .before .before .before .loop .i in
     let e : i - 1 + 1 ≡ i = omega arith in
     let m : leAt (a .s .now) (a .at + (i - 1)) (a .n - (i - 1)) ≡ leAt (a .s .now) (a .at + i) (a .n - i) * 256 + getD (a .s .now) (a .at + (i - 1)) 0
-        = rw e at (leAt-more (a .s .now) (a .at) (a .n) (i - 1) (omega arith)) in
+    = rw e at (leAt-more (a .s .now) (a .at) (a .n) (i - 1) (omega arith)) in
     (omega arith, omega arith)
 
 returns : tie.Need-returns Inv-loop μ-loop

@@ -58,24 +58,25 @@ le32-requires c κs = search needs
 returns : tie.Need-returns
 unfolding settingsOf
 returns c =
-    λ i. record
-      { mode = c .before .before .before .before .before .before .before .before .before .before .before .before .byte .ensures i
-      ; kind = c .before .before .before .before .before .before .before .before .before .before .before .byte2 .ensures i
-      ; clamp = c .before .before .before .before .before .before .before .before .before .before .byte3 .ensures i
-      ; rearm = c .before .before .before .before .before .before .before .before .before .byte4 .ensures i
-      ; dim = c .before .before .before .before .before .before .before .before .byte5 .ensures i
-      ; «pos_dim» = c .before .before .before .before .before .before .before .byte6 .ensures i
-      ; horizon = c .before .before .before .before .before .before .le16 .ensures i
-      ; exec = c .before .before .before .before .before .le162 .ensures i
-      ; dt = c .before .before .before .before .f64-at .ensures i
-      ; «inv_dt» = c .before .before .before .f64-at2 .ensures i
-      ; «a_max» = c .before .before .f64-at3 .ensures i
-      ; «box_lo» = c .before .before .before .before .before .before .before .before .before .before .before .before .before .before .before .before .eight .ensures i
-      ; «box_hi» = c .before .before .before .before .before .before .before .before .before .before .before .before .before .before .before .eight2 .ensures i
-      ; hyst = c .before .before .before .before .before .before .before .before .before .before .before .before .before .before .read-limits .ensures i
-      ; «window_mask» = c .before .le64 .ensures i
-      ; «tier0_enabled» = c .le32 .ensures i
-      ; calib = c .before .before .before .before .before .before .before .before .before .before .before .before .before .read-calibration .ensures i }
+    λ i. record {
+      mode = c .before .before .before .before .before .before .before .before .before .before .before .before .byte .ensures i;
+      kind = c .before .before .before .before .before .before .before .before .before .before .before .byte2 .ensures i;
+      clamp = c .before .before .before .before .before .before .before .before .before .before .byte3 .ensures i;
+      rearm = c .before .before .before .before .before .before .before .before .before .byte4 .ensures i;
+      dim = c .before .before .before .before .before .before .before .before .byte5 .ensures i;
+      «pos_dim» = c .before .before .before .before .before .before .before .byte6 .ensures i;
+      horizon = c .before .before .before .before .before .before .le16 .ensures i;
+      exec = c .before .before .before .before .before .le162 .ensures i;
+      dt = c .before .before .before .before .f64-at .ensures i;
+      «inv_dt» = c .before .before .before .f64-at2 .ensures i;
+      «a_max» = c .before .before .f64-at3 .ensures i;
+      «box_lo» = c .before .before .before .before .before .before .before .before .before .before .before .before .before .before .before .before .eight .ensures i;
+      «box_hi» = c .before .before .before .before .before .before .before .before .before .before .before .before .before .before .before .eight2 .ensures i;
+      hyst = c .before .before .before .before .before .before .before .before .before .before .before .before .before .before .read-limits .ensures i;
+      «window_mask» = c .before .le64 .ensures i;
+      «tier0_enabled» = c .le32 .ensures i;
+      calib = c .before .before .before .before .before .before .before .before .before .before .before .before .before .read-calibration .ensures i;
+    }
 
 pub read-settings-spec : {M : Type 1} → statement M
 read-settings-spec =
