@@ -1,1 +1,10 @@
-pub mod Select
+pub mod Order
+pub mod Lists
+pub mod Patterns
+pub mod Squares
+pub mod Rounded
+pub mod Whole
+pub mod Steps
+pub mod Units
+pub mod Nearest
+pub mod Vectors

@@ -1,12 +1,34 @@
--- Float helpers (fmath.rs).
-use mathlib.Core.Bool.{cond}
-use lib.Ieee.{Float, lt}
+-- The helpers of fmath.rs on binary64 values (01-scope.md, Modules 2). Definitions only.
+use Prim.Native.Nat.{ℕ}
+use mathlib.Core.Bool.{Bool, true, cond, _&&_}
+use mathlib.Core.List.{List, [], _∷_}
+use lib.ListN.{take}
+use lib.Ieee.{Float, binary64, add, mul, lt}
+use lib.Ieee.Scale.{finite}
+use Rattle.fmath.specs.Root.{rootOf, plusZero}
 
+-- fmath.rs, min: a where a < b, and otherwise b, also where one of them is a NaN
 unfoldable pub minOf : Float → Float → Float
 minOf a b = cond (lt a b) a b
 
+-- fmath.rs, max: a where a > b, and otherwise b, so that a NaN as b wins and one as a loses
 unfoldable pub maxOf : Float → Float → Float
 maxOf a b = cond (lt b a) a b
 
+-- fmath.rs, clamp
 unfoldable pub clampOf : Float → Float → Float → Float
 clampOf x lo hi = maxOf lo (minOf x hi)
+
+-- fmath.rs, all_finite: no element is a NaN or an infinity
+unfoldable pub allFinite : List Float → Bool
+allFinite [] = true
+allFinite (x ∷ xs) = finite x && allFinite xs
+
+-- s with the squares of the elements added to it, the first element's first, each square and each sum rounded
+unfoldable pub addSquares : Float → List Float → Float
+addSquares s [] = s
+addSquares s (x ∷ xs) = addSquares (add binary64 s (mul binary64 x x)) xs
+
+-- fmath.rs, norm: the root of the sum of the squares of the first n components, from +0. There are fewer where v is shorter; there fmath.rs stops with an index out of range.
+unfoldable pub normOf : List Float → ℕ → Float
+normOf v n = rootOf (addSquares plusZero (take n v))

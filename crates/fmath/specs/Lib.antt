@@ -1,1 +1,3 @@
 pub mod Float
+pub mod Root
+pub mod Steps

@@ -1,3 +1,6 @@
 -- Laws that belong to no one function.
 pub mod Branch
 pub mod Counts
+pub mod Rows
+pub mod Below
+pub mod Nan

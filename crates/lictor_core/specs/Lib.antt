@@ -4,3 +4,5 @@ pub mod Masks
 pub mod Num
 pub mod Cases
 pub mod Initial
+pub mod Rows
+pub mod Settings

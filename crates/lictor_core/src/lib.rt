@@ -7,7 +7,9 @@ pub mod fuse; // fuse.rs: the run state and a tick's numbers
 pub mod num; // saturating and wrapping counts
 pub mod outcome; // what the detectors found
 pub mod reason; // reason.rs
+pub mod zero; // rows of zeros
 pub mod scores; // scores.rs
+pub mod settings; // the check of the settings
 pub mod state; // state.rs
 pub mod tally; // tally.rs
 pub mod verdict; // verdict.rs

@@ -1,5 +1,6 @@
 // Counts that stop at their type's end, and a number that wraps there.
 ghost use mathlib.Core.Path.{_≡_};
+ghost use Prim.Native.Nat as Nat;
 ghost use Rattle.lictor_core.specs.Num.{satUp, wrapUp};
 
 // saturating_add(1), at each width in use.
@@ -26,4 +27,11 @@ pub fn wrap_u32(x: u32) -> u32
     ensures { λ r. ⌜ r ≡ wrapUp 32 x ⌝ }
 {
     std::num::wrapping_add_u32(x, 1)
+}
+
+// The smaller of two sizes.
+pub fn least(a: usize, b: usize) -> usize
+    ensures { λ r. ⌜ r ≡ Nat.min a b ⌝ }
+{
+    if a < b { a } else { b }
 }

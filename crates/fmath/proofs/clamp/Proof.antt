@@ -1,5 +1,6 @@
-use Rattle.fmath.specs.Float.{clampOf}
+-- `fmath::clamp` meets its contract. Assumes nothing.
 use borrow.Author.Needs.{needs}
+use Rattle.fmath.specs.Float.{clampOf}
 use Rattle.fmath.proofs.clamp.Statement.{statement}
 use Rattle.fmath.proofs.clamp.Tie as tie
 

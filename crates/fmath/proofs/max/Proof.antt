@@ -1,16 +1,14 @@
-use Rattle.fmath.proofs.Select.{on-true, on-false}
-use borrow.Author.Needs.{needs}
-use Rattle.fmath.specs.Float.{maxOf}
+-- `fmath::max` meets its contract. Assumes nothing.
+use mathlib.Core.Path.{sym}
+use Rattle.fmath.proofs.Order.{max-greater, max-not-greater}
 use Rattle.fmath.proofs.max.Statement.{statement}
 use Rattle.fmath.proofs.max.Tie as tie
 
 returns : tie.Need-returns
-unfolding maxOf
-returns c = search (on-true, on-false)
+returns c = sym (max-greater _ _ (c .if1 .taken))
 
 returns-2 : tie.Need-returns-2
-unfolding maxOf
-returns-2 c = search (on-true, on-false)
+returns-2 c = sym (max-not-greater _ _ (c .if1 .left))
 
 pub max-spec : {M : Type 1} → statement M
 max-spec = tie.close (tie.spec returns returns-2)

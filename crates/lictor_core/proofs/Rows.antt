@@ -1,0 +1,41 @@
+-- Laws of `rowTo`: how a loop makes it place by place, and what stands at each place of it.
+use mathlib.Core.Path.{_≡_, refl, sym, _∙_, ap}
+use mathlib.Core.List.{List}
+use Prim.Native.Nat.{ℕ, zero, suc, _+_, _<_, _≤_}
+use native.Mathlib.Numerals.{add-one}
+use native.Mathlib.Omega.{arith}
+use native.Mathlib.Decide.{ℕ-discrete}
+use lib.ListN.{set, getD, length, length-set}
+use lib.Seq.{getD-set-same, getD-set-other}
+use lib.Ieee.{Float}
+use Rattle.lictor_core.specs.Rows.{rowTo}
+
+pub row-none : (f : ℕ → Float) (h : List Float) → h ≡ rowTo f h 0
+unfolding rowTo
+row-none f h = refl
+
+pub row-more : (f : ℕ → Float) (h g : List Float) (k : ℕ) (v : Float) → g ≡ rowTo f h k → v ≡ f k → set g k v ≡ rowTo f h (k + 1)
+unfolding rowTo
+row-more f h g k v p q = rw (add-one, p, q)
+
+pub row-length : (f : ℕ → Float) (h : List Float) (n : ℕ) → length (rowTo f h n) ≡ length h
+unfolding rowTo
+row-length f h zero = refl
+row-length f h (suc k) = simp length-set (row-length f h k)
+
+at-last : (f : ℕ → Float) (h : List Float) (k i : ℕ) (d : Float) → i < suc k → suc k ≤ length h → (i < k → getD (rowTo f h k) i d ≡ f i) → Dec (i ≡ k)
+    → getD (set (rowTo f h k) k (f k)) i d ≡ f i
+at-last f h k i d l m ih (yes e) = rw e (getD-set-same (rowTo f h k) k (f k) d (rw (row-length f h k) m))
+at-last f h k i d l m ih (no e) = getD-set-other (rowTo f h k) k i (f k) d e ∙ ih (omega arith)
+
+-- within the first n places
+pub row-in : (f : ℕ → Float) (h : List Float) (n i : ℕ) (d : Float) → i < n → n ≤ length h → getD (rowTo f h n) i d ≡ f i
+unfolding rowTo
+row-in f h zero i d l m = absurd (omega arith)
+row-in f h (suc k) i d l m = at-last f h k i d l m (λ q. row-in f h k i d q (omega arith)) (ℕ-discrete i k)
+
+-- from place n on
+pub row-out : (f : ℕ → Float) (h : List Float) (n i : ℕ) (d : Float) → n ≤ i → getD (rowTo f h n) i d ≡ getD h i d
+unfolding rowTo
+row-out f h zero i d l = refl
+row-out f h (suc k) i d l = getD-set-other (rowTo f h k) k i (f k) d (λ e. omega arith) ∙ row-out f h k i d (omega arith)

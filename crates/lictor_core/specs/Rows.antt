@@ -1,0 +1,10 @@
+-- A row of which the first places are given by their index: what each loop over an array of the fuse makes.
+use mathlib.Core.List.{List}
+use Prim.Native.Nat.{ℕ, zero, suc}
+use lib.ListN.{set}
+use lib.Ieee.{Float}
+
+-- `old` with its first n places f 0, f 1, .. f (n - 1)
+unfoldable pub rowTo : (ℕ → Float) → List Float → ℕ → List Float
+rowTo f old zero = old
+rowTo f old (suc k) = set (rowTo f old k) k (f k)

@@ -1,0 +1,28 @@
+-- The hit window and the trip (01-scope.md, Modules 3 and One tick; window.rs, conformal.rs).
+use mathlib.Core.Bool.{Bool, cond}
+use Prim.Native.Nat.{ℕ, _*_, _%_, _^_}
+use lib.Bits.{bitAnd, bitOr}
+use lib.Count.{ones}
+use lib.Ieee.{lt}
+use Rattle.lictor_core.specs.declared.fuse.Window.{Window}
+use Rattle.lictor_core.specs.declared.envelope.Calibration.{Calibration}
+use Rattle.lictor_core.specs.declared.scores.Scores.{Scores}
+
+unfoldable pub bitOf : Bool → ℕ
+bitOf hit = cond hit 1 0
+
+-- Window::push: the register moves up by one place, its bit 63 drops, the hit comes in at bit 0; then only bits of the mask stay
+unfoldable pub pushOf : Window → Bool → ℕ → Window
+pushOf w hit mask = record { bits = bitAnd (bitOr (w .bits * 2 % 2 ^ 64) (bitOf hit)) mask }
+
+-- Window::hits: the number of ones
+unfoldable pub hitsOf : Window → ℕ
+hitsOf w = ones (w .bits)
+
+-- Window::clear
+unfoldable pub clearWindow : Window
+clearWindow = record { bits = 0 }
+
+-- hit (01-scope.md, One tick): the score is above tau, strictly
+unfoldable pub tripOf : Calibration → Scores → Bool
+tripOf cal sc = lt (cal .tau) (sc .s)

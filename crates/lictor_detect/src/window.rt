@@ -1,0 +1,34 @@
+// The K-of-N hit window: a shift register of 64 bits (window.rs).
+ghost use mathlib.Core.Path.{_≡_};
+ghost use Rattle.lictor_detect.specs.Window.{bitOf, pushOf, hitsOf, clearWindow};
+use lictor_core::fuse::Window;
+
+fn bit(hit: bool) -> u64
+    ensures { λ r. ⌜ r ≡ bitOf hit ⌝ }
+{
+    if hit { 1 } else { 0 }
+}
+
+// The newest hit comes in at bit 0; the oldest bit drops out.
+pub fn push(w: Window, hit: bool, mask: u64) -> Window
+    ensures { λ r. ⌜ r ≡ pushOf w hit mask ⌝ }
+{
+    let h = bit(hit);
+    Window {
+        bits: (w.bits << 1 | h) & mask,
+    }
+}
+
+// The number of hits, 0 to 64.
+pub fn hits(w: Window) -> u8
+    ensures { λ r. ⌜ r ≡ hitsOf w ⌝ }
+{
+    u64::count_ones(w.bits) as u8
+}
+
+// A window without hits.
+pub fn clear() -> Window
+    ensures { λ r. ⌜ r ≡ clearWindow ⌝ }
+{
+    Window { bits: 0 }
+}

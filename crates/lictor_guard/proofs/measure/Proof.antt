@@ -1,0 +1,10 @@
+use Rattle.lictor_guard.specs.Guard.{lengthsOf}
+use Rattle.lictor_guard.proofs.measure.Statement.{statement}
+use Rattle.lictor_guard.proofs.measure.Tie as tie
+
+returns : tie.Need-returns
+unfolding lengthsOf
+returns c = cc
+
+pub measure-spec : {M : Type 1} → statement M
+measure-spec = tie.close (tie.spec returns)

@@ -1,0 +1,242 @@
+// Stage 0 of a tick: the bits that make it a fault tick (fuse.rs, guard). It only reads.
+ghost use mathlib.Core.Path.{_≡_};
+ghost use mathlib.Core.Bool.{_&&_, not};
+ghost use Prim.Native.Nat.{_*_};
+ghost use lib.Dec.{eqb};
+ghost use Rattle.fmath.specs.Float.{allFinite};
+ghost use Rattle.lictor_guard.specs.Guard.{deliveredOf, nonFinite, lengthsOf, shapeBad, sizesBad, placeBad, headBad, deliveryBad, clockBad, schemaBad, bitIf, guardOf};
+use lictor_core::chunk::ChunkHead;
+use lictor_core::chunk::MAX_AUX;
+use lictor_core::chunk::MAX_EXT;
+use lictor_core::chunk::MaybeChunk;
+use lictor_core::envelope::FuseConfig;
+use lictor_core::fuse::Clock;
+use lictor_core::fuse::TickInput;
+use lictor_core::state::Time;
+use lictor_core::verdict::NONFINITE;
+use lictor_core::verdict::SCHEMA;
+use lictor_core::verdict::WATCHDOG;
+
+// The lengths of the five lists.
+pub struct Lengths {
+    pub pos: usize,
+    pub vel: usize,
+    pub aux: usize,
+    pub ext: usize,
+    pub chunk: usize,
+}
+
+fn measure(pos: &[f64], vel: &[f64], aux: &[f64], ext: &[f64], chunk: &[f64]) -> Lengths
+    ensures { λ r. ⌜ r ≡ lengthsOf (now (pos .entry)) (now (vel .entry)) (now (aux .entry)) (now (ext .entry)) (now (chunk .entry)) ⌝ }
+{
+    Lengths {
+        pos: pos.len(),
+        vel: vel.len(),
+        aux: aux.len(),
+        ext: ext.len(),
+        chunk: chunk.len(),
+    }
+}
+
+// Whether the tick delivers a chunk.
+pub fn delivered(c: MaybeChunk) -> bool
+    ensures { λ r. ⌜ r ≡ deliveredOf c ⌝ }
+{
+    match c {
+        MaybeChunk::NoChunk => false,
+        MaybeChunk::Delivered(h) => true,
+    }
+}
+
+fn some_bad(v: &[f64]) -> bool
+    ensures { λ r. ⌜ r ≡ not (allFinite (now (v .entry))) ⌝ }
+{
+    !fmath::all_finite(v)
+}
+
+// A list that is not supplied is not looked at.
+fn bad_if(supplied: bool, v: &[f64]) -> bool
+    ensures { λ r. ⌜ r ≡ (supplied && not (allFinite (now (v .entry)))) ⌝ }
+{
+    if supplied {
+        return some_bad(v);
+    }
+    false
+}
+
+fn nonfinite(
+    has_vel: bool,
+    has_chunk: bool,
+    pos: &[f64],
+    vel: &[f64],
+    aux: &[f64],
+    ext: &[f64],
+    chunk: &[f64],
+) -> bool
+    ensures { λ r. ⌜ r ≡ nonFinite «has_vel» «has_chunk» (now (pos .entry)) (now (vel .entry)) (now (aux .entry)) (now (ext .entry)) (now (chunk .entry)) ⌝ }
+{
+    if some_bad(pos) {
+        return true;
+    }
+    if bad_if(has_vel, vel) {
+        return true;
+    }
+    if some_bad(aux) {
+        return true;
+    }
+    if some_bad(ext) {
+        return true;
+    }
+    bad_if(has_chunk, chunk)
+}
+
+fn differs_if(supplied: bool, a: usize, b: usize) -> bool
+    ensures { λ r. ⌜ r ≡ (supplied && not (eqb a b)) ⌝ }
+{
+    if supplied {
+        return a != b;
+    }
+    false
+}
+
+// The host's flag, the index and the lengths.
+fn shape_bad(cfg: FuseConfig, inp: TickInput, l: Lengths) -> bool
+    ensures { λ r. ⌜ r ≡ shapeBad cfg inp l ⌝ }
+{
+    if inp.schema_fault {
+        return true;
+    }
+    if cfg.horizon <= inp.idx as usize {
+        return true;
+    }
+    if l.pos != cfg.pos_dim {
+        return true;
+    }
+    if MAX_AUX < l.aux {
+        return true;
+    }
+    if MAX_EXT < l.ext {
+        return true;
+    }
+    differs_if(inp.has_vel, l.vel, cfg.pos_dim)
+}
+
+fn other(a: u16, b: usize) -> bool
+    ensures { λ r. ⌜ r ≡ not (eqb a b) ⌝ }
+{
+    a as usize != b
+}
+
+// The product of two 16-bit numbers, which always fits.
+fn area(h: u16, d: u16) -> usize
+    ensures { λ r. ⌜ r ≡ h * d ⌝ }
+{
+    h as usize * d as usize
+}
+
+fn not_filled(n: usize, h: u16, d: u16) -> bool
+    ensures { λ r. ⌜ r ≡ not (eqb n (h * d)) ⌝ }
+{
+    let a = area(h, d);
+    n != a
+}
+
+// What a chunk's head says of its sizes.
+fn sizes_bad(cfg: FuseConfig, h: ChunkHead, n: usize) -> bool
+    ensures { λ r. ⌜ r ≡ sizesBad cfg h n ⌝ }
+{
+    if other(h.dim, cfg.dim) {
+        return true;
+    }
+    if other(h.horizon, cfg.horizon) {
+        return true;
+    }
+    if other(h.exec_steps, cfg.exec) {
+        return true;
+    }
+    not_filled(n, h.horizon, h.dim)
+}
+
+// Its place in the sequence and in time.
+fn place_bad(h: ChunkHead, next: u32, t: Time, idx: u16) -> bool
+    ensures { λ r. ⌜ r ≡ placeBad h next t idx ⌝ }
+{
+    if h.seq != next {
+        return true;
+    }
+    if t < h.t_emit {
+        return true;
+    }
+    idx as u32 != t - h.t_emit
+}
+
+fn head_bad(cfg: FuseConfig, next: u32, t: Time, idx: u16, n: usize, h: ChunkHead) -> bool
+    ensures { λ r. ⌜ r ≡ headBad cfg next t idx n h ⌝ }
+{
+    if sizes_bad(cfg, h, n) {
+        return true;
+    }
+    place_bad(h, next, t, idx)
+}
+
+fn delivery_bad(cfg: FuseConfig, k: Clock, inp: TickInput, n: usize) -> bool
+    ensures { λ r. ⌜ r ≡ deliveryBad cfg k inp n ⌝ }
+{
+    let c = inp.chunk;
+    match c {
+        MaybeChunk::NoChunk => !k.filled,
+        MaybeChunk::Delivered(h) => head_bad(cfg, k.next_chunk_seq, inp.t, inp.idx, n, h),
+    }
+}
+
+// The clock: its sum is wide enough never to wrap.
+fn clock_bad(seq: u32, last_t: Time, t: Time, missed: u8) -> bool
+    ensures { λ r. ⌜ r ≡ clockBad seq «last_t» t missed ⌝ }
+{
+    if seq == 0 {
+        return t != 0;
+    }
+    last_t as u64 + 1 + missed as u64 != t as u64
+}
+
+fn schema_bad(cfg: FuseConfig, k: Clock, inp: TickInput, l: Lengths) -> bool
+    ensures { λ r. ⌜ r ≡ schemaBad cfg k inp l ⌝ }
+{
+    if shape_bad(cfg, inp, l) {
+        return true;
+    }
+    if delivery_bad(cfg, k, inp, l.chunk) {
+        return true;
+    }
+    clock_bad(k.seq, k.last_t, inp.t, inp.missed_ticks)
+}
+
+fn bit_if(t: bool, bit: u32) -> u32
+    ensures { λ r. ⌜ r ≡ bitIf t bit ⌝ }
+{
+    if t { bit } else { 0 }
+}
+
+// All bits that apply.
+pub fn guard(
+    cfg: FuseConfig,
+    k: Clock,
+    inp: TickInput,
+    pos: &[f64],
+    vel: &[f64],
+    aux: &[f64],
+    ext: &[f64],
+    chunk: &[f64],
+) -> u32
+    ensures { λ r. ⌜ r ≡ guardOf cfg k inp (now (pos .entry)) (now (vel .entry)) (now (aux .entry)) (now (ext .entry)) (now (chunk .entry)) ⌝ }
+{
+    let c = inp.chunk;
+    let has_chunk = delivered(c);
+    let odd = nonfinite(inp.has_vel, has_chunk, pos, vel, aux, ext, chunk);
+    let l = measure(pos, vel, aux, ext, chunk);
+    let wrong = schema_bad(cfg, k, inp, l);
+    let x = bit_if(odd, NONFINITE);
+    let y = bit_if(wrong, SCHEMA);
+    let z = bit_if(cfg.hyst.watchdog_ticks < inp.missed_ticks, WATCHDOG);
+    x | y | z
+}
