@@ -2,6 +2,7 @@
 use mathlib.Core.Bool.{Bool, cond}
 use mathlib.Core.List.{List, [], _∷_}
 use Prim.Native.Nat.{ℕ}
+use lib.Dec.{eqb}
 use lib.ListN.{drop}
 use Rattle.records.specs.Kinds.{journalKinds}
 use Rattle.judge.specs.declared.Seen.{Seen}
@@ -23,6 +24,10 @@ numberOf NotFinite = 3
 numberOf BoxCrossed = 4
 numberOf ListFull = 7
 numberOf NotReady = 10
+
+-- the one refusal that more bytes can undo
+abbrev pub isCut : Refusal → Bool
+isCut r = eqb (numberOf r) (numberOf CutBody)
 
 -- a row: what is answered where the cause is there. A cause goes by what has been seen, the kind, and the body as far as it came.
 pub record Row : Type 0 where

@@ -1,0 +1,182 @@
+-- The reader is a machine over bytes that come in parts, and what it leaves over is shorter than a record.
+use Prim.Native.Nat.{ℕ, zero, suc, _+_, _-_, _≤_, _<_}
+use mathlib.Core.Path.{_≡_, refl, sym, ap, _∙_}
+use mathlib.Core.List.{List, [], _∷_, _++_}
+use mathlib.Core.Bool.{Bool, true, false, cond}
+use native.Mathlib.Omega.{arith}
+use native.Mathlib.Decide.{decLe}
+use borrow.Author.Tests.{lt-ltb, le-ltb, leb-true}
+use lib.ListN.{length, take, drop, length-take, length-append, getD}
+use lib.Seq.{take-append-le}
+use lib.Dec.{leb}
+use Rattle.records.specs.declared.Record.{Record}
+use Rattle.records.specs.declared.Record.the-variants.{Settings, Reset, Ack, Head, Value, Outcome, Tick}
+use Rattle.records.specs.Kinds.{journalKinds, bodyLen}
+use Rattle.records.specs.Body.{recordOf}
+use Rattle.judge.specs.declared.Refusal.{Refusal}
+use Rattle.judge.specs.declared.Refusal.the-variants.{UnknownKind, CutBody}
+use Rattle.judge.specs.declared.Judged.{Judged}
+use Rattle.judge.specs.declared.Judged.the-variants.{Accepted, Refused}
+use Rattle.judge.specs.declared.Seen.{Seen}
+use Rattle.judge.specs.Causes.{unknownKind, bodyCut}
+use Rattle.judge.specs.Table.{isCut, judgedOf}
+use Rattle.judge.proofs.Framing.{judged-unknown, judged-cut, accepted-whole, whole-not-cut}
+use Rattle.reader.specs.Stream.{Next, wait, halt, go, tell, Machine, Settled, End, waiting, halted, settled}
+use Rattle.reader.specs.State.{State}
+use Rattle.reader.specs.Reading.{Instruction, onRecord, onJudged, nextOf}
+use Rattle.reader.proofs.Stream.{Still, settled-still}
+
+abbrev Move : Type 0
+Move = Next State Instruction Refusal
+
+-- whether a move takes a record, and how long that is
+takes : Move → Bool
+takes wait = false
+takes (halt r) = false
+takes (go st n) = true
+takes (tell st n e) = true
+
+length-of : Move → ℕ
+length-of wait = 0
+length-of (halt r) = 0
+length-of (go st n) = n
+length-of (tell st n e) = n
+
+record-length : (st : State) (b : List ℕ) (n : ℕ) (r : Record) → length-of (onRecord st b n r) ≡ n
+unfolding length-of onRecord
+record-length st b n Settings = refl
+record-length st b n Reset = refl
+record-length st b n (Ack a) = refl
+record-length st b n (Head h) = refl
+record-length st b n (Value c x) = refl
+record-length st b n Outcome = refl
+record-length st b n (Tick t) = refl
+
+-- a record that is not turned away does not wait
+record-moves : (st : State) (b : List ℕ) (n : ℕ) (r : Record) → onRecord st b n r ≡ wait → ⊥
+unfolding onRecord
+record-moves st b n Settings e = let z : _≡_ {A = ℕ} 0 1 = cc in omega arith
+record-moves st b n Reset e = let z : _≡_ {A = ℕ} 0 1 = cc in omega arith
+record-moves st b n (Ack a) e = let z : _≡_ {A = ℕ} 0 1 = cc in omega arith
+record-moves st b n (Head h) e = let z : _≡_ {A = ℕ} 0 1 = cc in omega arith
+record-moves st b n (Value c x) e = let z : _≡_ {A = ℕ} 0 1 = cc in omega arith
+record-moves st b n Outcome e = let z : _≡_ {A = ℕ} 0 1 = cc in omega arith
+record-moves st b n (Tick t) e = let z : _≡_ {A = ℕ} 0 1 = cc in omega arith
+
+-- the body of a record of kind k, as far as it came
+abbrev body : ℕ → List ℕ → List ℕ
+body k u = take (bodyLen journalKinds k) u
+
+abbrev seenOf : State → Seen
+seenOf st = st .reader .waiting .seen
+
+module _ (st : State) (k : ℕ) (u : List ℕ) where
+  -- the move, by what the judge says
+  pub next-is : (x : Judged) → judgedOf journalKinds (seenOf st) k (body k u) ≡ x → nextOf st (k ∷ u) ≡ onJudged st k (body k u) x
+  unfolding nextOf
+  next-is x e = rw e refl
+
+  refused-takes : (r : Refusal) (t : Bool) → isCut r ≡ t → takes (onJudged st k (body k u) (Refused r)) ≡ false
+  unfolding takes onJudged
+  refused-takes r true e = rw e refl
+  refused-takes r false e = rw e refl
+
+  -- what is taken is there whole
+  taken-by : (x : Judged) → judgedOf journalKinds (seenOf st) k (body k u) ≡ x → takes (nextOf st (k ∷ u)) ≡ true
+      → (0 < length-of (nextOf st (k ∷ u))) × (length-of (nextOf st (k ∷ u)) ≤ length (k ∷ u))
+  unfolding onJudged
+  taken-by (Refused r) e p = absurd (let z : _≡_ {A = Bool} true false = sym p ∙ ap takes (next-is (Refused r) e) ∙ refused-takes r (isCut r) refl in no z)
+    where
+      no : true ≡ false → ⊥
+      no z = let f : _≡_ {A = ℕ} 0 1 = cc in omega arith
+  taken-by Accepted e p =
+      let l : length-of (nextOf st (k ∷ u)) ≡ suc (bodyLen journalKinds k)
+          = ap length-of (next-is Accepted e) ∙ record-length st (body k u) (suc (bodyLen journalKinds k)) (recordOf k (body k u)) in
+      (omega arith, omega (arith, accepted-whole (seenOf st) k (body k u) journalKinds e, length-take (bodyLen journalKinds k) u))
+
+  is-cut : (bodyLen journalKinds k ≤ length u → ⊥) → bodyCut journalKinds (seenOf st) k (body k u) ≡ true
+  unfolding bodyCut
+  is-cut h = lt-ltb (length (body k u)) (bodyLen journalKinds k) (omega (arith, length-take (bodyLen journalKinds k) u))
+
+-- the same bytes with more behind them
+more-by : (st : State) (k : ℕ) (u t : List ℕ) → Dec (bodyLen journalKinds k ≤ length u) → (c : Bool) → unknownKind journalKinds (seenOf st) k (body k u) ≡ c
+    → (nextOf st (k ∷ u) ≡ wait → ⊥) → nextOf st (k ∷ u ++ t) ≡ nextOf st (k ∷ u)
+unfolding nextOf unknownKind onJudged
+more-by st k u t (yes h) c e w =
+    ap (λ (b : List ℕ). onJudged st k b (judgedOf journalKinds (seenOf st) k b)) (take-append-le (bodyLen journalKinds k) u t h)
+more-by st k u t (no h) true e w =
+    next-is st k (u ++ t) (Refused UnknownKind) (judged-unknown (seenOf st) k (body k (u ++ t)) journalKinds e)
+    ∙ sym (next-is st k u (Refused UnknownKind) (judged-unknown (seenOf st) k (body k u) journalKinds e))
+more-by st k u t (no h) false e w =
+    absurd (w (next-is st k u (Refused CutBody) (judged-cut (seenOf st) k (body k u) journalKinds e (is-cut st k u h))))
+
+stands-by : (st : State) (s t : List ℕ) → (nextOf st s ≡ wait → ⊥) → nextOf st (s ++ t) ≡ nextOf st s
+unfolding nextOf
+stands-by st [] t w = absurd (w refl)
+stands-by st (k ∷ u) t w = more-by st k u t (decLe _ _) (unknownKind journalKinds (seenOf st) k (body k u)) refl w
+
+taken : (st : State) (s : List ℕ) → takes (nextOf st s) ≡ true → (0 < length-of (nextOf st s)) × (length-of (nextOf st s) ≤ length s)
+unfolding nextOf takes
+taken st [] p = absurd (let f : _≡_ {A = ℕ} 0 1 = cc in omega arith)
+taken st (k ∷ u) p = taken-by st k u (judgedOf journalKinds (seenOf st) k (body k u)) refl p
+
+pub machine : Machine nextOf
+unfolding takes length-of
+machine = record
+  { goes = λ st s st' n e. (let b = taken st s (ap takes e) in (omega (arith, b .0, ap length-of e), omega (arith, b .1, ap length-of e)))
+  ; tells-on = λ st s st' n i e. (let b = taken st s (ap takes e) in (omega (arith, b .0, ap length-of e), omega (arith, b .1, ap length-of e)))
+  ; stands = stands-by }
+
+-- ---- what waits for more bytes is shorter than a record
+
+-- every number of a list is at most m
+all-under : ℕ → List ℕ → Bool
+all-under m [] = true
+all-under m (x ∷ l) = cond (leb x m) (all-under m l) false
+
+under-by : (m x : ℕ) (l : List ℕ) (t : Bool) → leb x m ≡ t → all-under m (x ∷ l) ≡ true → (x ≤ m) × (all-under m l ≡ true)
+unfolding all-under
+under-by m x l true e a = (leb-true x m e, rw e at a)
+under-by m x l false e a = absurd (let f : false ≡ true = rw e at a in let z : _≡_ {A = ℕ} 0 1 = cc in omega arith)
+
+under : (m : ℕ) (l : List ℕ) (k : ℕ) → all-under m l ≡ true → getD l k 0 ≤ m
+under m [] k a = omega arith
+under m (x ∷ l) zero a = under-by m x l (leb x m) refl a .0
+under m (x ∷ l) (suc k) a = under m l k (under-by m x l (leb x m) refl a .1)
+
+bodies-short : (k : ℕ) → bodyLen journalKinds k ≤ 257
+unfolding bodyLen all-under
+bodies-short k = under 257 (0 ∷ journalKinds) k refl
+
+not-wait-halt : (x : Move) (r : Refusal) → x ≡ wait → x ≡ halt r → ⊥
+not-wait-halt x r p q = let z : _≡_ {A = ℕ} 0 1 = cc in omega arith
+
+-- a record that is there whole does not wait
+whole-moves : (st : State) (k : ℕ) (u : List ℕ) → bodyLen journalKinds k ≤ length u → (x : Judged) → judgedOf journalKinds (seenOf st) k (body k u) ≡ x
+    → nextOf st (k ∷ u) ≡ wait → ⊥
+unfolding onJudged bodyCut
+whole-moves st k u h Accepted e w = record-moves st (body k u) (suc (bodyLen journalKinds k)) (recordOf k (body k u)) (sym (next-is st k u Accepted e) ∙ w)
+whole-moves st k u h (Refused r) e w =
+    let c : bodyCut journalKinds (seenOf st) k (body k u) ≡ false
+        = le-ltb (length (body k u)) (bodyLen journalKinds k) (omega (arith, length-take (bodyLen journalKinds k) u)) in
+    let q : isCut r ≡ false = whole-not-cut (seenOf st) k (body k u) journalKinds r c e in
+    not-wait-halt (nextOf st (k ∷ u)) r w (next-is st k u (Refused r) e ∙ rw q refl)
+
+short-by : (st : State) (k : ℕ) (u : List ℕ) → nextOf st (k ∷ u) ≡ wait → Dec (bodyLen journalKinds k ≤ length u) → length u < bodyLen journalKinds k
+short-by st k u w (yes h) = absurd (whole-moves st k u h (judgedOf journalKinds (seenOf st) k (body k u)) refl w)
+short-by st k u w (no h) = omega arith
+
+-- what waits for more bytes is no more than 257 of them
+pub waits-short : (st : State) (s : List ℕ) → nextOf st s ≡ wait → length s ≤ 257
+waits-short st [] w = omega arith
+waits-short st (k ∷ u) w = omega (arith, short-by st k u w (decLe _ _), bodies-short k)
+
+-- so that is all that a reader carries over from one part to the next
+rest-by : (st : State) (s : List ℕ) (x : End Refusal) → settled nextOf st s .end ≡ x → x ≡ waiting → length (settled nextOf st s .rest) ≤ 257
+rest-by st s waiting e p =
+    let w : nextOf (settled nextOf st s .state) (settled nextOf st s .rest) ≡ wait = rw e at (settled-still nextOf machine st s) in
+    waits-short (settled nextOf st s .state) (settled nextOf st s .rest) w
+rest-by st s (halted r) e p = absurd (let z : _≡_ {A = ℕ} 0 1 = cc in omega arith)
+
+pub rest-short : (st : State) (s : List ℕ) → settled nextOf st s .end ≡ waiting → length (settled nextOf st s .rest) ≤ 257
+rest-short st s e = rest-by st s (settled nextOf st s .end) refl e
