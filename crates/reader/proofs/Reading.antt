@@ -21,9 +21,10 @@ use Rattle.judge.specs.declared.Seen.{Seen}
 use Rattle.judge.specs.Causes.{unknownKind, bodyCut}
 use Rattle.judge.specs.Table.{isCut, judgedOf}
 use Rattle.judge.proofs.Framing.{judged-unknown, judged-cut, accepted-whole, whole-not-cut}
+use Rattle.reader.specs.declared.Look.the-variants as L
 use Rattle.reader.specs.Stream.{Next, wait, halt, go, tell, Machine, Settled, End, waiting, halted, settled}
 use Rattle.reader.specs.State.{State}
-use Rattle.reader.specs.Reading.{Instruction, onRecord, onJudged, nextOf}
+use Rattle.reader.specs.Reading.{Instruction, lookAs, lookOf, onRecord, onLook, nextOf}
 use Rattle.reader.proofs.Stream.{Still, settled-still}
 
 abbrev Move : Type 0
@@ -71,54 +72,73 @@ abbrev seenOf : State → Seen
 seenOf st = st .reader .waiting .seen
 
 module _ (st : State) (k : ℕ) (u : List ℕ) where
-  -- the move, by what the judge says
-  pub next-is : (x : Judged) → judgedOf journalKinds (seenOf st) k (body k u) ≡ x → nextOf st (k ∷ u) ≡ onJudged st k (body k u) x
-  unfolding nextOf
-  next-is x e = rw e refl
+  abbrev judged : Judged
+  judged = judgedOf journalKinds (seenOf st) k (body k u)
 
-  refused-takes : (r : Refusal) (t : Bool) → isCut r ≡ t → takes (onJudged st k (body k u) (Refused r)) ≡ false
-  unfolding takes onJudged
-  refused-takes r true e = rw e refl
-  refused-takes r false e = rw e refl
+  refused-look : (r : Refusal) (t : Bool) → onLook st (k ∷ u) (cond t L.Waits (L.Refuses r)) ≡ cond t wait (halt r)
+  unfolding onLook
+  refused-look r true = refl
+  refused-look r false = refl
+
+  -- the move, by what the judge says
+  pub next-refused : (r : Refusal) → judged ≡ Refused r → nextOf st (k ∷ u) ≡ cond (isCut r) wait (halt r)
+  unfolding nextOf lookOf lookAs
+  next-refused r e = rw e (refused-look r (isCut r))
+
+  pub next-accepted : judged ≡ Accepted → nextOf st (k ∷ u) ≡ onRecord st (body k u) (suc (bodyLen journalKinds k)) (recordOf k (body k u))
+  unfolding nextOf lookOf lookAs onLook
+  next-accepted e = rw e refl
+
+  refused-takes : (r : Refusal) (t : Bool) → takes (cond t wait (halt r)) ≡ false
+  unfolding takes
+  refused-takes r true = refl
+  refused-takes r false = refl
 
   -- what is taken is there whole
-  taken-by : (x : Judged) → judgedOf journalKinds (seenOf st) k (body k u) ≡ x → takes (nextOf st (k ∷ u)) ≡ true
+  taken-by : (x : Judged) → judged ≡ x → takes (nextOf st (k ∷ u)) ≡ true
       → (0 < length-of (nextOf st (k ∷ u))) × (length-of (nextOf st (k ∷ u)) ≤ length (k ∷ u))
-  unfolding onJudged
-  taken-by (Refused r) e p = absurd (let z : _≡_ {A = Bool} true false = sym p ∙ ap takes (next-is (Refused r) e) ∙ refused-takes r (isCut r) refl in no z)
+  taken-by (Refused r) e p = absurd (let z : _≡_ {A = Bool} true false = sym p ∙ ap takes (next-refused r e) ∙ refused-takes r (isCut r) in no z)
     where
       no : true ≡ false → ⊥
       no z = let f : _≡_ {A = ℕ} 0 1 = cc in omega arith
   taken-by Accepted e p =
       let l : length-of (nextOf st (k ∷ u)) ≡ suc (bodyLen journalKinds k)
-          = ap length-of (next-is Accepted e) ∙ record-length st (body k u) (suc (bodyLen journalKinds k)) (recordOf k (body k u)) in
+          = ap length-of (next-accepted e) ∙ record-length st (body k u) (suc (bodyLen journalKinds k)) (recordOf k (body k u)) in
       (omega arith, omega (arith, accepted-whole (seenOf st) k (body k u) journalKinds e, length-take (bodyLen journalKinds k) u))
 
   is-cut : (bodyLen journalKinds k ≤ length u → ⊥) → bodyCut journalKinds (seenOf st) k (body k u) ≡ true
   unfolding bodyCut
   is-cut h = lt-ltb (length (body k u)) (bodyLen journalKinds k) (omega (arith, length-take (bodyLen journalKinds k) u))
 
--- the same bytes with more behind them
+-- the same bytes with more behind them: a record that is there whole is judged, and read, by its own bytes alone
+whole-stands : (st : State) (k : ℕ) (u t : List ℕ) → bodyLen journalKinds k ≤ length u → (x : Judged) → judged st k u ≡ x → nextOf st (k ∷ u ++ t) ≡ nextOf st (k ∷ u)
+whole-stands st k u t h (Refused r) e =
+    next-refused st k (u ++ t) r (ap (judgedOf journalKinds (seenOf st) k) (take-append-le (bodyLen journalKinds k) u t h) ∙ e) ∙ sym (next-refused st k u r e)
+whole-stands st k u t h Accepted e =
+    let q : body k (u ++ t) ≡ body k u = take-append-le (bodyLen journalKinds k) u t h in
+    next-accepted st k (u ++ t) (ap (judgedOf journalKinds (seenOf st) k) q ∙ e)
+    ∙ ap (λ (b : List ℕ). onRecord st b (suc (bodyLen journalKinds k)) (recordOf k b)) q
+    ∙ sym (next-accepted st k u e)
+
 more-by : (st : State) (k : ℕ) (u t : List ℕ) → Dec (bodyLen journalKinds k ≤ length u) → (c : Bool) → unknownKind journalKinds (seenOf st) k (body k u) ≡ c
     → (nextOf st (k ∷ u) ≡ wait → ⊥) → nextOf st (k ∷ u ++ t) ≡ nextOf st (k ∷ u)
-unfolding nextOf unknownKind onJudged
-more-by st k u t (yes h) c e w =
-    ap (λ (b : List ℕ). onJudged st k b (judgedOf journalKinds (seenOf st) k b)) (take-append-le (bodyLen journalKinds k) u t h)
+unfolding unknownKind
+more-by st k u t (yes h) c e w = whole-stands st k u t h (judged st k u) refl
 more-by st k u t (no h) true e w =
-    next-is st k (u ++ t) (Refused UnknownKind) (judged-unknown (seenOf st) k (body k (u ++ t)) journalKinds e)
-    ∙ sym (next-is st k u (Refused UnknownKind) (judged-unknown (seenOf st) k (body k u) journalKinds e))
+    next-refused st k (u ++ t) UnknownKind (judged-unknown (seenOf st) k (body k (u ++ t)) journalKinds e)
+    ∙ sym (next-refused st k u UnknownKind (judged-unknown (seenOf st) k (body k u) journalKinds e))
 more-by st k u t (no h) false e w =
-    absurd (w (next-is st k u (Refused CutBody) (judged-cut (seenOf st) k (body k u) journalKinds e (is-cut st k u h))))
+    absurd (w (next-refused st k u CutBody (judged-cut (seenOf st) k (body k u) journalKinds e (is-cut st k u h))))
 
 stands-by : (st : State) (s t : List ℕ) → (nextOf st s ≡ wait → ⊥) → nextOf st (s ++ t) ≡ nextOf st s
-unfolding nextOf
+unfolding nextOf lookOf onLook
 stands-by st [] t w = absurd (w refl)
 stands-by st (k ∷ u) t w = more-by st k u t (decLe _ _) (unknownKind journalKinds (seenOf st) k (body k u)) refl w
 
 taken : (st : State) (s : List ℕ) → takes (nextOf st s) ≡ true → (0 < length-of (nextOf st s)) × (length-of (nextOf st s) ≤ length s)
-unfolding nextOf takes
+unfolding nextOf lookOf onLook takes
 taken st [] p = absurd (let f : _≡_ {A = ℕ} 0 1 = cc in omega arith)
-taken st (k ∷ u) p = taken-by st k u (judgedOf journalKinds (seenOf st) k (body k u)) refl p
+taken st (k ∷ u) p = taken-by st k u (judged st k u) refl p
 
 pub machine : Machine nextOf
 unfolding takes length-of
@@ -152,18 +172,17 @@ not-wait-halt : (x : Move) (r : Refusal) → x ≡ wait → x ≡ halt r → ⊥
 not-wait-halt x r p q = let z : _≡_ {A = ℕ} 0 1 = cc in omega arith
 
 -- a record that is there whole does not wait
-whole-moves : (st : State) (k : ℕ) (u : List ℕ) → bodyLen journalKinds k ≤ length u → (x : Judged) → judgedOf journalKinds (seenOf st) k (body k u) ≡ x
-    → nextOf st (k ∷ u) ≡ wait → ⊥
-unfolding onJudged bodyCut
-whole-moves st k u h Accepted e w = record-moves st (body k u) (suc (bodyLen journalKinds k)) (recordOf k (body k u)) (sym (next-is st k u Accepted e) ∙ w)
+whole-moves : (st : State) (k : ℕ) (u : List ℕ) → bodyLen journalKinds k ≤ length u → (x : Judged) → judged st k u ≡ x → nextOf st (k ∷ u) ≡ wait → ⊥
+unfolding bodyCut
+whole-moves st k u h Accepted e w = record-moves st (body k u) (suc (bodyLen journalKinds k)) (recordOf k (body k u)) (sym (next-accepted st k u e) ∙ w)
 whole-moves st k u h (Refused r) e w =
     let c : bodyCut journalKinds (seenOf st) k (body k u) ≡ false
         = le-ltb (length (body k u)) (bodyLen journalKinds k) (omega (arith, length-take (bodyLen journalKinds k) u)) in
     let q : isCut r ≡ false = whole-not-cut (seenOf st) k (body k u) journalKinds r c e in
-    not-wait-halt (nextOf st (k ∷ u)) r w (next-is st k u (Refused r) e ∙ rw q refl)
+    not-wait-halt (nextOf st (k ∷ u)) r w (next-refused st k u r e ∙ rw q refl)
 
 short-by : (st : State) (k : ℕ) (u : List ℕ) → nextOf st (k ∷ u) ≡ wait → Dec (bodyLen journalKinds k ≤ length u) → length u < bodyLen journalKinds k
-short-by st k u w (yes h) = absurd (whole-moves st k u h (judgedOf journalKinds (seenOf st) k (body k u)) refl w)
+short-by st k u w (yes h) = absurd (whole-moves st k u h (judged st k u) refl w)
 short-by st k u w (no h) = omega arith
 
 -- what waits for more bytes is no more than 257 of them

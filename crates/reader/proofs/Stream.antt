@@ -5,7 +5,7 @@ use mathlib.Core.Path.{_≡_, refl, sym, ap, ap₂, _∙_}
 use native.Mathlib.Omega.{arith}
 use lib.ListN.{length, take, drop, length-append, length-drop}
 use lib.Seq.{drop-append-le, drop-drop}
-use Rattle.reader.specs.Stream.{Next, wait, halt, go, tell, End, waiting, halted, Settled, telling, after, settle, settled, Turn, waits, halts, tells, Advanced, past, upTo, advance, advanced, Machine, fed, whole}
+use Rattle.reader.specs.Stream.{Next, wait, halt, go, tell, End, waiting, halted, Settled, telling, after, settle, settled, Advanced, past, upTo, advance, advanced, Machine, fed, whole}
 
 module _ {R E H : Type 0} (next : R → List ℕ → Next R E H) (m : Machine next) where
   -- the equation of one record
@@ -183,50 +183,52 @@ module _ {R E H : Type 0} (next : R → List ℕ → Next R E H) (m : Machine ne
   turns (suc f) zero r s p q = absurd (omega arith)
   turns (suc f) (suc g) r s p q = turns-by f g (λ r' u p' q'. turns f g r' u p' q') r s (omega arith) (omega arith) (next r s) refl
 
-  pub advanced-wait : (r : R) (s : List ℕ) → next r s ≡ wait → advanced next r s ≡ record { state = r; used = 0; turn = waits }
-  unfolding advanced
-  advanced-wait r s e = turn-is (length s) r s wait e
-
-  pub advanced-halt : (r : R) (s : List ℕ) (h : H) → next r s ≡ halt h → advanced next r s ≡ record { state = r; used = 0; turn = halts h }
-  unfolding advanced
-  advanced-halt r s h e = turn-is (length s) r s (halt h) e
-
+  -- one record more that tells nothing
   pub advanced-go : (r : R) (s : List ℕ) (r' : R) (n : ℕ) → next r s ≡ go r' n → advanced next r s ≡ past n (advanced next r' (drop n s))
   unfolding advanced
   advanced-go r s r' n e =
       let b = m .goes r s r' n e in
       turn-is (length s) r s (go r' n) e ∙ ap (past n) (turns (length s) (suc (length (drop n s))) r' (drop n s) (omega (arith, length-drop n s)) (omega arith))
 
-  pub advanced-tell : (r : R) (s : List ℕ) (r' : R) (n : ℕ) (t : E) → next r s ≡ tell r' n t → advanced next r s ≡ record { state = r'; used = n; turn = tells t }
+  -- anything else, and it is there
+  pub advanced-wait : (r : R) (s : List ℕ) → next r s ≡ wait → advanced next r s ≡ record { state = r; used = 0; next = wait }
+  unfolding advanced
+  advanced-wait r s e = turn-is (length s) r s wait e
+
+  pub advanced-halt : (r : R) (s : List ℕ) (h : H) → next r s ≡ halt h → advanced next r s ≡ record { state = r; used = 0; next = halt h }
+  unfolding advanced
+  advanced-halt r s h e = turn-is (length s) r s (halt h) e
+
+  pub advanced-tell : (r : R) (s : List ℕ) (r' : R) (n : ℕ) (t : E) → next r s ≡ tell r' n t → advanced next r s ≡ record { state = r; used = 0; next = tell r' n t }
   unfolding advanced
   advanced-tell r s r' n t e = turn-is (length s) r s (tell r' n t) e
 
-  -- what is left after an advance gives the rest
-  abbrev pub Rest : R → List ℕ → Advanced R E H → Turn E H → Type 0
-  Rest r s a waits = settled next r s ≡ record { state = a .state; rest = drop (a .used) s; told = []; end = waiting }
-  Rest r s a (halts h) = settled next r s ≡ record { state = a .state; rest = drop (a .used) s; told = []; end = halted h }
-  Rest r s a (tells t) = settled next r s ≡ telling (t ∷ []) (settled next (a .state) (drop (a .used) s))
+  -- what is left of the bytes gives what all of them give, and what the machine does next is what it says
+  pub record Ahead (r : R) (s : List ℕ) (a : Advanced R E H) : Type 0 where
+    pub rest : settled next r s ≡ settled next (a .state) (drop (a .used) s)
+    pub then : next (a .state) (drop (a .used) s) ≡ a .next
+    pub within : a .used ≤ length s
 
-  rest-past : (r r' : R) (s : List ℕ) (n : ℕ) (a : Advanced R E H) → settled next r s ≡ settled next r' (drop n s) → (x : Turn E H)
-      → Rest r' (drop n s) a x → Rest r s (past n a) x
-  rest-past r r' s n a e waits p = rw (drop-drop (a .used) n s) at (e ∙ p)
-  rest-past r r' s n a e (halts h) p = rw (drop-drop (a .used) n s) at (e ∙ p)
-  rest-past r r' s n a e (tells t) p = rw (drop-drop (a .used) n s) at (e ∙ p)
+  ahead-past : (r r' : R) (s : List ℕ) (n : ℕ) (a : Advanced R E H) → n ≤ length s → settled next r s ≡ settled next r' (drop n s) → Ahead r' (drop n s) a → Ahead r s (past n a)
+  ahead-past r r' s n a l e h = record
+    { rest = rw (drop-drop (a .used) n s) at (e ∙ h .rest)
+    ; then = rw (drop-drop (a .used) n s) at (h .then)
+    ; within = omega (arith, h .within, length-drop n s) }
 
-  advance-by : (f : ℕ) → ((r : R) (s : List ℕ) → length s < f → Rest r s (advance next f r s) (advance next f r s .turn))
-      → (r : R) (s : List ℕ) → length s ≤ f → (x : Next R E H) → next r s ≡ x → Rest r s (advance next (suc f) r s) (advance next (suc f) r s .turn)
-  advance-by f ih r s p wait e = rw (turn-is f r s wait e) (settled-wait r s e)
-  advance-by f ih r s p (halt h) e = rw (turn-is f r s (halt h) e) (settled-halt r s h e)
-  advance-by f ih r s p (go r' n) e =
+  ahead-by : (f : ℕ) → ((r : R) (s : List ℕ) → length s < f → Ahead r s (advance next f r s))
+      → (r : R) (s : List ℕ) → length s ≤ f → (x : Next R E H) → next r s ≡ x → Ahead r s (advance next (suc f) r s)
+  ahead-by f ih r s p wait e = rw (turn-is f r s wait e) (record { rest = refl; then = e; within = omega arith })
+  ahead-by f ih r s p (halt h) e = rw (turn-is f r s (halt h) e) (record { rest = refl; then = e; within = omega arith })
+  ahead-by f ih r s p (go r' n) e =
       let b = m .goes r s r' n e in
-      let a = advance next f r' (drop n s) in
-      rw (turn-is f r s (go r' n) e) (rest-past r r' s n a (settled-go r s r' n e) (a .turn) (ih r' (drop n s) (omega (arith, length-drop n s))))
-  advance-by f ih r s p (tell r' n t) e = rw (turn-is f r s (tell r' n t) e) (settled-tell r s r' n t e)
+      rw (turn-is f r s (go r' n) e)
+      (ahead-past r r' s n (advance next f r' (drop n s)) (b .1) (settled-go r s r' n e) (ih r' (drop n s) (omega (arith, length-drop n s))))
+  ahead-by f ih r s p (tell r' n t) e = rw (turn-is f r s (tell r' n t) e) (record { rest = refl; then = e; within = omega arith })
 
-  advance-at : (f : ℕ) (r : R) (s : List ℕ) → length s < f → Rest r s (advance next f r s) (advance next f r s .turn)
-  advance-at zero r s p = absurd (omega arith)
-  advance-at (suc f) r s p = advance-by f (λ r' u q. advance-at f r' u q) r s (omega arith) (next r s) refl
+  ahead-at : (f : ℕ) (r : R) (s : List ℕ) → length s < f → Ahead r s (advance next f r s)
+  ahead-at zero r s p = absurd (omega arith)
+  ahead-at (suc f) r s p = ahead-by f (λ r' u q. ahead-at f r' u q) r s (omega arith) (next r s) refl
 
-  pub advanced-rest : (r : R) (s : List ℕ) → Rest r s (advanced next r s) (advanced next r s .turn)
+  pub ahead : (r : R) (s : List ℕ) → Ahead r s (advanced next r s)
   unfolding advanced
-  advanced-rest r s = advance-at (suc (length s)) r s (omega arith)
+  ahead r s = ahead-at (suc (length s)) r s (omega arith)

@@ -2,3 +2,4 @@
 pub mod Stream
 pub mod State
 pub mod Reading
+pub mod Steps

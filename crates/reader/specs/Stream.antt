@@ -43,28 +43,23 @@ settle next (suc f) r s = after r s (next r s) (λ r' n. settle next f r' (drop 
 unfoldable pub settled : {R E H : Type 0} → (R → List ℕ → Next R E H) → R → List ℕ → Settled R E H
 settled next r s = settle next (suc (length s)) r s
 
--- how far a machine goes up to the first thing that it tells, and how that ends
-pub data Turn (E H : Type 0) : Type 0 where
-  waits : Turn E H
-  halts : H → Turn E H
-  tells : E → Turn E H
-
+-- how far a machine goes without telling anything: the state there, the bytes up to there, and what it does next
 pub record Advanced (R E H : Type 0) : Type 0 where
   pub state : R
   pub used : ℕ
-  pub turn : Turn E H
+  pub next : Next R E H
 
 abbrev pub past : {R E H : Type 0} → ℕ → Advanced R E H → Advanced R E H
-past n a = record { state = a .state; used = n + a .used; turn = a .turn }
+past n a = record { state = a .state; used = n + a .used; next = a .next }
 
 abbrev pub upTo : {R E H : Type 0} → R → Next R E H → (R → ℕ → Advanced R E H) → Advanced R E H
-upTo r wait k = record { state = r; used = 0; turn = waits }
-upTo r (halt h) k = record { state = r; used = 0; turn = halts h }
+upTo r wait k = record { state = r; used = 0; next = wait }
+upTo r (halt h) k = record { state = r; used = 0; next = halt h }
 upTo r (go r' n) k = past n (k r' n)
-upTo r (tell r' n e) k = record { state = r'; used = n; turn = tells e }
+upTo r (tell r' n e) k = record { state = r; used = 0; next = tell r' n e }
 
 unfoldable pub advance : {R E H : Type 0} → (R → List ℕ → Next R E H) → ℕ → R → List ℕ → Advanced R E H
-advance next zero r s = record { state = r; used = 0; turn = waits }
+advance next zero r s = record { state = r; used = 0; next = wait }
 advance next (suc f) r s = upTo r (next r s) (λ r' n. advance next f r' (drop n s))
 
 unfoldable pub advanced : {R E H : Type 0} → (R → List ℕ → Next R E H) → R → List ℕ → Advanced R E H
