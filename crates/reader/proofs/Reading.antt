@@ -103,7 +103,7 @@ module _ (st : State) (k : ℕ) (u : List ℕ) where
       no z = let f : _≡_ {A = ℕ} 0 1 = cc in omega arith
   taken-by Accepted e p =
       let l : length-of (nextOf st (k ∷ u)) ≡ suc (bodyLen journalKinds k)
-          = ap length-of (next-accepted e) ∙ record-length st (body k u) (suc (bodyLen journalKinds k)) (recordOf k (body k u)) in
+      = ap length-of (next-accepted e) ∙ record-length st (body k u) (suc (bodyLen journalKinds k)) (recordOf k (body k u)) in
       (omega arith, omega (arith, accepted-whole (seenOf st) k (body k u) journalKinds e, length-take (bodyLen journalKinds k) u))
 
   is-cut : (bodyLen journalKinds k ≤ length u → ⊥) → bodyCut journalKinds (seenOf st) k (body k u) ≡ true
@@ -142,10 +142,11 @@ taken st (k ∷ u) p = taken-by st k u (judged st k u) refl p
 
 pub machine : Machine nextOf
 unfolding takes length-of
-machine = record
-  { goes = λ st s st' n e. (let b = taken st s (ap takes e) in (omega (arith, b .0, ap length-of e), omega (arith, b .1, ap length-of e)))
-  ; tells-on = λ st s st' n i e. (let b = taken st s (ap takes e) in (omega (arith, b .0, ap length-of e), omega (arith, b .1, ap length-of e)))
-  ; stands = stands-by }
+machine = record {
+  goes = λ st s st' n e. (let b = taken st s (ap takes e) in (omega (arith, b .0, ap length-of e), omega (arith, b .1, ap length-of e)));
+  tells-on = λ st s st' n i e. (let b = taken st s (ap takes e) in (omega (arith, b .0, ap length-of e), omega (arith, b .1, ap length-of e)));
+  stands = stands-by;
+}
 
 -- ---- what waits for more bytes is shorter than a record
 
@@ -177,7 +178,7 @@ unfolding bodyCut
 whole-moves st k u h Accepted e w = record-moves st (body k u) (suc (bodyLen journalKinds k)) (recordOf k (body k u)) (sym (next-accepted st k u e) ∙ w)
 whole-moves st k u h (Refused r) e w =
     let c : bodyCut journalKinds (seenOf st) k (body k u) ≡ false
-        = le-ltb (length (body k u)) (bodyLen journalKinds k) (omega (arith, length-take (bodyLen journalKinds k) u)) in
+    = le-ltb (length (body k u)) (bodyLen journalKinds k) (omega (arith, length-take (bodyLen journalKinds k) u)) in
     let q : isCut r ≡ false = whole-not-cut (seenOf st) k (body k u) journalKinds r c e in
     not-wait-halt (nextOf st (k ∷ u)) r w (next-refused st k u r e ∙ rw q refl)
 

@@ -15,6 +15,8 @@ use Rattle.bytes_le.specs.Little.{byteAt, floatAt}
 use Rattle.lictor_core.specs.declared.ack.VerifiedAck.{VerifiedAck}
 use Rattle.lictor_core.specs.declared.chunk.ChunkHead.{ChunkHead}
 use Rattle.lictor_core.specs.declared.outcome.Outcome as O
+use Rattle.lictor_core.specs.declared.fuse.TickInput.{TickInput}
+use Rattle.records.specs.declared.TickNumbers.{TickNumbers}
 use Rattle.records.specs.declared.Record.{Record}
 use Rattle.records.specs.declared.Record.the-variants.{Settings, Reset, Ack, Head, Value, Outcome, Tick}
 use Rattle.records.specs.Kinds.{journalKinds, bodyLen}
@@ -29,11 +31,15 @@ use Rattle.judge.proofs.Framing.{accepted-whole, accepted-list, accepted-room}
 use Rattle.reader.specs.declared.Look.{Look}
 use Rattle.reader.specs.declared.Look.the-variants as L
 use Rattle.reader.specs.declared.Waiting.{Waiting}
+use Rattle.reader.specs.declared.Reader.{Reader}
+use Rattle.reader.specs.declared.What.{What}
+use Rattle.reader.specs.declared.What.the-variants as W
 use Rattle.reader.specs.declared.Took.{Took}
-use Rattle.reader.specs.State.{State, bases, ackWaits, headWaits, valueWaits, stored}
+use Rattle.reader.specs.declared.Turn.{Turn}
+use Rattle.reader.specs.State.{State, bases, ackWaits, headWaits, valueWaits, stored, outcomeWaits, inputOf}
 use Rattle.reader.specs.Stream.{Next, wait, halt, go, tell, Advanced, past, advanced}
-use Rattle.reader.specs.Reading.{Instruction, lookAs, lookOf, onRecord, onLook, nextOf, whatOf, bodyOf}
-use Rattle.reader.specs.Steps.{stateOf, Room, isSmall, looksSmall, Added, TookOne, Collected, goesOn}
+use Rattle.reader.specs.Reading.{Instruction, lookAs, lookOf, callOf, onRecord, onLook, nextOf, whatOf, bodyOf}
+use Rattle.reader.specs.Steps.{stateOf, Room, isSmall, looksSmall, Added, TookOne, Reached, Collected, goesOn, Instructs, Turned}
 use Rattle.reader.proofs.Stream.{advanced-go, advanced-wait, advanced-halt, advanced-tell}
 use Rattle.reader.proofs.Reading.{machine}
 
@@ -76,14 +82,15 @@ module _ (w : Waiting) (l : List Float) (at n : ℕ) (x : Record) where
   -- a small record that was added
   added : (w' : Waiting) (l' : List Float) → ((o : O.Outcome) (b : List ℕ) → onRecord (stateOf w o l) b (suc n) x ≡ go (stateOf w' o l') (suc n))
       → Added w l at n x (record { waiting = w'; at = at + n + 1; look = L.Waits; more = true }) l'
-  added w' l' e = record
-    { waits = λ y. e
-    ; past = λ y. omega arith
-    ; other = λ y. absurd (no y)
-    ; look = λ y. absurd (no y)
-    ; same-waiting = λ y. absurd (no y)
-    ; same-lists = λ y. absurd (no y)
-    ; same-place = λ y. absurd (no y) }
+  added w' l' e = record {
+    waits = λ y. e;
+    past = λ y. omega arith;
+    other = λ y. absurd (no y);
+    look = λ y. absurd (no y);
+    same-waiting = λ y. absurd (no y);
+    same-lists = λ y. absurd (no y);
+    same-place = λ y. absurd (no y);
+  }
     where
       no : true ≡ false → ⊥
       no y = let f : _≡_ {A = ℕ} 0 1 = cc in omega arith
@@ -103,14 +110,15 @@ module _ (w : Waiting) (l : List Float) (at n : ℕ) (x : Record) where
 
   -- another one, which stays where it is
   pub added-none : isSmall x ≡ false → Added w l at n x (record { waiting = w; at = at; look = L.Found x n; more = false }) l
-  added-none e = record
-    { waits = λ y. absurd (no y)
-    ; past = λ y. absurd (no y)
-    ; other = λ y. e
-    ; look = λ y. refl
-    ; same-waiting = λ y. refl
-    ; same-lists = λ y. refl
-    ; same-place = λ y. refl }
+  added-none e = record {
+    waits = λ y. absurd (no y);
+    past = λ y. absurd (no y);
+    other = λ y. e;
+    look = λ y. refl;
+    same-waiting = λ y. refl;
+    same-lists = λ y. refl;
+    same-place = λ y. refl;
+  }
     where
       no : false ≡ true → ⊥
       no y = let f : _≡_ {A = ℕ} 0 1 = cc in omega arith
@@ -147,9 +155,10 @@ found-by seen k u x n Accepted e f =
     let b = take (bodyLen journalKinds k) u in
     let p : recordOf k b ≡ x = cc in
     let q : bodyLen journalKinds k ≡ n = cc in
-    record
-      { fits = omega (arith, accepted-whole seen k b journalKinds e, length-take (bodyLen journalKinds k) u)
-      ; room = subst (Room seen) p (room-of seen k b e) }
+    record {
+      fits = omega (arith, accepted-whole seen k b journalKinds e, length-take (bodyLen journalKinds k) u);
+      room = subst (Room seen) p (room-of seen k b e);
+    }
 
 pub found-is : (seen : Seen) (s : List ℕ) (x : Record) (n : ℕ) → lookOf seen s ≡ L.Found x n → FoundIs seen s x n
 unfolding lookOf
@@ -168,35 +177,31 @@ module _ (w : Waiting) (l : List Float) (s : List ℕ) (at : ℕ) where
 
   pub took-added : (x : Record) (n : ℕ) (r : Took) (l' : List Float) → lookOf (w .seen) (drop at s) ≡ L.Found x n → Added w l at n x r l' → TookOne w l s at r l'
   unfolding onLook
-  took-added x n r l' e d = record
-    { waits = λ y o. (let p : r .at - at ≡ suc n = omega (arith, d .past y) in rw p (next-look o (L.Found x n) e ∙ d .waits y o (bodyOf n (drop at s))))
-    ; from = from-by n x r l' d (r .more) refl
-    ; other = λ y. rw (d .look y) (d .other y)
-    ; look = λ y. d .look y ∙ sym e
-    ; same-waiting = d .same-waiting
-    ; same-lists = d .same-lists
-    ; same-place = d .same-place }
+  took-added x n r l' e d = record {
+    waits = λ y o. (let p : r .at - at ≡ suc n = omega (arith, d .past y) in rw p (next-look o (L.Found x n) e ∙ d .waits y o (bodyOf n (drop at s))));
+    from = from-by n x r l' d (r .more) refl;
+    other = λ y. rw (d .look y) (d .other y);
+    look = λ y. d .look y ∙ sym e;
+    same-waiting = d .same-waiting;
+    same-lists = d .same-lists;
+    same-place = d .same-place;
+  }
 
   pub took-none : (x : Look) → x ≡ lookOf (w .seen) (drop at s) → looksSmall x ≡ false → TookOne w l s at (record { waiting = w; at = at; look = x; more = false }) l
-  took-none x e f = record
-    { waits = λ y. absurd (no y)
-    ; from = omega arith
-    ; other = λ y. f
-    ; look = λ y. e
-    ; same-waiting = λ y. refl
-    ; same-lists = λ y. refl
-    ; same-place = λ y. refl }
+  took-none x e f = record {
+    waits = λ y. absurd (no y);
+    from = omega arith;
+    other = λ y. f;
+    look = λ y. e;
+    same-waiting = λ y. refl;
+    same-lists = λ y. refl;
+    same-place = λ y. refl;
+  }
     where
       no : false ≡ true → ⊥
       no y = let f : _≡_ {A = ℕ} 0 1 = cc in omega arith
 
--- ---- a run of small records
-
--- from one place to another by records that tell nothing
-pub record Went (w : Waiting) (l : List Float) (s : List ℕ) (at : ℕ) (w' : Waiting) (l' : List Float) (at' : ℕ) : Type 0 where
-  pub from : at ≤ at'
-  pub within : at' ≤ length s
-  pub ahead : (o : O.Outcome) → advanced nextOf (stateOf w o l) (drop at s) ≡ past (at' - at) (advanced nextOf (stateOf w' o l') (drop at' s))
+-- ---- a run of records that tell nothing
 
 abbrev with-used : {R E H : Type 0} → Advanced R E H → ℕ → Advanced R E H
 with-used a u = record { state = a .state; used = u; next = a .next }
@@ -204,44 +209,49 @@ with-used a u = record { state = a .state; used = u; next = a .next }
 past-none : {R E H : Type 0} (k : ℕ) (a : Advanced R E H) → k ≡ 0 → a ≡ past k a
 past-none k a e = ap (with-used a) (let f : a .used ≡ k + a .used = omega arith in f)
 
-pub past-past : {R E H : Type 0} (n m k : ℕ) (a : Advanced R E H) → n + m ≡ k → past n (past m a) ≡ past k a
+past-past : {R E H : Type 0} (n m k : ℕ) (a : Advanced R E H) → n + m ≡ k → past n (past m a) ≡ past k a
 past-past n m k a e = ap (with-used a) (let f : n + (m + a .used) ≡ k + a .used = omega arith in f)
 
 -- no way at all
-pub went-none : (w : Waiting) (l : List Float) (s : List ℕ) (at : ℕ) → at ≤ length s → Went w l s at w l at
-went-none w l s at h = record { from = omega arith; within = h; ahead = λ o. past-none (at - at) (advanced nextOf (stateOf w o l) (drop at s)) (omega arith) }
+pub reached-none : (st : State) (s : List ℕ) (at : ℕ) → at ≤ length s → Reached st s at st at
+reached-none st s at h = record { from = omega arith; within = h; ahead = past-none (at - at) (advanced nextOf st (drop at s)) (omega arith) }
+
+-- one record
+pub reached-one : (st : State) (s : List ℕ) (at : ℕ) (st' : State) (at' : ℕ) → at ≤ length s → at ≤ at' → nextOf st (drop at s) ≡ go st' (at' - at) → Reached st s at st' at'
+reached-one st s at st' at' h f e =
+    let b = machine .goes st (drop at s) st' (at' - at) e in
+    let d : at + (at' - at) ≡ at' = omega arith in
+    record {
+      from = f;
+      within = omega (arith, b .1, length-drop at s);
+      ahead =
+          advanced-go nextOf machine st (drop at s) st' (at' - at) e
+          ∙ ap (λ (v : List ℕ). past (at' - at) (advanced nextOf st' v)) (rw d at (drop-drop (at' - at) at s));
+    }
 
 -- two ways, one behind the other
-pub went-on : {w w' w'' : Waiting} {l l' l'' : List Float} {s : List ℕ} {at at' at'' : ℕ} → Went w l s at w' l' at' → Went w' l' s at' w'' l'' at'' → Went w l s at w'' l'' at''
-went-on {w'' = w''} {l'' = l''} {s = s} {at = at} {at' = at'} {at'' = at''} p q = record
-  { from = omega (arith, p .from, q .from)
-  ; within = q .within
-  ; ahead = λ o.
-      p .ahead o
-      ∙ ap (past (at' - at)) (q .ahead o)
-      ∙ past-past (at' - at) (at'' - at') (at'' - at) (advanced nextOf (stateOf w'' o l'') (drop at'' s)) (omega (arith, p .from, q .from)) }
+pub reached-on : {st st' st'' : State} {s : List ℕ} {at at' at'' : ℕ} → Reached st s at st' at' → Reached st' s at' st'' at'' → Reached st s at st'' at''
+reached-on {st'' = st''} {s = s} {at = at} {at' = at'} {at'' = at''} p q = record {
+  from = omega (arith, p .from, q .from);
+  within = q .within;
+  ahead =
+      p .ahead
+      ∙ ap (past (at' - at)) (q .ahead)
+      ∙ past-past (at' - at) (at'' - at') (at'' - at) (advanced nextOf st'' (drop at'' s)) (omega (arith, p .from, q .from));
+}
+
+-- ---- one small record
 
 module _ (w : Waiting) (l : List Float) (s : List ℕ) (at : ℕ) (h : at ≤ length s) (r : Took) (l' : List Float) (t : TookOne w l s at r l') where
-  -- a record that was added is there
-  pub took-further : r .more ≡ true → (at < r .at) × (r .at ≤ length s)
-  took-further y =
-      let b = machine .goes _ (drop at s) _ _ (t .waits y (outcomeOf [])) in
-      (omega (arith, b .0), omega (arith, b .1, length-drop at s, t .from))
+  reached-by : (o : O.Outcome) (m : Bool) → r .more ≡ m → Reached (stateOf w o l) s at (stateOf (r .waiting) o l') (r .at)
+  reached-by o true y = reached-one (stateOf w o l) s at (stateOf (r .waiting) o l') (r .at) h (t .from) (t .waits y o)
+  reached-by o false y = rw (t .same-waiting y, t .same-lists y, t .same-place y) (reached-none (stateOf w o l) s at h)
 
-  went-by : (m : Bool) → r .more ≡ m → Went w l s at (r .waiting) l' (r .at)
-  went-by true y =
-      let b = took-further y in
-      let d : at + (r .at - at) ≡ r .at = omega (arith, t .from) in
-      record
-        { from = t .from
-        ; within = b .1
-        ; ahead = λ o.
-            advanced-go nextOf machine (stateOf w o l) (drop at s) (stateOf (r .waiting) o l') (r .at - at) (t .waits y o)
-            ∙ ap (λ (v : List ℕ). past (r .at - at) (advanced nextOf (stateOf (r .waiting) o l') v)) (rw d at (drop-drop (r .at - at) at s)) }
-  went-by false y = rw (t .same-waiting y, t .same-lists y, t .same-place y) (went-none w l s at h)
+  pub took-reached : (o : O.Outcome) → Reached (stateOf w o l) s at (stateOf (r .waiting) o l') (r .at)
+  took-reached o = reached-by o (r .more) refl
 
-  pub took-went : Went w l s at (r .waiting) l' (r .at)
-  took-went = went-by (r .more) refl
+  pub took-within : r .at ≤ length s
+  took-within = took-reached (outcomeOf []) .within
 
   -- what stands there, where nothing was added
   pub took-look : r .more ≡ false → r .look ≡ lookOf (r .waiting .seen) (drop (r .at) s)
@@ -249,8 +259,152 @@ module _ (w : Waiting) (l : List Float) (s : List ℕ) (at : ℕ) (h : at ≤ le
 
   -- there are fewer bytes left, or no more turns
   less-by : (m : Bool) → r .more ≡ m → length s - r .at + cond (r .more) 1 0 < length s - at + 1
-  less-by true y = let b = took-further y in rw y (omega (arith, b .0, b .1))
+  less-by true y = let b = machine .goes _ (drop at s) _ _ (t .waits y (outcomeOf [])) in rw y (omega (arith, b .0, b .1, length-drop at s))
   less-by false y = rw (y, t .same-place y) (omega arith)
 
   pub took-less : length s - r .at + cond (r .more) 1 0 < length s - at + 1
   took-less = less-by (r .more) refl
+
+-- ---- a record that is not small
+
+-- the part that the code takes is the record's body
+pub body-part : (s : List ℕ) (at n : ℕ) → take (at + 1 + n - (at + 1)) (drop (at + 1) s) ≡ bodyOf n (drop at s)
+body-part s at n =
+    let e : at + 1 + n - (at + 1) ≡ n = omega arith in
+    ap₂ take e (sym (drop-drop 1 at s))
+
+module _ (rd : Reader) (l : List Float) (s : List ℕ) (at n : ℕ) (x : Record) where
+  abbrev here : State
+  here = record { reader = rd; lists = l }
+
+  -- an outcome waits
+  pub instructs-outcome : (o : O.Outcome) (rd' : Reader) → x ≡ Outcome → o ≡ outcomeOf (bodyOf n (drop at s)) → rd' ≡ outcomeWaits rd o
+      → Instructs rd l s at n x (record { reader = rd'; at = at + 1 + n; what = W.Waits; more = true })
+  unfolding onRecord
+  instructs-outcome o rd' e f g = record {
+    waits = λ y. rw (e, g, f) refl;
+    past = λ y. omega arith;
+    stops = λ y. absurd (no y);
+    what = λ y. absurd (no y);
+    same-reader = λ y. absurd (no y);
+    same-place = λ y. absurd (no y);
+  }
+    where
+      no : true ≡ false → ⊥
+      no y = let f : _≡_ {A = ℕ} 0 1 = cc in omega arith
+
+  -- the others say what they are
+  instructs : (v : What) → goesOn (onRecord here (bodyOf n (drop at s)) (suc n) x) ≡ false → v ≡ whatOf (onRecord here (bodyOf n (drop at s)) (suc n) x)
+      → Instructs rd l s at n x (record { reader = rd; at = at; what = v; more = false })
+  instructs v e f = record {
+    waits = λ y. absurd (no y);
+    past = λ y. absurd (no y);
+    stops = λ y. e;
+    what = λ y. f;
+    same-reader = λ y. refl;
+    same-place = λ y. refl;
+  }
+    where
+      no : false ≡ true → ⊥
+      no y = let f : _≡_ {A = ℕ} 0 1 = cc in omega arith
+
+  pub instructs-settings : x ≡ Settings → Instructs rd l s at n x (record { reader = rd; at = at; what = W.Begins; more = false })
+  unfolding onRecord
+  instructs-settings e = instructs W.Begins (rw e refl) (rw e refl)
+
+  pub instructs-reset : x ≡ Reset → Instructs rd l s at n x (record { reader = rd; at = at; what = W.Resets; more = false })
+  unfolding onRecord
+  instructs-reset e = instructs W.Resets (rw e refl) (rw e refl)
+
+  pub instructs-tick : (t : TickNumbers) (i : TickInput) → x ≡ Tick t → i ≡ inputOf (rd .waiting) t
+      → Instructs rd l s at n x (record { reader = rd; at = at; what = W.Ticks i; more = false })
+  unfolding onRecord callOf
+  instructs-tick t i e f = instructs (W.Ticks i) (rw e refl) (rw (e, f) refl)
+
+-- ---- one turn
+
+module _ (w : Waiting) (o : O.Outcome) (l : List Float) (s : List ℕ) (at : ℕ) (t : Took) (l' : List Float) (k : Collected w l s at t l') where
+  abbrev came : State
+  came = stateOf (t .waiting) o l'
+
+  then-is : (x : Look) → t .look ≡ x → nextOf came (drop (t .at) s) ≡ onLook came (drop (t .at) s) x
+  then-is x e = next-look (t .waiting) l' s (t .at) o x (sym (k .look) ∙ e)
+
+  -- nothing is there, or it is turned away
+  turned-here : (v : What) → goesOn (nextOf came (drop (t .at) s)) ≡ false → v ≡ whatOf (nextOf came (drop (t .at) s))
+      → Turned (stateOf w o l) s at (record { reader = came .reader; at = t .at; what = v; more = false }) l'
+  turned-here v e f = record { reached = k .reached o; further = λ y. absurd (no y); stops = λ y. e; what = λ y. f }
+    where
+      no : false ≡ true → ⊥
+      no y = let f : _≡_ {A = ℕ} 0 1 = cc in omega arith
+
+  pub turned-waits : t .look ≡ L.Waits → Turned (stateOf w o l) s at (record { reader = came .reader; at = t .at; what = W.Waits; more = false }) l'
+  unfolding onLook
+  turned-waits e = let q = then-is L.Waits e in turned-here W.Waits (rw q refl) (rw q refl)
+
+  pub turned-refuses : (r : Refusal) → t .look ≡ L.Refuses r → Turned (stateOf w o l) s at (record { reader = came .reader; at = t .at; what = W.Refuses r; more = false }) l'
+  unfolding onLook
+  turned-refuses r e = let q = then-is (L.Refuses r) e in turned-here (W.Refuses r) (rw q refl) (rw q refl)
+
+  module _ (x : Record) (n : ℕ) (e : t .look ≡ L.Found x n) where
+    -- a record that is found is there whole
+    pub found-here : t .at + n < length s
+    found-here = omega (arith, found-is (t .waiting .seen) (drop (t .at) s) x n (sym (k .look) ∙ e) .fits, length-drop (t .at) s, k .reached o .within)
+
+    pub found-big : isSmall x ≡ false
+    found-big = rw e at (k .other)
+
+    found-by-turn : (r : Turn) → Instructs (came .reader) l' s (t .at) n x r → (m : Bool) → r .more ≡ m → Turned (stateOf w o l) s at r l'
+    unfolding onLook
+    found-by-turn r i true y =
+        let d : r .at - t .at ≡ suc n = omega (arith, i .past y) in
+        let q : nextOf came (drop (t .at) s) ≡ go (record { reader = r .reader; lists = l' }) (r .at - t .at) = rw d (then-is (L.Found x n) e ∙ i .waits y) in
+        record {
+          reached = reached-on (k .reached o)
+              (reached-one came s (t .at) (record { reader = r .reader; lists = l' }) (r .at) (k .reached o .within) (omega (arith, i .past y)) q);
+          further = λ z. omega (arith, k .reached o .from, i .past y);
+          stops = λ z. absurd (no (sym y ∙ z));
+          what = λ z. absurd (no (sym y ∙ z));
+        }
+      where
+        no : true ≡ false → ⊥
+        no z = let f : _≡_ {A = ℕ} 0 1 = cc in omega arith
+    found-by-turn r i false y =
+        let q = then-is (L.Found x n) e in
+        record {
+          reached = rw (i .same-reader y, i .same-place y) (k .reached o);
+          further = λ z. absurd (no (sym y ∙ z));
+          stops = λ z. rw (i .same-reader y, i .same-place y, q) (i .stops y);
+          what = λ z. i .what y ∙ rw (i .same-reader y, i .same-place y, q) refl;
+        }
+      where
+        no : false ≡ true → ⊥
+        no z = let f : _≡_ {A = ℕ} 0 1 = cc in omega arith
+
+    pub turned-found : (r : Turn) → Instructs (came .reader) l' s (t .at) n x r → Turned (stateOf w o l) s at r l'
+    turned-found r i = found-by-turn r i (r .more) refl
+
+-- ---- the reader
+
+-- where the reader stops, that is how far it goes
+stops-by : (st : State) (s : List ℕ) (x : Next State Instruction Refusal) → nextOf st s ≡ x → goesOn x ≡ false → advanced nextOf st s ≡ record { state = st; used = 0; next = x }
+stops-by st s wait e g = advanced-wait nextOf machine st s e
+stops-by st s (halt r) e g = advanced-halt nextOf machine st s r e
+stops-by st s (go st' n) e g = absurd (let z : _≡_ {A = ℕ} 0 1 = cc in omega arith)
+stops-by st s (tell st' n i) e g = advanced-tell nextOf machine st s st' n i e
+
+pub reached-end : (st : State) (s : List ℕ) (st' : State) (at : ℕ) → Reached st s 0 st' at → goesOn (nextOf st' (drop at s)) ≡ false
+    → advanced nextOf st s ≡ record { state = st'; used = at; next = nextOf st' (drop at s) }
+reached-end st s st' at r g =
+    let e : at - 0 + 0 ≡ at = omega arith in
+    r .ahead ∙ ap (past (at - 0)) (stops-by st' (drop at s) (nextOf st' (drop at s)) refl g)
+    ∙ ap (λ (u : ℕ). record { state = st'; used = u; next = nextOf st' (drop at s) }) e
+
+-- there are fewer bytes left, or no more turns
+turn-less-by : (st : State) (s : List ℕ) (at : ℕ) (r : Turn) (l' : List Float) → Turned st s at r l' → (m : Bool) → r .more ≡ m
+    → length s - r .at + cond (r .more) 1 0 < length s - at + 1
+turn-less-by st s at r l' t true y = rw y (omega (arith, t .further y, t .reached .within))
+turn-less-by st s at r l' t false y = rw y (omega (arith, t .reached .from))
+
+pub turn-less : (st : State) (s : List ℕ) (at : ℕ) (r : Turn) (l' : List Float) → Turned st s at r l' → length s - r .at + cond (r .more) 1 0 < length s - at + 1
+turn-less st s at r l' t = turn-less-by st s at r l' t (r .more) refl

@@ -120,8 +120,8 @@ module _ {R E H : Type 0} (next : R → List ℕ → Next R E H) (m : Machine ne
       let a = settle next (suc (length s)) r s in
       rw e at (joined-at f r s t (omega arith))
       ∙ ap (telling (a .told))
-        (fuel f (suc (length (a .rest ++ t))) (a .state) (a .rest ++ t)
-          (omega (arith, rest-le (suc (length s)) r s, length-append s t, length-append (a .rest) t)) (omega arith))
+      (fuel f (suc (length (a .rest ++ t))) (a .state) (a .rest ++ t)
+      (omega (arith, rest-le (suc (length s)) r s, length-append s t, length-append (a .rest) t)) (omega arith))
 
   -- parts of any sizes give what the whole gives
   pub parts-are-whole : (r : R) (rest : List ℕ) (parts : List (List ℕ)) → fed next r rest parts ≡ settled next r (rest ++ whole parts)
@@ -210,10 +210,11 @@ module _ {R E H : Type 0} (next : R → List ℕ → Next R E H) (m : Machine ne
     pub within : a .used ≤ length s
 
   ahead-past : (r r' : R) (s : List ℕ) (n : ℕ) (a : Advanced R E H) → n ≤ length s → settled next r s ≡ settled next r' (drop n s) → Ahead r' (drop n s) a → Ahead r s (past n a)
-  ahead-past r r' s n a l e h = record
-    { rest = rw (drop-drop (a .used) n s) at (e ∙ h .rest)
-    ; then = rw (drop-drop (a .used) n s) at (h .then)
-    ; within = omega (arith, h .within, length-drop n s) }
+  ahead-past r r' s n a l e h = record {
+    rest = rw (drop-drop (a .used) n s) at (e ∙ h .rest);
+    then = rw (drop-drop (a .used) n s) at (h .then);
+    within = omega (arith, h .within, length-drop n s);
+  }
 
   ahead-by : (f : ℕ) → ((r : R) (s : List ℕ) → length s < f → Ahead r s (advance next f r s))
       → (r : R) (s : List ℕ) → length s ≤ f → (x : Next R E H) → next r s ≡ x → Ahead r s (advance next (suc f) r s)

@@ -58,14 +58,15 @@ pub data Instruction : Type 0 where
 unfoldable pub callOf : State → TickInput → Call
 callOf st input =
     let seen = st .reader .waiting .seen in
-    record
-      { input = input
-      ; outcome = st .reader .outcome
-      ; pos = valuesOf seen (st .lists) 1
-      ; vel = valuesOf seen (st .lists) 2
-      ; aux = valuesOf seen (st .lists) 3
-      ; ext = valuesOf seen (st .lists) 4
-      ; chunk = valuesOf seen (st .lists) 0 }
+    record {
+      input = input;
+      outcome = st .reader .outcome;
+      pos = valuesOf seen (st .lists) 1;
+      vel = valuesOf seen (st .lists) 2;
+      aux = valuesOf seen (st .lists) 3;
+      ext = valuesOf seen (st .lists) 4;
+      chunk = valuesOf seen (st .lists) 0;
+    }
 
 abbrev pub withReader : State → Reader → State
 withReader st r = record { reader = r; lists = st .lists }
@@ -78,9 +79,10 @@ onRecord st b n (Ack a) = go (withReader st (withWaiting (st .reader) (ackWaits 
 onRecord st b n (Head h) = go (withReader st (withWaiting (st .reader) (headWaits (st .reader .waiting) h))) n
 onRecord st b n (Value c x) =
     go
-    (record
-      { reader = withWaiting (st .reader) (valueWaits (st .reader .waiting) c)
-      ; lists = stored (st .lists) (st .reader .waiting .seen) c x })
+    (record {
+      reader = withWaiting (st .reader) (valueWaits (st .reader .waiting) c);
+      lists = stored (st .lists) (st .reader .waiting .seen) c x;
+    })
     n
 onRecord st b n Outcome = go (withReader st (outcomeWaits (st .reader) (outcomeOf b))) n
 onRecord st b n (Tick t) = tell (withReader st (emptied (st .reader))) n (tick (callOf st (inputOf (st .reader .waiting) t)))

@@ -80,12 +80,14 @@ emptied r = withWaiting r (withSeen (r .waiting) (seenNone (r .waiting .seen)))
 
 -- before the first byte: nothing was seen; the places of an ack, a head and an outcome hold zeros
 unfoldable pub startReader : Reader
-startReader = record
-  { waiting = record
-      { seen = record { settings = false; ack = false; head = false; outcome = false; counts = replicate 5 0 }
-      ; ack = ackOf []
-      ; head = headOf [] }
-  ; outcome = outcomeOf [] }
+startReader = record {
+  waiting = record {
+    seen = record { settings = false; ack = false; head = false; outcome = false; counts = replicate 5 0 };
+    ack = ackOf [];
+    head = headOf [];
+  };
+  outcome = outcomeOf [];
+}
 
 -- ---- what a tick gets
 
@@ -95,11 +97,12 @@ valuesOf n l c = take (min (countOf n c) (getD capacities c 0)) (drop (getD base
 
 -- the numbers of a tick's input: those of its record, and the head and the acknowledgement that wait
 unfoldable pub inputOf : Waiting → TickNumbers → TickInput
-inputOf w n = record
-  { t = n .t
-  ; idx = n .idx
-  ; «missed_ticks» = n .«missed_ticks»
-  ; «schema_fault» = n .«schema_fault»
-  ; «has_vel» = n .«has_vel»
-  ; chunk = cond (w .seen .head) (Delivered (w .head)) NoChunk
-  ; ack = cond (w .seen .ack) (Given (w .ack)) NoAck }
+inputOf w n = record {
+  t = n .t;
+  idx = n .idx;
+  «missed_ticks» = n .«missed_ticks»;
+  «schema_fault» = n .«schema_fault»;
+  «has_vel» = n .«has_vel»;
+  chunk = cond (w .seen .head) (Delivered (w .head)) NoChunk;
+  ack = cond (w .seen .ack) (Given (w .ack)) NoAck;
+}

@@ -69,11 +69,15 @@ pub record TookOne (w : Waiting) (l : List Float) (s : List ℕ) (at : ℕ) (r :
   pub same-lists : r .more ≡ false → l' ≡ l
   pub same-place : r .more ≡ false → r .at ≡ at
 
--- all small records from place `at` on were added, and what stands behind them is none
+-- from one place to another by records that tell nothing
+pub record Reached (st : State) (s : List ℕ) (at : ℕ) (st' : State) (at' : ℕ) : Type 0 where
+  pub from : at ≤ at'
+  pub within : at' ≤ length s
+  pub ahead : advanced nextOf st (drop at s) ≡ past (at' - at) (advanced nextOf st' (drop at' s))
+
+-- all small records from place `at` on were added, whatever outcome waits, and what stands behind them is none
 pub record Collected (w : Waiting) (l : List Float) (s : List ℕ) (at : ℕ) (r : Took) (l' : List Float) : Type 0 where
-  pub from : at ≤ r .at
-  pub within : r .at ≤ length s
-  pub ahead : (o : O.Outcome) → advanced nextOf (stateOf w o l) (drop at s) ≡ past (r .at - at) (advanced nextOf (stateOf (r .waiting) o l') (drop (r .at) s))
+  pub reached : (o : O.Outcome) → Reached (stateOf w o l) s at (stateOf (r .waiting) o l') (r .at)
   pub other : looksSmall (r .look) ≡ false
   pub look : r .look ≡ lookOf (r .waiting .seen) (drop (r .at) s)
 
@@ -95,9 +99,7 @@ pub record Instructs (rd : Reader) (l : List Float) (s : List ℕ) (at n : ℕ) 
 
 -- one turn of the reader: it went on, or it came to something else, and says what
 pub record Turned (st : State) (s : List ℕ) (at : ℕ) (r : Turn) (l' : List Float) : Type 0 where
-  pub from : at ≤ r .at
-  pub within : r .at ≤ length s
+  pub reached : Reached st s at (record { reader = r .reader; lists = l' }) (r .at)
   pub further : r .more ≡ true → at < r .at
-  pub ahead : advanced nextOf st (drop at s) ≡ past (r .at - at) (advanced nextOf (record { reader = r .reader; lists = l' }) (drop (r .at) s))
   pub stops : r .more ≡ false → goesOn (nextOf (record { reader = r .reader; lists = l' }) (drop (r .at) s)) ≡ false
   pub what : r .more ≡ false → r .what ≡ whatOf (nextOf (record { reader = r .reader; lists = l' }) (drop (r .at) s))

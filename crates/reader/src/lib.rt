@@ -196,10 +196,30 @@ fn add(w: Waiting, lists: &mut [f64; 576], at: usize, n: usize, x: Record) -> To
                 more: true,
             }
         }
-        Record::Settings => Took { waiting: w, at, look: Look::Found(x, n), more: false },
-        Record::Reset => Took { waiting: w, at, look: Look::Found(x, n), more: false },
-        Record::Outcome => Took { waiting: w, at, look: Look::Found(x, n), more: false },
-        Record::Tick(_) => Took { waiting: w, at, look: Look::Found(x, n), more: false },
+        Record::Settings => Took {
+            waiting: w,
+            at,
+            look: Look::Found(x, n),
+            more: false,
+        },
+        Record::Reset => Took {
+            waiting: w,
+            at,
+            look: Look::Found(x, n),
+            more: false,
+        },
+        Record::Outcome => Took {
+            waiting: w,
+            at,
+            look: Look::Found(x, n),
+            more: false,
+        },
+        Record::Tick(_) => Took {
+            waiting: w,
+            at,
+            look: Look::Found(x, n),
+            more: false,
+        },
     }
 }
 
@@ -210,8 +230,18 @@ fn take_one(w: Waiting, lists: &mut [f64; 576], s: &[u8], at: usize) -> Took
     let look = look_at(seen, s, at);
     match look {
         Look::Found(x, n) => add(w, lists, at, n, x),
-        Look::Waits => Took { waiting: w, at, look, more: false },
-        Look::Refuses(_) => Took { waiting: w, at, look, more: false },
+        Look::Waits => Took {
+            waiting: w,
+            at,
+            look,
+            more: false,
+        },
+        Look::Refuses(_) => Took {
+            waiting: w,
+            at,
+            look,
+            more: false,
+        },
     }
 }
 
@@ -276,7 +306,10 @@ fn with_outcome(rd: Reader, o: Outcome) -> Reader
     let mut seen = waiting.seen;
     seen.outcome = true;
     waiting.seen = seen;
-    Reader { waiting, outcome: o }
+    Reader {
+        waiting,
+        outcome: o,
+    }
 }
 
 // The reader after settings.
@@ -325,14 +358,49 @@ fn instruct(rd: Reader, lists: &[f64; 576], s: &[u8], at: usize, n: usize, x: Re
             let a = at + 1;
             let e = a + n;
             let o = records::read_outcome(&s[a..e]);
-            Turn { reader: with_outcome(rd, o), at: e, what: What::Waits, more: true }
+            Turn {
+                reader: with_outcome(rd, o),
+                at: e,
+                what: What::Waits,
+                more: true,
+            }
         }
-        Record::Settings => Turn { reader: rd, at, what: What::Begins, more: false },
-        Record::Reset => Turn { reader: rd, at, what: What::Resets, more: false },
-        Record::Tick(t) => Turn { reader: rd, at, what: What::Ticks(input_of(w, t)), more: false },
-        Record::Ack(_) => Turn { reader: rd, at, what: What::Waits, more: false },
-        Record::Head(_) => Turn { reader: rd, at, what: What::Waits, more: false },
-        Record::Value(_, _) => Turn { reader: rd, at, what: What::Waits, more: false },
+        Record::Settings => Turn {
+            reader: rd,
+            at,
+            what: What::Begins,
+            more: false,
+        },
+        Record::Reset => Turn {
+            reader: rd,
+            at,
+            what: What::Resets,
+            more: false,
+        },
+        Record::Tick(t) => Turn {
+            reader: rd,
+            at,
+            what: What::Ticks(input_of(w, t)),
+            more: false,
+        },
+        Record::Ack(_) => Turn {
+            reader: rd,
+            at,
+            what: What::Waits,
+            more: false,
+        },
+        Record::Head(_) => Turn {
+            reader: rd,
+            at,
+            what: What::Waits,
+            more: false,
+        },
+        Record::Value(_, _) => Turn {
+            reader: rd,
+            at,
+            what: What::Waits,
+            more: false,
+        },
     }
 }
 
@@ -350,8 +418,18 @@ fn take_turn(rd: Reader, lists: &mut [f64; 576], s: &[u8], at: usize) -> Turn
     let reader = Reader { waiting, outcome };
     match look {
         Look::Found(x, n) => instruct(reader, lists, s, i, n, x),
-        Look::Waits => Turn { reader, at: i, what: What::Waits, more: false },
-        Look::Refuses(r) => Turn { reader, at: i, what: What::Refuses(r), more: false },
+        Look::Waits => Turn {
+            reader,
+            at: i,
+            what: What::Waits,
+            more: false,
+        },
+        Look::Refuses(r) => Turn {
+            reader,
+            at: i,
+            what: What::Refuses(r),
+            more: false,
+        },
     }
 }
 
@@ -359,10 +437,27 @@ fn take_turn(rd: Reader, lists: &mut [f64; 576], s: &[u8], at: usize) -> Turn
 pub fn start() -> Reader
     ensures { λ r. ⌜ r ≡ startReader ⌝ }
 {
-    let seen = Seen { settings: false, ack: false, head: false, outcome: false, counts: [0; 5] };
+    let seen = Seen {
+        settings: false,
+        ack: false,
+        head: false,
+        outcome: false,
+        counts: [0; 5],
+    };
     let decision = AckDecision::Resume;
-    let ack = VerifiedAck { decision, operator_slot: 0, nonce: 0, handoff_seq: 0 };
-    let head = ChunkHead { seq: 0, t_emit: 0, horizon: 0, dim: 0, exec_steps: 0 };
+    let ack = VerifiedAck {
+        decision,
+        operator_slot: 0,
+        nonce: 0,
+        handoff_seq: 0,
+    };
+    let head = ChunkHead {
+        seq: 0,
+        t_emit: 0,
+        horizon: 0,
+        dim: 0,
+        exec_steps: 0,
+    };
     let waiting = Waiting { seen, ack, head };
     let outcome = records::read_outcome(b"");
     Reader { waiting, outcome }
@@ -380,5 +475,9 @@ pub fn read(rd: Reader, lists: &mut [f64; 576], s: &[u8]) -> Progress
     }
     let reader = t.reader;
     let what = t.what;
-    Progress { reader, used: t.at, what }
+    Progress {
+        reader,
+        used: t.at,
+        what,
+    }
 }

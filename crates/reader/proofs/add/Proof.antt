@@ -1,4 +1,3 @@
-
 use borrow.Author.Needs.{needs}
 use mathlib.Core.Path.{ap, subst}
 use Rattle.reader.specs.Steps.{Room, isSmall}

@@ -1,4 +1,3 @@
-
 use borrow.Author.Needs.{needs}
 use Rattle.reader.proofs.is_cut.Statement.{statement}
 use Rattle.reader.proofs.is_cut.Tie as tie

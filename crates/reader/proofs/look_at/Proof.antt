@@ -1,4 +1,3 @@
-
 -- The body is handed on as far as it came.
 use borrow.Author.Needs.{needs}
 use Prim.Native.Nat.{ℕ, _+_, _-_, min}
@@ -53,9 +52,9 @@ returns-2 c =
     let s = a .s .now in
     let k = byteAt s (a .at) in
     let n : c .before .before .before .least .result ≡ min (bodyLen journalKinds k) (length s - (a .at + 1))
-        = c .before .before .before .least .ensures ∙ ap (λ (m : ℕ). min m (length s - (a .at + 1))) (c .before .before .before .before .body-len .ensures) in
+    = c .before .before .before .least .ensures ∙ ap (λ (m : ℕ). min m (length s - (a .at + 1))) (c .before .before .before .before .body-len .ensures) in
     let body : take (a .at + 1 + c .before .before .before .least .result - (a .at + 1)) (drop (a .at + 1) s) ≡ take (bodyLen journalKinds k) (drop (a .at + 1) s)
-        = ap (λ (m : ℕ). take (a .at + 1 + m - (a .at + 1)) (drop (a .at + 1) s)) n ∙ part-least s (a .at + 1) (bodyLen journalKinds k) in
+    = ap (λ (m : ℕ). take (a .at + 1 + m - (a .at + 1)) (drop (a .at + 1) s)) n ∙ part-least s (a .at + 1) (bodyLen journalKinds k) in
     c .look-as .ensures ∙ ap (lookAs k _) (c .before .judge .ensures) ∙ look-is (a .seen) s (a .at) k _ (c .before .before .before .before .before .before .if1 .left) refl body
 
 pub look-at-spec : {M : Type 1} → statement M
