@@ -2,8 +2,8 @@
 -- Assumes nothing.
 use mathlib.Core.Path.{_≡_, refl, sym, ap, _∙_, subst}
 use mathlib.Core.Logic.{_⊎_, inl, inr}
-use Prim.Native.Nat.{ℕ, zero, suc, _+_, _-_, _*_, _/_, _%_, _^_, _≤_, _<_}
-use native.Mathlib.Nat.{lt-of-not-le, not-le-of-lt, lt-irrefl, le-trans, le-of-eq, le-of-lt, le-of-suc-le-suc, lt-of-lt-of-le, lt-of-le-of-lt, eq-zero-or-pos, mul-assoc, mul-le-mul, mul-le-mul-right, mul-lt-mul-of-pos-right, lt-of-mul-lt-mul-right, mul-pos, zero-mul}
+use Prim.Native.Nat.{ℕ, zero, suc, _+_, _-_, _*_, _^_, _≤_, _<_}
+use native.Mathlib.Nat.{lt-of-not-le, not-le-of-lt, lt-irrefl, le-trans, le-of-eq, le-of-lt, lt-of-lt-of-le, lt-of-le-of-lt, eq-zero-or-pos, mul-assoc, mul-le-mul, mul-le-mul-right, lt-of-mul-lt-mul-right, mul-pos, zero-mul}
 use native.Mathlib.Omega.{arith}
 use mathlib.Core.Bool.{Bool, true, false, not}
 use lib.Dec.{T, ltb, eqb, eqb→eq, ltb→lt, lt→ltb, nltb→le}
@@ -19,7 +19,7 @@ use lib.Ieee.Scale.{finite}
 use Rattle.fmath.specs.Root.{rootOf, wholeRoot, unitsOf, plusZero, NearestRoot}
 use Rattle.fmath.specs.Steps.{NearRoot}
 use Rattle.fmath.proofs.Squares.{root-lt, square-lt, some-near}
-use Rattle.fmath.proofs.Rounded.{rounded, g-lt, g-ge}
+use Rattle.fmath.proofs.Rounded.{rounded, g-ge}
 use Rattle.fmath.proofs.Whole.{Window, window, root-at}
 use Rattle.fmath.proofs.Units.{Units, units-of, own-units, value-units, zero-units, on-grid}
 

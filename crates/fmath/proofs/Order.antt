@@ -1,6 +1,6 @@
 -- Which argument `minOf` and `maxOf` give. Assumes nothing.
-use mathlib.Core.Path.{_≡_, refl, ap}
-use mathlib.Core.Bool.{true, false, cond}
+use mathlib.Core.Path.{_≡_, refl}
+use mathlib.Core.Bool.{true, false}
 use lib.Ieee.{Float, nan, inf, fin, lt}
 use Rattle.fmath.specs.Float.{minOf, maxOf}
 

@@ -5,7 +5,6 @@ use native.Mathlib.Nat.{not-le-of-lt, mod-eq-of-lt, mul-one}
 use native.Mathlib.Omega.{arith}
 use mathlib.Core.Bool.{Bool, true, false, not, cond, true≢false}
 use lib.Dec.{T, leb, ltb, eqb, leb→le, eqb→eq, ltb→lt, not-T}
-use lib.Pow.{pow-add}
 use lib.Ieee.{Float, nan, inf, fin, binary64, odd, ofFields, ofBits, toBits, nanBits, isNan, fits, ne}
 use lib.Ieee.Bits.{is-false, cond-no, nanBits-above, ofBits-toBits}
 use lib.Ieee.Compare.{differs-from-itself}

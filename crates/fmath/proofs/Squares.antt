@@ -1,9 +1,9 @@
 -- Roots of whole numbers: `wholeRoot` is the root cut to a whole number, and how the root of n * (P * P) lies against the whole number nearest to the root of n.
 -- Assumes nothing.
-use mathlib.Core.Path.{_≡_, refl, sym, ap, _∙_, subst}
+use mathlib.Core.Path.{_≡_, subst}
 use mathlib.Core.Logic.{inl, inr}
 use Prim.Native.Nat.{ℕ, zero, suc, _+_, _-_, _*_, _/_, _%_, _^_, _≤_, _<_, compare, Ordering, Ordering·lt, Ordering·eq, Ordering·gt}
-use native.Mathlib.Nat.{lt-of-not-le, not-le-of-lt, le-trans, le-of-eq, lt-of-lt-of-le, lt-of-le-of-lt, le-of-suc-le-suc, mul-assoc, mul-le-mul, mul-le-mul-right, mul-lt-mul-of-pos-right, lt-of-mul-lt-mul-right, mul-pos, mul-mul-mul-comm, pow-suc, pow-le-pow-left, div-add-mod', div-lt-iff-lt-mul, mod-lt, eq-zero-or-pos}
+use native.Mathlib.Nat.{lt-of-not-le, not-le-of-lt, le-trans, lt-of-lt-of-le, lt-of-le-of-lt, le-of-suc-le-suc, mul-le-mul, mul-le-mul-right, lt-of-mul-lt-mul-right, mul-pos, pow-suc, pow-le-pow-left, div-add-mod', div-lt-iff-lt-mul, mod-lt, eq-zero-or-pos}
 use native.Mathlib.Omega.{arith}
 use mathlib.Core.Bool.{Bool, true, false, not, cond}
 use lib.Dec.{T, leb, isLe, isEq, eqb, leb→le, nleb→lt, eqb→eq, eqb-refl}

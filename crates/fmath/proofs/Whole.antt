@@ -6,7 +6,7 @@ use native.Mathlib.Omega.{arith}
 use mathlib.Core.Bool.{Bool, true, false, not, cond, true≢false, false≢true}
 use lib.Dec.{T, leb, ltb, eqb, le→leb, lt→ltb, T-not}
 use lib.Pow.{pow-add, pow-pos}
-use lib.Ieee.{Float, nan, inf, fin, binary64, up, down, odd, round, ofFields, ofBits, nanBits, toBits, fits, isNan, ne}
+use lib.Ieee.{Float, nan, inf, fin, binary64, up, down, odd, round, ofFields, ofBits, toBits, fits, isNan, ne}
 use lib.Ieee.Bits.{ofBits-toBits, nanBits-is, nanBits-above, toBits-lt, is-true}
 use lib.Ieee.Exact.{HasValue, odd-sign}
 use lib.Ieee.Fits.{down-pos}

@@ -27,7 +27,7 @@ inUnits m e = m * up e * 2 ^ 1074 / down e
 
 -- The root of x. A NaN and what is below zero, the infinity there too, give NaN; the infinity above gives itself, and so do +0 and -0.
 -- Where x is n units above zero, its root is the root of n * 2 ^ 1074 units. That is cut to whole units and then rounded; cutting changes nothing, since the root has
--- 537 binary digits or more before the point and 53 are kept (`root-nearest` in proofs/Nearest.antt).
+-- 538 binary digits or more before the point and 53 are kept (`root-nearest` in proofs/Nearest.antt).
 unfoldable pub rootOf : Float → Float
 unfolding wholeRoot round
 rootOf nan = nan

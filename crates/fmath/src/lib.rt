@@ -14,11 +14,12 @@ ghost use Rattle.fmath.specs.Steps.{Normed, NearRoot, RootBits};
 
 // 2 ^ 52: the place of the exponent field, and of the digit that a normal number does not store.
 const PLACE: u64 = 0x10_0000_0000_0000;
-// The patterns of 1.0 and of -0.
+
+// The patterns of 1, of -0, and of the two infinities.
 const ONE: u64 = 0x3ff0_0000_0000_0000;
 
 const MINUS_ZERO: u64 = 0x8000_0000_0000_0000;
-// The patterns of the infinities.
+
 const INF: u64 = 0x7ff0_0000_0000_0000;
 
 const MINUS_INF: u64 = 0xfff0_0000_0000_0000;
@@ -37,7 +38,7 @@ pub fn minus_infinity() -> f64
     f64::from_bits(MINUS_INF)
 }
 
-// A NaN. Which of the patterns of a NaN it has is the machine's choice.
+// A NaN. Which of its many patterns it has is the machine's choice; all of them count as one value.
 pub fn nan() -> f64
     ensures { λ r. ⌜ r ≡ Ieee·nan ⌝ }
 {
@@ -57,6 +58,7 @@ pub fn is_finite(x: f64) -> bool
     f64::to_bits(x) / PLACE % 2048 != 2047
 }
 
+// Whether all elements are finite; of none they are.
 pub fn all_finite(v: &[f64]) -> bool
     ensures { λ r. ⌜ r ≡ allFinite (now (v .entry)) ⌝ }
 {
@@ -73,12 +75,14 @@ pub fn all_finite(v: &[f64]) -> bool
 
 // ---- order
 
+// a if it is less, and b otherwise: of equal zeros, and where one of the two is a NaN, b.
 pub fn min(a: f64, b: f64) -> f64
     ensures { λ r. ⌜ r ≡ minOf a b ⌝ }
 {
     if a < b { a } else { b }
 }
 
+// a if it is greater, and b otherwise: of equal zeros, and where one of the two is a NaN, b.
 pub fn max(a: f64, b: f64) -> f64
     ensures { λ r. ⌜ r ≡ maxOf a b ⌝ }
 {
@@ -99,7 +103,7 @@ fn least(n: usize, k: usize) -> usize
     if n < k { n } else { k }
 }
 
-// The Euclidean norm of the first n components, or of all where there are fewer.
+// The Euclidean norm of the first n components, or of all where there are fewer, added up by rising index.
 pub fn norm(v: &[f64], n: usize) -> f64
     ensures { λ r. ⌜ r ≡ normOf (now (v .entry)) n ⌝ }
 {
@@ -167,8 +171,10 @@ fn too_small(g: u64, a: u64) -> bool
     high(g, g + 1) < a
 }
 
-// A guess at the root of m * 2 ^ (52 + odd), for an m whose top bit is bit 52: Newton's method for 1 / root, and then one
-// step for the root itself. Nothing is said of it but its size.
+// A guess at the root of m * 2 ^ (52 + odd), for an m whose top bit is bit 52. x is that number times 2 ^ -104, from 1 up
+// to 4. To take half its pattern from a constant halves the exponent and turns its sign, which is 1 / root but for some
+// hundredths; three steps of Newton's method, and a last one for the root itself, bring it to the last digit or next to
+// it. The promise says only how large it is: whatever it is, `lowered` and `raised` find the right number from there.
 fn guess(m: u64, odd: u64) -> u64
     requires { ⌜ odd ≤ 1 ⌝ }
     ensures { λ r. ⌜ (0 < r) × (r ≤ 2 ^ 53) ⌝ }
@@ -223,6 +229,8 @@ fn pattern(m: u64, e: u64) -> u64
     (e / 2 - 26) * PLACE + g
 }
 
+// The square root, rounded to the nearest; of the infinity, of +0 and of -0 the argument itself, and of a NaN and of what
+// is below zero a NaN.
 pub fn sqrt(x: f64) -> f64
     ensures { λ r. ⌜ r ≡ rootOf x ⌝ }
 {

@@ -1,5 +1,5 @@
 -- `fmath::high` meets its contract. Assumes nothing.
-use Prim.Native.Nat.{ℕ, _*_, _/_, _%_, _^_, _≤_, _<_}
+use Prim.Native.Nat.{_*_, _/_, _%_, _^_, _≤_}
 use native.Mathlib.Omega.{arith}
 use Rattle.fmath.proofs.Steps.{high-is, product-lt}
 use Rattle.fmath.proofs.high.Statement.{statement}

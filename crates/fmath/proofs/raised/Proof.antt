@@ -1,5 +1,5 @@
 -- `fmath::raised` meets its contract: r rises, and stays not too large. Assumes nothing.
-use mathlib.Core.Path.{_≡_, sym, _∙_}
+use mathlib.Core.Path.{sym, _∙_}
 use Prim.Native.Nat.{_+_, _-_, _*_, _^_, _≤_, _<_}
 use native.Mathlib.Omega.{arith}
 use Rattle.fmath.proofs.Steps.{small-less, small-next, found}

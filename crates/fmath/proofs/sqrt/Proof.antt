@@ -1,5 +1,5 @@
 -- `fmath::sqrt` meets its contract. Each way out is a law of `proofs/Whole.antt`. Assumes nothing.
-use mathlib.Core.Path.{_≡_, sym, _∙_, subst}
+use mathlib.Core.Path.{sym, _∙_, subst}
 use Prim.Native.Nat.{_<_}
 use native.Mathlib.Omega.{arith}
 use borrow.Author.Needs.{needs}

@@ -1,0 +1,14 @@
+use Rattle.lictor_table.specs.Helpers.{countRun}
+use borrow.Author.Needs.{needs}
+use Rattle.lictor_fsm.proofs.count_run.Statement.{statement}
+use Rattle.lictor_fsm.proofs.count_run.Tie as tie
+
+count-clean-requires : tie.Need-count-clean-requires
+count-clean-requires c κs = search needs
+
+returns : tie.Need-returns
+unfolding countRun
+returns c = cc
+
+pub count-run-spec : {M : Type 1} → statement M
+count-run-spec = tie.close (tie.spec count-clean-requires returns)

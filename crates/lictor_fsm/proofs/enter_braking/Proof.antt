@@ -1,0 +1,10 @@
+use Rattle.lictor_table.specs.Rows.{enterBraking}
+use Rattle.lictor_fsm.proofs.enter_braking.Statement.{statement}
+use Rattle.lictor_fsm.proofs.enter_braking.Tie as tie
+
+returns : tie.Need-returns
+unfolding enterBraking
+returns c = cc
+
+pub enter-braking-spec : {M : Type 1} → statement M
+enter-braking-spec = tie.close (tie.spec returns)

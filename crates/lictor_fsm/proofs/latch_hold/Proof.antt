@@ -1,0 +1,17 @@
+use Rattle.lictor_table.specs.Helpers.{latchHold}
+use borrow.Author.Needs.{needs}
+use Rattle.lictor_fsm.proofs.latch_hold.Statement.{statement}
+use Rattle.lictor_fsm.proofs.latch_hold.Tie as tie
+
+live-requires : tie.Need-live-requires
+live-requires c κs = search needs
+
+latched-requires : tie.Need-latched-requires
+latched-requires c κs = search needs
+
+returns : tie.Need-returns
+unfolding latchHold
+returns c = cc
+
+pub latch-hold-spec : {M : Type 1} → statement M
+latch-hold-spec = tie.close (tie.spec live-requires latched-requires returns)

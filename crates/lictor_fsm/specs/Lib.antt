@@ -1,0 +1,1 @@
+-- What `next` computes is defined in the crate lictor_table; nothing is added here.

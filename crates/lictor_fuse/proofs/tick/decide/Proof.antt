@@ -1,0 +1,17 @@
+use Rattle.lictor_fuse.specs.Tick.{decideOf}
+use borrow.Author.Needs.{needs}
+use Rattle.lictor_fuse.proofs.tick.decide.Statement.{statement}
+use Rattle.lictor_fuse.proofs.tick.decide.Tie as tie
+
+guarded-requires : tie.Need-guarded-requires
+guarded-requires c κs = search needs
+
+decide-by-requires : tie.Need-decide-by-requires
+decide-by-requires c κs = search needs
+
+returns : tie.Need-returns
+unfolding decideOf
+returns c = cc
+
+pub decide-spec : {M : Type 1} → statement M
+decide-spec = tie.close (tie.spec guarded-requires decide-by-requires returns)

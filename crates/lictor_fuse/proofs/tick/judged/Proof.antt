@@ -1,0 +1,16 @@
+
+use borrow.Author.Needs.{needs}
+use Rattle.lictor_fuse.proofs.tick.judged.Statement.{statement}
+use Rattle.lictor_fuse.proofs.tick.judged.Tie as tie
+
+delivered-requires : tie.Need-delivered-requires
+delivered-requires c κs = search needs
+
+judge-requires : tie.Need-judge-requires
+judge-requires c κs = search needs
+
+returns : tie.Need-returns
+returns c = cc
+
+pub judged-spec : {M : Type 1} → statement M
+judged-spec = tie.close (tie.spec delivered-requires judge-requires returns)

@@ -1,0 +1,10 @@
+use Rattle.lictor_fuse.specs.Tick.{readyOf}
+use Rattle.lictor_fuse.proofs.tick.ready.Statement.{statement}
+use Rattle.lictor_fuse.proofs.tick.ready.Tie as tie
+
+returns : tie.Need-returns
+unfolding readyOf
+returns c = cc
+
+pub ready-spec : {M : Type 1} → statement M
+ready-spec = tie.close (tie.spec returns)

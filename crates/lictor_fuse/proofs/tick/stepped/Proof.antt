@@ -1,0 +1,19 @@
+
+use borrow.Author.Needs.{needs}
+use Rattle.lictor_fuse.proofs.tick.stepped.Statement.{statement}
+use Rattle.lictor_fuse.proofs.tick.stepped.Tie as tie
+
+ready-requires : tie.Need-ready-requires
+ready-requires c κs = search needs
+
+machine-input-requires : tie.Need-machine-input-requires
+machine-input-requires c κs = search needs
+
+next-requires : tie.Need-next-requires
+next-requires c κs = search needs
+
+returns : tie.Need-returns
+returns c = cc
+
+pub stepped-spec : {M : Type 1} → statement M
+stepped-spec = tie.close (tie.spec ready-requires machine-input-requires next-requires returns)

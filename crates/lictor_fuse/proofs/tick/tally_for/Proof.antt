@@ -1,0 +1,16 @@
+
+use borrow.Author.Needs.{needs}
+use Rattle.lictor_fuse.proofs.tick.tally_for.Statement.{statement}
+use Rattle.lictor_fuse.proofs.tick.tally_for.Tie as tie
+
+delivered-requires : tie.Need-delivered-requires
+delivered-requires c κs = search needs
+
+chunk-tally-requires : tie.Need-chunk-tally-requires
+chunk-tally-requires c κs = search needs
+
+returns : tie.Need-returns
+returns c = cc
+
+pub tally-for-spec : {M : Type 1} → statement M
+tally-for-spec = tie.close (tie.spec delivered-requires chunk-tally-requires returns)

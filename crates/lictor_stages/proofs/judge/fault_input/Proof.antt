@@ -1,0 +1,17 @@
+use Rattle.lictor_stages.specs.Judge.{faultInput}
+use borrow.Author.Needs.{needs}
+use Rattle.lictor_stages.proofs.judge.fault_input.Statement.{statement}
+use Rattle.lictor_stages.proofs.judge.fault_input.Tie as tie
+
+is-project-requires : tie.Need-is-project-requires
+is-project-requires c κs = search needs
+
+delivered-requires : tie.Need-delivered-requires
+delivered-requires c κs = search needs
+
+returns : tie.Need-returns
+unfolding faultInput
+returns c = cc
+
+pub fault-input-spec : {M : Type 1} → statement M
+fault-input-spec = tie.close (tie.spec is-project-requires delivered-requires returns)

@@ -1,0 +1,25 @@
+use Rattle.lictor_stages.specs.Judge.{judgeOf}
+use borrow.Author.Needs.{needs}
+use Rattle.lictor_stages.proofs.judge.judge.Statement.{statement}
+use Rattle.lictor_stages.proofs.judge.judge.Tie as tie
+
+masked-requires : tie.Need-masked-requires
+masked-requires c κs = search needs
+
+score-requires : tie.Need-score-requires
+score-requires c κs = search needs
+
+standstill-requires : tie.Need-standstill-requires
+standstill-requires c κs = search needs
+
+is-chunk-ok-requires : tie.Need-is-chunk-ok-requires
+is-chunk-ok-requires c κs = search needs
+
+returns : tie.Need-returns
+unfolding judgeOf
+returns c = cc
+
+pub judge-spec : {M : Type 1} → statement M
+judge-spec =
+    tie.close
+    (tie.spec masked-requires score-requires standstill-requires is-chunk-ok-requires returns)

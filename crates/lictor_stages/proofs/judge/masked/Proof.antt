@@ -1,0 +1,14 @@
+use Rattle.lictor_stages.specs.Judge.{maskedOf}
+use borrow.Author.Needs.{needs}
+use Rattle.lictor_stages.proofs.judge.masked.Statement.{statement}
+use Rattle.lictor_stages.proofs.judge.masked.Tie as tie
+
+with-brake-requires : tie.Need-with-brake-requires
+with-brake-requires c κs = search needs
+
+returns : tie.Need-returns
+unfolding maskedOf
+returns c = cc
+
+pub masked-spec : {M : Type 1} → statement M
+masked-spec = tie.close (tie.spec with-brake-requires returns)

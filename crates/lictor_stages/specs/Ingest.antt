@@ -1,0 +1,63 @@
+-- Stage 1 (01-scope.md, One tick; fuse.rs, INGEST): the position and the velocity that a tick takes.
+use mathlib.Core.Bool.{Bool, true, false, cond, _&&_}
+use mathlib.Core.List.{List}
+use Prim.Native.Nat.{ℕ, min}
+use lib.Dec.{eqb}
+use lib.ListN.{getD, length}
+use lib.Ieee.{Float, nan, binary64, sub, mul}
+use Rattle.fmath.specs.Float.{allFinite}
+use Rattle.lictor_core.specs.declared.envelope.FuseConfig.{FuseConfig}
+use Rattle.lictor_core.specs.declared.fuse.Motion.{Motion}
+use Rattle.lictor_core.specs.Initial.{zeroFloat}
+use Rattle.lictor_core.specs.Rows.{rowTo}
+
+abbrev pub placeOf : List Float → ℕ → Float
+placeOf s c = getD s c nan
+
+-- copy_row: `old` with its first n places from s, as far as s goes and there is room
+unfoldable pub takenRow : List Float → List Float → ℕ → List Float
+takenRow s old n = rowTo (placeOf s) old (min (min n 8) (length s))
+
+-- (position - position taken last) * inv_dt, a rounding each
+unfoldable pub stepRate : List Float → List Float → Float → ℕ → Float
+stepRate p q inv c = mul binary64 (sub binary64 (getD p c nan) (getD q c nan)) inv
+
+unfoldable pub ratesRow : FuseConfig → List Float → List Float → List Float → List Float
+ratesRow cfg p q old = rowTo (stepRate p q (cfg .«inv_dt»)) old (min (cfg .«pos_dim») 8)
+
+abbrev pub atRest : ℕ → Float
+atRest c = zeroFloat
+
+unfoldable pub stillRow : FuseConfig → List Float → List Float
+stillRow cfg old = rowTo atRest old (min (cfg .«pos_dim») 8)
+
+-- the velocity: as supplied; else from the position p and the one taken last, q; else, on the first clean tick, zero
+unfoldable pub velocityOf : FuseConfig → Bool → Bool → List Float → List Float → List Float → List Float → List Float
+velocityOf cfg hasVel have p q old vel = cond hasVel (takenRow vel old (cfg .«pos_dim»)) (cond have (ratesRow cfg p q old) (stillRow cfg old))
+
+-- a clean tick's motion
+unfoldable pub ingestOf : FuseConfig → Motion → Bool → List Float → List Float → Motion
+ingestOf cfg m hasVel pos vel = record {
+  pos = takenRow pos (m .pos) (cfg .«pos_dim»);
+  «prev_pos» = m .pos;
+  vel = velocityOf cfg hasVel (m .«have_prev_pos») (takenRow pos (m .pos) (cfg .«pos_dim»)) (m .pos) (m .vel) vel;
+  «have_prev_pos» = true;
+  «last_cmd» = m .«last_cmd»;
+}
+
+-- the length is right and every value finite
+unfoldable pub isFit : FuseConfig → List Float → Bool
+isFit cfg pos = eqb (length pos) (cfg .«pos_dim») && allFinite pos
+
+unfoldable pub withPos : FuseConfig → Motion → List Float → Motion
+withPos cfg m pos = record {
+  pos = takenRow pos (m .pos) (cfg .«pos_dim»);
+  «prev_pos» = m .«prev_pos»;
+  vel = m .vel;
+  «have_prev_pos» = m .«have_prev_pos»;
+  «last_cmd» = m .«last_cmd»;
+}
+
+-- a fault tick's motion: the position is taken if it is fit, and nothing else
+unfoldable pub faultMotion : FuseConfig → Motion → List Float → Motion
+faultMotion cfg m pos = cond (isFit cfg pos) (withPos cfg m pos) m

@@ -1,0 +1,5 @@
+-- Definitions that the contracts cite.
+pub mod Ingest
+pub mod Judge
+pub mod Act
+pub mod Verdict

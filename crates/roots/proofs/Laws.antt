@@ -1,0 +1,232 @@
+-- The text that `roots` reads and writes, piece by piece. Assumes nothing.
+use mathlib.Core.Path.{_≡_, refl, sym, ap, _∙_, subst}
+use mathlib.Core.Bool.{Bool, true, false, not, cond, true≢false}
+use mathlib.Core.List.{List, [], _∷_, _++_, append-assoc, append-nil}
+use Prim.Native.Nat.{ℕ, zero, suc, _+_, _-_, _*_, _/_, _%_, _^_, _≤_, _<_, min}
+use native.Mathlib.Nat.{le-antisymm, le-of-suc-le-suc, lt-of-not-le, add-zero, pow-suc, pow-le-pow-right}
+use native.Mathlib.Numerals.{add-one}
+use native.Mathlib.Omega.{arith}
+use borrow.Author.Tests.{lt-ltb, le-ltb}
+use lib.Dec.{T, leb, leb→le, nleb→lt}
+use lib.ListN.{length, take, drop, getD, set, length-set, length-append, length-take, length-drop, drop-of-length-le}
+use lib.Seq.{take-suc-set, take-suc, drop-cons, getD-take, take-all, drop-drop, length-take-le}
+use lib.Ieee.{Float, nan, inf, fin, binary64, isNan, toBits, ofBits, nanBits, ne}
+use lib.Ieee.Bits.{nanBits-is, nanBits-above}
+use Rattle.io.specs.Digits.{digits, Fewest}
+use Rattle.fmath.specs.Root.{rootOf}
+use Rattle.fmath.proofs.Patterns.{no-nan}
+use Rattle.fmath.proofs.Patterns.{is-nan as Patterns·is-nan}
+use Rattle.roots.specs.declared.Read.{Read}
+use Rattle.roots.specs.declared.Read.the-variants.{Pattern, Bad}
+use Rattle.roots.specs.Text.{digitOf, readDigits, readOf, hexText, valueText, lineOf, badLine, byRead, answerTo, isBad, answers, someBad, lineCount, Put, Answered}
+
+-- ---- reading: the digits of s from the i-th on
+pub digits-on : (s : List ℕ) (i b : ℕ) → length s ≡ 17 → i < 16 → digitOf (getD s i 0) < 16
+    → readDigits b (drop i (take 16 s)) ≡ readDigits (b * 16 + digitOf (getD s i 0)) (drop (i + 1) (take 16 s))
+unfolding readDigits
+digits-on s i b l h d =
+    let k : i < length (take 16 s) = omega (arith, length-take 16 s) in
+    rw (add-one, drop-cons (take 16 s) i 0, getD-take 16 s i 0, lt-ltb (digitOf (getD s i 0)) 16 d)
+
+pub digits-stop : (s : List ℕ) (i b : ℕ) → length s ≡ 17 → i < 16 → 16 ≤ digitOf (getD s i 0) → readDigits b (drop i (take 16 s)) ≡ Bad
+unfolding readDigits
+digits-stop s i b l h d =
+    let k : i < length (take 16 s) = omega (arith, length-take 16 s) in
+    rw (drop-cons (take 16 s) i 0, getD-take 16 s i 0, le-ltb (digitOf (getD s i 0)) 16 d)
+
+pub digits-end : (s : List ℕ) (i b : ℕ) → 16 ≤ i → readDigits b (drop i (take 16 s)) ≡ Pattern b
+unfolding readDigits
+digits-end s i b h =
+    let k : length (take 16 s) ≤ i = omega (arith, length-take 16 s) in
+    rw (drop-of-length-le (take 16 s) k)
+
+-- i digits make a number below 16 ^ i, and there are 16 at most
+pub value-lt : (b d i : ℕ) → b < 16 ^ i → d < 16 → b * 16 + d < 16 ^ (i + 1)
+value-lt b d i h k = rw (add-one, pow-suc 16 i) (omega arith)
+
+pub value-small : (b i : ℕ) → b < 16 ^ i → i < 16 → b < 2 ^ 60
+value-small b i h k = let t : 16 ^ i ≤ 16 ^ 15 = pow-le-pow-right {n = 16} (omega arith) {i = i} {j = 15} (omega arith) in omega arith
+
+-- ---- a NaN's pattern is above the infinity's, the sign left out
+is-nan : (x : Float) → isNan x ≡ true → x ≡ nan
+unfolding isNan
+is-nan nan e = refl
+is-nan (inf s) e = absurd (true≢false (sym e))
+is-nan (fin s m e') e = absurd (true≢false (sym e))
+
+pub nan-at : (b : ℕ) → 0x7ff0_0000_0000_0000 < b % 2 ^ 63 → ofBits binary64 b ≡ nan
+nan-at b h = is-nan (ofBits binary64 b) (sym (nanBits-is binary64 b) ∙ nanBits-above binary64 b ∙ lt-ltb 0x7ff0_0000_0000_0000 (b % 2 ^ 63) h)
+
+pub not-nan-at : (b : ℕ) → b % 2 ^ 63 ≤ 0x7ff0_0000_0000_0000 → T (not (nanBits binary64 b))
+not-nan-at b h = subst (λ (t : Bool). T (not t)) (sym (nanBits-above binary64 b ∙ le-ltb 0x7ff0_0000_0000_0000 (b % 2 ^ 63) h)) tt
+
+-- ---- writing
+-- i bytes of the text are put
+pub record Putting (old : List ℕ) (at : ℕ) (text new : List ℕ) (i : ℕ) : Type 0 where
+  pub few : i ≤ length text
+  pub long : length new ≡ length old
+  pub text-is : take (at + i) new ≡ take at old ++ take i text
+
+pub none-put : (old : List ℕ) (at : ℕ) (text : List ℕ) → Putting old at text old 0
+none-put old at text = record { few = omega arith; long = refl; text-is = rw (add-zero at) (sym (append-nil (take at old))) }
+
+pub one-put : (old : List ℕ) (at : ℕ) (text new : List ℕ) (i : ℕ) → at + length text ≤ length old → i < length text → Putting old at text new i
+    → Putting old at text (set new (at + i) (getD text i 0)) (i + 1)
+one-put old at text new i r h p = record {
+  few = omega arith;
+  long = length-set new (at + i) (getD text i 0) ∙ p .long;
+  text-is =
+      ap (λ (k : ℕ). take k (set new (at + i) (getD text i 0))) (next at i)
+      ∙ take-suc-set new (at + i) (getD text i 0) (omega (arith, p .long))
+      ∙ ap (λ (l : List ℕ). l ++ (getD text i 0 ∷ [])) (p .text-is)
+      ∙ append-assoc (take at old) (take i text) (getD text i 0 ∷ [])
+      ∙ ap (λ (l : List ℕ). take at old ++ l) (sym (take-suc text i 0 h) ∙ ap (λ (k : ℕ). take k text) (sym (add-one i)));
+}
+  where
+    next : (at i : ℕ) → at + (i + 1) ≡ suc (at + i)
+    next at i = omega arith
+
+pub all-put : (old : List ℕ) (at : ℕ) (text new : List ℕ) (i : ℕ) → length text ≤ i → Putting old at text new i → Put old at text new (at + i)
+all-put old at text new i h p =
+    let e : i ≡ length text = omega (arith, p .few) in
+    record { next-is = rw e; text-is = p .text-is ∙ ap (λ (l : List ℕ). take at old ++ l) (take-all i text h) }
+
+-- one text and then another
+pub then-put : {a b c : List ℕ} {at p q : ℕ} {t u : List ℕ} → Put a at t b p → Put b p u c q → Put a at (t ++ u) c q
+then-put {a} {b} {c} {at} {p} {q} {t} {u} x y = record {
+  next-is = omega (arith, x .next-is, y .next-is, length-append t u);
+  text-is = y .text-is ∙ ap (λ (l : List ℕ). l ++ u) (x .text-is) ∙ append-assoc (take at a) t u;
+}
+
+-- ---- lengths
+digits-length : (k n : ℕ) → length (digits 16 k n) ≡ k
+digits-length zero n = refl
+digits-length (suc k) n = length-append (digits 16 k (n / 16)) _ ∙ ap (λ (x : ℕ). x + 1) (digits-length k (n / 16)) ∙ add-one k
+
+pub hex-length : (n : ℕ) → length (hexText n) ≡ 16
+unfolding hexText
+hex-length n = digits-length 16 n
+
+pub value-length : (x : Float) → length (valueText x) ≤ 16
+unfolding valueText
+value-length x = go (isNan x) (hexText (toBits binary64 x)) (hex-length (toBits binary64 x))
+  where
+    go : (b : Bool) (l : List ℕ) → length l ≡ 16 → length (cond b (110 ∷ 97 ∷ 110 ∷ []) l) ≤ 16
+    go true l h = omega arith
+    go false l h = omega arith
+
+line-length : (b : ℕ) → length (lineOf b) ≤ 34
+unfolding lineOf
+line-length b = go (hexText b) (valueText (rootOf (ofBits binary64 b))) (hex-length b) (value-length (rootOf (ofBits binary64 b)))
+  where
+    go : (h v : List ℕ) → length h ≡ 16 → length v ≤ 16 → length (h ++ (32 ∷ []) ++ v ++ (10 ∷ [])) ≤ 34
+    go h v p q = simp length-append (omega arith)
+
+pub answer-length : (s : List ℕ) → length (answerTo s) ≤ 34
+unfolding answerTo
+answer-length s = go (readOf s)
+  where
+    go : (r : Read) → length (byRead r lineOf badLine) ≤ 34
+    go (Pattern b) = line-length b
+    go Bad = omega arith
+
+-- ---- what `io::hex` answers at 16 digits
+sixteen : (b k : ℕ) → b < 2 ^ 64 → Fewest 16 16 b k → k ≡ 16
+sixteen b k h f = le-antisymm (le-of-suc-le-suc (lt-of-not-le (λ (g : 17 ≤ k). far (pow-le-pow-right {n = 16} (omega arith) {i = 16} {j = k - 1} (omega arith)) (f .2 g)))) (f .0)
+  where
+    far : 16 ^ 16 ≤ 16 ^ (k - 1) → 16 ^ (k - 1) ≤ b → ⊥
+    far p q = omega arith
+
+pub hex-is : (b k : ℕ) (out : List ℕ) → b < 2 ^ 64 → Fewest 16 16 b k → take k out ≡ digits 16 k b → take k out ≡ hexText b
+unfolding hexText
+hex-is b k out h f e = e ∙ ap (λ (j : ℕ). digits 16 j b) (sixteen b k h f)
+
+pub value-nan : (x : Float) → ne x x ≡ true → valueText x ≡ 110 ∷ 97 ∷ 110 ∷ []
+unfolding valueText isNan
+value-nan x d = rw (Patterns·is-nan x d)
+
+pub value-number : (x : Float) → ne x x ≡ false → valueText x ≡ hexText (toBits binary64 x)
+unfolding valueText
+value-number x d = go (isNan x) (no-nan x d)
+  where
+    go : (b : Bool) → T (not b) → cond b (110 ∷ 97 ∷ 110 ∷ []) (hexText (toBits binary64 x)) ≡ hexText (toBits binary64 x)
+    go true t = absurd t
+    go false t = refl
+
+-- ---- the lines of s, from the byte `at` on
+pub record Answering (s old new : List ℕ) (at n : ℕ) : Type 0 where
+  pub long : length new ≡ length old
+  pub room : n + lineCount (drop at s) * 34 ≤ length new
+  pub text-is : answers (lineCount s) s ≡ take n new ++ answers (lineCount (drop at s)) (drop at s)
+  pub bad-is : someBad (lineCount s) s ≡ someBad (lineCount (drop at s)) (drop at s)
+
+pub none-answered : (s out : List ℕ) → lineCount s * 34 ≤ length out → Answering s out out 0 0
+none-answered s out h = record { long = refl; room = omega arith; text-is = refl; bad-is = refl }
+
+-- the line at `at`, 17 bytes or what is left
+pub line-is : (s : List ℕ) (at : ℕ) → take (min (at + 17) (length s) - at) (drop at s) ≡ take 17 (drop at s)
+line-is s at = go (leb (at + 17) (length s)) (leb→le (at + 17) (length s)) (nleb→lt (at + 17) (length s))
+  where
+    whole : (at n : ℕ) → at + 17 ≤ n → min (at + 17) n - at ≡ 17
+    whole at n h = omega arith
+
+    go : (b : Bool) → (T b → at + 17 ≤ length s) → (T (not b) → length s < at + 17) → take (min (at + 17) (length s) - at) (drop at s) ≡ take 17 (drop at s)
+    go true f g = ap (λ (k : ℕ). take k (drop at s)) (whole at (length s) (f tt))
+    go false f g = let h = g tt in take-all (min (at + 17) (length s) - at) (drop at s) (omega (arith, length-drop at s)) ∙ sym (take-all 17 (drop at s) (omega (arith, length-drop at s)))
+
+module _ (s old new : List ℕ) (at n : ℕ) (h : at < length s) (w : Answering s old new at n) (new' : List ℕ) (n' : ℕ) (long : length new' ≡ length new) (p : Put new n (answerTo (take 17 (drop at s))) new' n') where
+  abbrev rest : List ℕ
+  rest = answers (lineCount (drop (at + 17) s)) (drop (at + 17) s)
+
+  abbrev rest-bad : Bool
+  rest-bad = someBad (lineCount (drop (at + 17) s)) (drop (at + 17) s)
+
+  abbrev line : List ℕ
+  line = take 17 (drop at s)
+
+  next : drop 17 (drop at s) ≡ drop (at + 17) s
+  next = drop-drop 17 at s
+
+  one-less : lineCount (drop at s) ≡ suc (lineCount (drop (at + 17) s))
+  one-less = omega (arith, length-drop at s, length-drop (at + 17) s)
+
+  first : answers (lineCount (drop at s)) (drop at s) ≡ answerTo line ++ cond (isBad line) [] rest
+  unfolding answers
+  first = rw (one-less, ← next)
+
+  first-bad : someBad (lineCount (drop at s)) (drop at s) ≡ cond (isBad line) true rest-bad
+  unfolding someBad
+  first-bad = rw (one-less, ← next)
+
+  room : n' + lineCount (drop (at + 17) s) * 34 ≤ length new'
+  room = omega (arith, w .room, p .next-is, one-less, answer-length line)
+
+  pub one-answered : isBad line ≡ false → Answering s old new' (at + 17) n'
+  one-answered e = record {
+    long = long ∙ w .long;
+    room = room;
+    text-is =
+        w .text-is
+        ∙ ap (λ (l : List ℕ). take n new ++ l) (first ∙ ap (λ (b : Bool). answerTo line ++ cond b [] rest) e)
+        ∙ sym (append-assoc (take n new) (answerTo line) rest)
+        ∙ ap (λ (l : List ℕ). l ++ rest) (sym (p .text-is));
+    bad-is = w .bad-is ∙ first-bad ∙ ap (λ (b : Bool). cond b true rest-bad) e;
+  }
+
+  pub bad-answered : isBad line ≡ true → Answered s new' n' true
+  bad-answered e = record {
+    counts = (omega (arith, room), sym (length-take-le n' new' (omega (arith, room))));
+    text-is =
+        p .text-is
+        ∙ ap (λ (l : List ℕ). take n new ++ l) (sym (append-nil (answerTo line)) ∙ ap (λ (b : Bool). answerTo line ++ cond b [] rest) (sym e) ∙ sym first)
+        ∙ sym (w .text-is);
+    bad-is = sym (w .bad-is ∙ first-bad ∙ ap (λ (b : Bool). cond b true rest-bad) e);
+  }
+
+pub all-answered : (s old new : List ℕ) (at n : ℕ) → length s ≤ at → Answering s old new at n → Answered s new n false
+unfolding answers someBad
+all-answered s old new at n h w = record {
+  counts = (omega (arith, w .room), sym (length-take-le n new (omega (arith, w .room))));
+  text-is = sym (w .text-is ∙ ap (λ (l : List ℕ). take n new ++ answers (lineCount l) l) (drop-of-length-le s h) ∙ append-nil (take n new));
+  bad-is = sym (w .bad-is ∙ ap (λ (l : List ℕ). someBad (lineCount l) l) (drop-of-length-le s h));
+}

@@ -1,0 +1,91 @@
+-- The text that `roots` reads and writes. Definitions only.
+use Prim.Native.Nat.{ℕ, zero, suc, _+_, _-_, _*_, _/_}
+use mathlib.Core.Path.{_≡_}
+use mathlib.Core.Bool.{Bool, true, false, cond}
+use mathlib.Core.List.{List, [], _∷_, _++_}
+use lib.Dec.{leb, ltb, eqb}
+use lib.ListN.{length, take, drop, getD}
+use lib.Ieee.{Float, binary64, ofBits, toBits, isNan}
+use Rattle.io.specs.Counts.{Counts}
+use Rattle.io.specs.Digits.{digits}
+use Rattle.fmath.specs.Root.{rootOf}
+use Rattle.roots.specs.declared.Read.{Read}
+use Rattle.roots.specs.declared.Read.the-variants.{Pattern, Bad}
+
+-- ---- reading
+
+-- the value of a hexadecimal digit, `0` to `9` or `a` to `f`, and 16 for any other byte
+unfoldable pub digitOf : ℕ → ℕ
+digitOf c = cond (ltb c 48) 16 (cond (leb c 57) (c - 48) (cond (ltb c 97) 16 (cond (leb c 102) (c - 97 + 10) 16)))
+
+-- v followed by the digits cs
+unfoldable pub readDigits : ℕ → List ℕ → Read
+unfolding digitOf
+readDigits v [] = Pattern v
+readDigits v (c ∷ cs) = cond (ltb (digitOf c) 16) (readDigits (v * 16 + digitOf c) cs) Bad
+
+-- a line is 16 digits and a newline
+unfoldable pub readOf : List ℕ → Read
+unfolding readDigits
+readOf s = cond (eqb (length s) 17) (cond (eqb (getD s 16 0) 10) (readDigits 0 (take 16 s)) Bad) Bad
+
+-- ---- writing
+
+-- the 16 hexadecimal digits of n, in lower case
+unfoldable pub hexText : ℕ → List ℕ
+hexText n = digits 16 16 n
+
+-- a value: `nan`, or the digits of its pattern
+unfoldable pub valueText : Float → List ℕ
+unfolding hexText
+valueText x = cond (isNan x) (110 ∷ 97 ∷ 110 ∷ []) (hexText (toBits binary64 x))
+
+-- the line for the pattern b: b, a space, the root, a newline
+unfoldable pub lineOf : ℕ → List ℕ
+unfolding hexText valueText
+lineOf b = hexText b ++ (32 ∷ []) ++ valueText (rootOf (ofBits binary64 b)) ++ (10 ∷ [])
+
+-- `bad line` and a newline
+abbrev pub badLine : List ℕ
+badLine = 98 ∷ 97 ∷ 100 ∷ 32 ∷ 108 ∷ 105 ∷ 110 ∷ 101 ∷ 10 ∷ []
+
+-- ---- the whole
+
+abbrev pub byRead : {A : Type 0} → Read → (ℕ → A) → A → A
+byRead (Pattern b) f a = f b
+byRead Bad f a = a
+
+-- the answer to one line
+unfoldable pub answerTo : List ℕ → List ℕ
+unfolding readOf lineOf
+answerTo s = byRead (readOf s) lineOf badLine
+
+unfoldable pub isBad : List ℕ → Bool
+unfolding readOf
+isBad s = byRead (readOf s) (λ b. false) true
+
+-- the answers to k lines of 17 bytes, up to the first bad one
+unfoldable pub answers : ℕ → List ℕ → List ℕ
+unfolding answerTo isBad
+answers zero s = []
+answers (suc k) s = answerTo (take 17 s) ++ cond (isBad (take 17 s)) [] (answers k (drop 17 s))
+
+unfoldable pub someBad : ℕ → List ℕ → Bool
+unfolding isBad
+someBad zero s = false
+someBad (suc k) s = cond (isBad (take 17 s)) true (someBad k (drop 17 s))
+
+-- how many lines there are in s, a part of one at the end counting as one
+abbrev pub lineCount : List ℕ → ℕ
+lineCount s = (length s + 16) / 17
+
+-- `text` was put at the place `at` of `old`, which gave `new`, and `next` is the place behind it
+pub record Put (old : List ℕ) (at : ℕ) (text new : List ℕ) (next : ℕ) : Type 0 where
+  pub next-is : next ≡ at + length text
+  pub text-is : take next new ≡ take at old ++ text
+
+-- the answers to the bytes s stand at the start of `out`, n bytes of them
+pub record Answered (s out : List ℕ) (n : ℕ) (bad : Bool) : Type 0 where
+  pub counts : Counts n out
+  pub text-is : take n out ≡ answers (lineCount s) s
+  pub bad-is : bad ≡ someBad (lineCount s) s

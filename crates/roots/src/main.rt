@@ -1,0 +1,201 @@
+// Reads patterns of binary64 from standard input, one to a line of 16 lower-case hexadecimal digits, and writes each with
+// its square root: the pattern, a space, the pattern of `fmath::sqrt`'s result (`nan` for every NaN), a newline.
+// At a line that is no such text it writes `bad line` and stops.
+ghost use mathlib.Core.Path.{_≡_};
+ghost use Prim.Native.Nat.{_+_, _*_, _≤_, min};
+ghost use lib.ListN.{length};
+ghost use lib.Ieee.{binary64, ofBits};
+ghost use Rattle.roots.specs.Text.{digitOf, readOf, hexText, valueText, lineOf, answerTo, isBad, lineCount, Put, Answered};
+
+// ---- reading
+
+enum Read {
+    Pattern(u64),
+    Bad,
+}
+
+// The value of a hexadecimal digit, and 16 for any other byte.
+fn digit(c: u8) -> u8
+    ensures { λ r. ⌜ r ≡ digitOf c ⌝ }
+{
+    if c < b'0' {
+        return 16;
+    }
+    if c <= b'9' {
+        return c - b'0';
+    }
+    if c < b'a' {
+        return 16;
+    }
+    if c <= b'f' {
+        return c - b'a' + 10;
+    }
+    16
+}
+
+// What a line says, its newline included.
+fn read_line(s: &[u8]) -> Read
+    ensures { λ r. ⌜ r ≡ readOf (now (s .entry)) ⌝ }
+{
+    if s.len() != 17 {
+        return Read::Bad;
+    }
+    if s[16] != b'\n' {
+        return Read::Bad;
+    }
+    let mut b: u64 = 0;
+    let mut i: usize = 0;
+    while i < 16 {
+        let d = digit(s[i]);
+        if d > 15 {
+            return Read::Bad;
+        }
+        b = b * 16 + d as u64;
+        i += 1;
+    }
+    Read::Pattern(b)
+}
+
+// The value of a pattern. Of a NaN's pattern it is the one NaN, since `from_bits` is not defined there.
+fn double(b: u64) -> f64
+    ensures { λ r. ⌜ r ≡ ofBits binary64 b ⌝ }
+{
+    if 0x7ff0_0000_0000_0000 < b % 0x8000_0000_0000_0000 {
+        return fmath::nan();
+    }
+    f64::from_bits(b)
+}
+
+// ---- writing: each puts a text at a place of out, and answers the place behind it
+
+fn put(out: &mut [u8], at: usize, text: &[u8]) -> usize
+    requires { ⌜ at + length (now text) ≤ length (now out) ⌝ }
+    ensures { λ r. ⌜ Put (now (out .entry)) at (now (text .entry)) (now (out .exit)) r ⌝ }
+{
+    let mut i: usize = 0;
+    while i < text.len() {
+        out[at + i] = text[i];
+        i += 1;
+    }
+    at + i
+}
+
+fn put_hex(out: &mut [u8], at: usize, b: u64) -> usize
+    requires { ⌜ at + 16 ≤ length (now out) ⌝ }
+    ensures { λ r. ⌜ Put (now (out .entry)) at (hexText b) (now (out .exit)) r ⌝ }
+{
+    let mut text = [0u8; 16];
+    let k = io::hex(b, 16, &mut text);
+    put(out, at, &text[..k])
+}
+
+fn put_value(out: &mut [u8], at: usize, x: f64) -> usize
+    requires { ⌜ at + 16 ≤ length (now out) ⌝ }
+    ensures { λ r. ⌜ Put (now (out .entry)) at (valueText x) (now (out .exit)) r ⌝ }
+{
+    if x != x {
+        return put(out, at, b"nan");
+    }
+    put_hex(out, at, f64::to_bits(x))
+}
+
+fn put_line(out: &mut [u8], at: usize, b: u64) -> usize
+    requires { ⌜ at + 34 ≤ length (now out) ⌝ }
+    ensures { λ r. ⌜ Put (now (out .entry)) at (lineOf b) (now (out .exit)) r ⌝ }
+{
+    let root = fmath::sqrt(double(b));
+    let i = put_hex(out, at, b);
+    let j = put(out, i, b" ");
+    let k = put_value(out, j, root);
+    put(out, k, b"\n")
+}
+
+// ---- lines
+
+struct Done {
+    n: usize,
+    bad: bool,
+}
+
+fn answer_line(s: &[u8], out: &mut [u8], at: usize) -> Done
+    requires { ⌜ at + 34 ≤ length (now out) ⌝ }
+    ensures { λ r. ⌜ Put (now (out .entry)) at (answerTo (now (s .entry))) (now (out .exit)) (r .n) × (r .bad ≡ isBad (now (s .entry))) ⌝ }
+{
+    match read_line(s) {
+        Read::Pattern(b) => Done {
+            n: put_line(out, at, b),
+            bad: false,
+        },
+        Read::Bad => Done {
+            n: put(out, at, b"bad line\n"),
+            bad: true,
+        },
+    }
+}
+
+fn least(a: usize, b: usize) -> usize
+    ensures { λ r. ⌜ r ≡ min a b ⌝ }
+{
+    if a < b { a } else { b }
+}
+
+// Answers the lines of s, up to the first that is bad, at the start of out.
+fn answer(s: &[u8], out: &mut [u8]) -> Done
+    requires { ⌜ lineCount (now s) * 34 ≤ length (now out) ⌝ }
+    ensures { λ r. ⌜ Answered (now (s .entry)) (now (out .exit)) (r .n) (r .bad) ⌝ }
+{
+    let mut at: usize = 0;
+    let mut n: usize = 0;
+    while at < s.len() {
+        let e = least(at + 17, s.len());
+        let d = answer_line(&s[at..e], out, n);
+        let bad = d.bad;
+        n = d.n;
+        if bad {
+            return Done { n, bad: true };
+        }
+        at += 17;
+    }
+    Done { n, bad: false }
+}
+
+// ---- the program
+
+// Room for 240 lines, and for their answers.
+fn line_space() -> [u8; 4080]
+    ensures { λ r. ⌜ 4080 ≡ length r ⌝ }
+{
+    [0; 4080]
+}
+
+fn answer_space() -> [u8; 8160]
+    ensures { λ r. ⌜ 8160 ≡ length r ⌝ }
+{
+    [0; 8160]
+}
+
+// Reads and answers up to 240 lines, and says whether to go on.
+fn turn() -> bool {
+    let mut lines = line_space();
+    let n = io::read_full(0, &mut lines);
+    if n == 0 {
+        return false;
+    }
+    let mut out = answer_space();
+    let d = answer(&lines[..n], &mut out);
+    let k = d.n;
+    let bad = d.bad;
+    let is_written = io::write_all(1, &out[..k]);
+    if bad {
+        return false;
+    }
+    is_written
+}
+
+// Nothing says that the input ends, so the turns are counted down, from a number that no run uses up.
+fn main() {
+    let mut turns = u64::MAX;
+    while turns > 0 && turn() {
+        turns -= 1;
+    }
+}
