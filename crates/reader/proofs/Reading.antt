@@ -7,7 +7,7 @@ use native.Mathlib.Omega.{arith}
 use native.Mathlib.Decide.{decLe}
 use borrow.Author.Tests.{lt-ltb, le-ltb, leb-true}
 use lib.ListN.{length, take, drop, length-take, length-append, getD}
-use lib.Seq.{take-append-le}
+use lib.Seq.{take-append-le, take-take}
 use lib.Dec.{leb}
 use Rattle.records.specs.declared.Record.{Record}
 use Rattle.records.specs.declared.Record.the-variants.{Settings, Reset, Ack, Head, Value, Outcome, Tick}
@@ -94,36 +94,42 @@ module _ (st : State) (k : ℕ) (u : List ℕ) where
   refused-takes r true = refl
   refused-takes r false = refl
 
-  -- what is taken is there whole
-  taken-by : (x : Judged) → judged ≡ x → takes (nextOf st (k ∷ u)) ≡ true
-      → (0 < length-of (nextOf st (k ∷ u))) × (length-of (nextOf st (k ∷ u)) ≤ length (k ∷ u))
+  -- what is taken is a record that is accepted
+  taken-length : (x : Judged) → judged ≡ x → takes (nextOf st (k ∷ u)) ≡ true → length-of (nextOf st (k ∷ u)) ≡ suc (bodyLen journalKinds k)
+  taken-length (Refused r) e p = absurd (let z : _≡_ {A = Bool} true false = sym p ∙ ap takes (next-refused r e) ∙ refused-takes r (isCut r) in no z)
+    where
+      no : true ≡ false → ⊥
+      no z = let f : _≡_ {A = ℕ} 0 1 = cc in omega arith
+  taken-length Accepted e p = ap length-of (next-accepted e) ∙ record-length st (body k u) (suc (bodyLen journalKinds k)) (recordOf k (body k u))
+
+  -- and is there whole
+  taken-by : (x : Judged) → judged ≡ x → takes (nextOf st (k ∷ u)) ≡ true → bodyLen journalKinds k ≤ length u
   taken-by (Refused r) e p = absurd (let z : _≡_ {A = Bool} true false = sym p ∙ ap takes (next-refused r e) ∙ refused-takes r (isCut r) in no z)
     where
       no : true ≡ false → ⊥
       no z = let f : _≡_ {A = ℕ} 0 1 = cc in omega arith
-  taken-by Accepted e p =
-      let l : length-of (nextOf st (k ∷ u)) ≡ suc (bodyLen journalKinds k)
-      = ap length-of (next-accepted e) ∙ record-length st (body k u) (suc (bodyLen journalKinds k)) (recordOf k (body k u)) in
-      (omega arith, omega (arith, accepted-whole (seenOf st) k (body k u) journalKinds e, length-take (bodyLen journalKinds k) u))
+  taken-by Accepted e p = omega (arith, accepted-whole (seenOf st) k (body k u) journalKinds e, length-take (bodyLen journalKinds k) u)
 
   is-cut : (bodyLen journalKinds k ≤ length u → ⊥) → bodyCut journalKinds (seenOf st) k (body k u) ≡ true
   unfolding bodyCut
   is-cut h = lt-ltb (length (body k u)) (bodyLen journalKinds k) (omega (arith, length-take (bodyLen journalKinds k) u))
 
--- the same bytes with more behind them: a record that is there whole is judged, and read, by its own bytes alone
-whole-stands : (st : State) (k : ℕ) (u t : List ℕ) → bodyLen journalKinds k ≤ length u → (x : Judged) → judged st k u ≡ x → nextOf st (k ∷ u ++ t) ≡ nextOf st (k ∷ u)
-whole-stands st k u t h (Refused r) e =
-    next-refused st k (u ++ t) r (ap (judgedOf journalKinds (seenOf st) k) (take-append-le (bodyLen journalKinds k) u t h) ∙ e) ∙ sym (next-refused st k u r e)
-whole-stands st k u t h Accepted e =
-    let q : body k (u ++ t) ≡ body k u = take-append-le (bodyLen journalKinds k) u t h in
-    next-accepted st k (u ++ t) (ap (judgedOf journalKinds (seenOf st) k) q ∙ e)
+-- a record is judged, and read, by its kind and its body alone
+same-by : (st : State) (k : ℕ) (u v : List ℕ) → body k v ≡ body k u → (x : Judged) → judged st k u ≡ x → nextOf st (k ∷ v) ≡ nextOf st (k ∷ u)
+same-by st k u v q (Refused r) e =
+    next-refused st k v r (ap (judgedOf journalKinds (seenOf st) k) q ∙ e) ∙ sym (next-refused st k u r e)
+same-by st k u v q Accepted e =
+    next-accepted st k v (ap (judgedOf journalKinds (seenOf st) k) q ∙ e)
     ∙ ap (λ (b : List ℕ). onRecord st b (suc (bodyLen journalKinds k)) (recordOf k b)) q
     ∙ sym (next-accepted st k u e)
+
+pub same-record : (st : State) (k : ℕ) (u v : List ℕ) → body k v ≡ body k u → nextOf st (k ∷ v) ≡ nextOf st (k ∷ u)
+same-record st k u v q = same-by st k u v q (judged st k u) refl
 
 more-by : (st : State) (k : ℕ) (u t : List ℕ) → Dec (bodyLen journalKinds k ≤ length u) → (c : Bool) → unknownKind journalKinds (seenOf st) k (body k u) ≡ c
     → (nextOf st (k ∷ u) ≡ wait → ⊥) → nextOf st (k ∷ u ++ t) ≡ nextOf st (k ∷ u)
 unfolding unknownKind
-more-by st k u t (yes h) c e w = whole-stands st k u t h (judged st k u) refl
+more-by st k u t (yes h) c e w = same-record st k u (u ++ t) (take-append-le (bodyLen journalKinds k) u t h)
 more-by st k u t (no h) true e w =
     next-refused st k (u ++ t) UnknownKind (judged-unknown (seenOf st) k (body k (u ++ t)) journalKinds e)
     ∙ sym (next-refused st k u UnknownKind (judged-unknown (seenOf st) k (body k u) journalKinds e))
@@ -138,15 +144,32 @@ stands-by st (k ∷ u) t w = more-by st k u t (decLe _ _) (unknownKind journalKi
 taken : (st : State) (s : List ℕ) → takes (nextOf st s) ≡ true → (0 < length-of (nextOf st s)) × (length-of (nextOf st s) ≤ length s)
 unfolding nextOf lookOf onLook takes
 taken st [] p = absurd (let f : _≡_ {A = ℕ} 0 1 = cc in omega arith)
-taken st (k ∷ u) p = taken-by st k u (judged st k u) refl p
+taken st (k ∷ u) p =
+    let l : length-of (nextOf st (k ∷ u)) ≡ suc (bodyLen journalKinds k) = taken-length st k u (judged st k u) refl p in
+    (omega arith, omega (arith, taken-by st k u (judged st k u) refl p))
+
+-- what is taken is all that was looked at
+enough : (st : State) (s : List ℕ) → takes (nextOf st s) ≡ true → nextOf st (take (length-of (nextOf st s)) s) ≡ nextOf st s
+unfolding nextOf lookOf onLook takes
+enough st [] p = absurd (let f : _≡_ {A = ℕ} 0 1 = cc in omega arith)
+enough st (k ∷ u) p =
+    let n = bodyLen journalKinds k in
+    let l : length-of (nextOf st (k ∷ u)) ≡ suc n = taken-length st k u (judged st k u) refl p in
+    ap (λ (m : ℕ). nextOf st (take m (k ∷ u))) l ∙ same-record st k u (take n u) (take-take n n u (omega arith))
+
+none-waits : (st : State) → nextOf st [] ≡ wait
+unfolding nextOf lookOf onLook
+none-waits st = refl
 
 pub machine : Machine nextOf
 unfolding takes length-of
-machine = record {
-  goes = λ st s st' n e. (let b = taken st s (ap takes e) in (omega (arith, b .0, ap length-of e), omega (arith, b .1, ap length-of e)));
-  tells-on = λ st s st' n i e. (let b = taken st s (ap takes e) in (omega (arith, b .0, ap length-of e), omega (arith, b .1, ap length-of e)));
-  stands = stands-by;
-}
+machine = record
+  { idle = none-waits
+  ; goes = λ st s st' n e. (let b = taken st s (ap takes e) in (omega (arith, b .0, ap length-of e), omega (arith, b .1, ap length-of e)))
+  ; tells-on = λ st s st' n i e. (let b = taken st s (ap takes e) in (omega (arith, b .0, ap length-of e), omega (arith, b .1, ap length-of e)))
+  ; goes-by = λ st s st' n e. sym (ap (λ (m : ℕ). nextOf st (take m s)) (ap length-of e)) ∙ enough st s (ap takes e) ∙ e
+  ; tells-by = λ st s st' n i e. sym (ap (λ (m : ℕ). nextOf st (take m s)) (ap length-of e)) ∙ enough st s (ap takes e) ∙ e
+  ; stands = stands-by }
 
 -- ---- what waits for more bytes is shorter than a record
 

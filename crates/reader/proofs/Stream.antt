@@ -4,7 +4,7 @@ use mathlib.Core.List.{List, [], _∷_, _++_, append-assoc, append-nil}
 use mathlib.Core.Path.{_≡_, refl, sym, ap, ap₂, _∙_}
 use native.Mathlib.Omega.{arith}
 use lib.ListN.{length, take, drop, length-append, length-drop}
-use lib.Seq.{drop-append-le, drop-drop}
+use lib.Seq.{drop-append-le, drop-drop, take-add, drop-at, length-take-le}
 use Rattle.reader.specs.Stream.{Next, wait, halt, go, tell, End, waiting, halted, Settled, telling, after, settle, settled, Advanced, past, upTo, advance, advanced, Machine, fed, whole}
 
 module _ {R E H : Type 0} (next : R → List ℕ → Next R E H) (m : Machine next) where
@@ -160,6 +160,74 @@ module _ {R E H : Type 0} (next : R → List ℕ → Next R E H) (m : Machine ne
   pub settled-still : (r : R) (s : List ℕ) → Still (settled next r s) (settled next r s .end)
   unfolding settled
   settled-still r s = still-at (suc (length s)) r s (omega arith)
+
+  -- ---- the bytes that were taken
+
+  -- the rest is what stands behind some place, and the bytes before that place alone give the same, and leave nothing
+  pub record Front (r : R) (s : List ℕ) (a : Settled R E H) : Type 0 where
+    pub place : ℕ
+    pub within : place ≤ length s
+    pub rest-is : a .rest ≡ drop place s
+    pub before : settled next r (take place s) ≡ record { state = a .state; rest = []; told = a .told; end = waiting }
+
+  front-none : (r : R) (s : List ℕ) (x : End H) → Front r s (record { state = r; rest = s; told = []; end = x })
+  front-none r s x = record { place = 0; within = omega arith; rest-is = refl; before = settled-wait r [] (m .idle r) }
+
+  -- one record in front of bytes that were taken
+  take-front : (s : List ℕ) (n p : ℕ) → n ≤ length s → take (n + p) s ≡ take n s ++ take p (drop n s)
+  take-front s n p h = take-add n p s
+
+  drop-front : (s : List ℕ) (n p : ℕ) → n ≤ length s → drop n (take (n + p) s) ≡ take p (drop n s)
+  drop-front s n p h = ap (drop n) (take-add n p s) ∙ drop-at (take n s) (take p (drop n s)) n (length-take-le n s h)
+
+  front-go : (r : R) (s : List ℕ) (r' : R) (n : ℕ) (a : Settled R E H) → next r s ≡ go r' n → Front r' (drop n s) a → Front r s a
+  front-go r s r' n a e f =
+      let b = m .goes r s r' n e in
+      let p = f .place in
+      let q : next r (take (n + p) s) ≡ go r' n
+          = ap (next r) (take-front s n p (b .1)) ∙ m .stands r (take n s) (take p (drop n s)) (λ w. no-go w (m .goes-by r s r' n e)) ∙ m .goes-by r s r' n e in
+      record
+        { place = n + p
+        ; within = omega (arith, f .within, length-drop n s, b .1)
+        ; rest-is = f .rest-is ∙ drop-drop p n s
+        ; before = settled-go r (take (n + p) s) r' n q ∙ ap (settled next r') (drop-front s n p (b .1)) ∙ f .before }
+    where
+      no-go : {x : Next R E H} {r' : R} {n : ℕ} → x ≡ wait → x ≡ go r' n → ⊥
+      no-go p q = let z : _≡_ {A = ℕ} 0 1 = cc in omega arith
+
+  front-tell : (r : R) (s : List ℕ) (r' : R) (n : ℕ) (t : E) (a : Settled R E H) → next r s ≡ tell r' n t → Front r' (drop n s) a → Front r s (telling (t ∷ []) a)
+  front-tell r s r' n t a e f =
+      let b = m .tells-on r s r' n t e in
+      let p = f .place in
+      let q : next r (take (n + p) s) ≡ tell r' n t
+          = ap (next r) (take-front s n p (b .1)) ∙ m .stands r (take n s) (take p (drop n s)) (λ w. no-tell w (m .tells-by r s r' n t e)) ∙ m .tells-by r s r' n t e in
+      record
+        { place = n + p
+        ; within = omega (arith, f .within, length-drop n s, b .1)
+        ; rest-is = f .rest-is ∙ drop-drop p n s
+        ; before = settled-tell r (take (n + p) s) r' n t q ∙ ap (λ (u : List ℕ). telling (t ∷ []) (settled next r' u)) (drop-front s n p (b .1)) ∙ ap (telling (t ∷ [])) (f .before) }
+    where
+      no-tell : {x : Next R E H} {r' : R} {n : ℕ} {t : E} → x ≡ wait → x ≡ tell r' n t → ⊥
+      no-tell p q = let z : _≡_ {A = ℕ} 0 1 = cc in omega arith
+
+  front-by : (f : ℕ) → ((r : R) (s : List ℕ) → length s < f → Front r s (settle next f r s))
+      → (r : R) (s : List ℕ) → length s ≤ f → (x : Next R E H) → next r s ≡ x → Front r s (settle next (suc f) r s)
+  front-by f ih r s p wait e = rw (step-is f r s wait e) (front-none r s waiting)
+  front-by f ih r s p (halt h) e = rw (step-is f r s (halt h) e) (front-none r s (halted h))
+  front-by f ih r s p (go r' n) e =
+      let b = m .goes r s r' n e in
+      rw (step-is f r s (go r' n) e) (front-go r s r' n (settle next f r' (drop n s)) e (ih r' (drop n s) (omega (arith, length-drop n s))))
+  front-by f ih r s p (tell r' n t) e =
+      let b = m .tells-on r s r' n t e in
+      rw (step-is f r s (tell r' n t) e) (front-tell r s r' n t (settle next f r' (drop n s)) e (ih r' (drop n s) (omega (arith, length-drop n s))))
+
+  front-at : (f : ℕ) (r : R) (s : List ℕ) → length s < f → Front r s (settle next f r s)
+  front-at zero r s p = absurd (omega arith)
+  front-at (suc f) r s p = front-by f (λ r' u q. front-at f r' u q) r s (omega arith) (next r s) refl
+
+  pub front : (r : R) (s : List ℕ) → Front r s (settled next r s)
+  unfolding settled
+  front r s = front-at (suc (length s)) r s (omega arith)
 
   -- ---- up to the first thing told
 

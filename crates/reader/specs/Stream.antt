@@ -2,7 +2,7 @@
 use Prim.Native.Nat.{ℕ, zero, suc, _+_, _≤_, _<_}
 use mathlib.Core.List.{List, [], _∷_, _++_}
 use mathlib.Core.Path.{_≡_}
-use lib.ListN.{length, drop}
+use lib.ListN.{length, take, drop}
 
 -- What a machine with states R does with the bytes at hand: it waits for more; it halts, for a reason H, and changes nothing; or it goes on past n bytes in a new state, and may
 -- tell an E.
@@ -65,10 +65,14 @@ advance next (suc f) r s = upTo r (next r s) (λ r' n. advance next f r' (drop n
 unfoldable pub advanced : {R E H : Type 0} → (R → List ℕ → Next R E H) → R → List ℕ → Advanced R E H
 advanced next r s = advance next (suc (length s)) r s
 
--- What is asked of a machine: it goes past at least one byte, and past none that are not there; and what it does with the bytes at hand, unless it waits, it does with more behind them.
+-- What is asked of a machine: with no bytes it waits; what it takes is at least one byte, is there, and is all that it looks at; and what it does with the bytes at hand, unless it
+-- waits, it does with more behind them.
 pub record Machine {R E H : Type 0} (next : R → List ℕ → Next R E H) : Type 0 where
+  pub idle : (r : R) → next r [] ≡ wait
   pub goes : (r : R) (s : List ℕ) (r' : R) (n : ℕ) → next r s ≡ go r' n → (0 < n) × (n ≤ length s)
   pub tells-on : (r : R) (s : List ℕ) (r' : R) (n : ℕ) (e : E) → next r s ≡ tell r' n e → (0 < n) × (n ≤ length s)
+  pub goes-by : (r : R) (s : List ℕ) (r' : R) (n : ℕ) → next r s ≡ go r' n → next r (take n s) ≡ go r' n
+  pub tells-by : (r : R) (s : List ℕ) (r' : R) (n : ℕ) (e : E) → next r s ≡ tell r' n e → next r (take n s) ≡ tell r' n e
   pub stands : (r : R) (s t : List ℕ) → (next r s ≡ wait → ⊥) → next r (s ++ t) ≡ next r s
 
 -- feeding a list of parts, each with what was left over before it
