@@ -22,7 +22,7 @@ use Rattle.judge.specs.Causes.{unknownKind, bodyCut}
 use Rattle.judge.specs.Table.{isCut, judgedOf}
 use Rattle.judge.proofs.Framing.{judged-unknown, judged-cut, accepted-whole, whole-not-cut}
 use Rattle.reader.specs.declared.Look.the-variants as L
-use Rattle.reader.specs.Stream.{Next, wait, halt, go, tell, Machine, Settled, End, waiting, halted, settled}
+use Rattle.reader.specs.Stream.{Next, wait, halt, go, tell, takes, size, Machine, Settled, End, waiting, halted, settled}
 use Rattle.reader.specs.State.{State}
 use Rattle.reader.specs.Reading.{Instruction, lookAs, lookOf, onRecord, onLook, nextOf}
 use Rattle.reader.proofs.Stream.{Still, settled-still}
@@ -30,21 +30,8 @@ use Rattle.reader.proofs.Stream.{Still, settled-still}
 abbrev Move : Type 0
 Move = Next State Instruction Refusal
 
--- whether a move takes a record, and how long that is
-takes : Move → Bool
-takes wait = false
-takes (halt r) = false
-takes (go st n) = true
-takes (tell st n e) = true
-
-length-of : Move → ℕ
-length-of wait = 0
-length-of (halt r) = 0
-length-of (go st n) = n
-length-of (tell st n e) = n
-
-record-length : (st : State) (b : List ℕ) (n : ℕ) (r : Record) → length-of (onRecord st b n r) ≡ n
-unfolding length-of onRecord
+record-length : (st : State) (b : List ℕ) (n : ℕ) (r : Record) → size (onRecord st b n r) ≡ n
+unfolding onRecord
 record-length st b n Settings = refl
 record-length st b n Reset = refl
 record-length st b n (Ack a) = refl
@@ -89,18 +76,17 @@ module _ (st : State) (k : ℕ) (u : List ℕ) where
   unfolding nextOf lookOf lookAs onLook
   next-accepted e = rw e refl
 
-  refused-takes : (r : Refusal) (t : Bool) → takes (cond t wait (halt r)) ≡ false
-  unfolding takes
+  refused-takes : (r : Refusal) (t : Bool) → takes {R = State} {E = Instruction} {H = Refusal} (cond t wait (halt r)) ≡ false
   refused-takes r true = refl
   refused-takes r false = refl
 
   -- what is taken is a record that is accepted
-  taken-length : (x : Judged) → judged ≡ x → takes (nextOf st (k ∷ u)) ≡ true → length-of (nextOf st (k ∷ u)) ≡ suc (bodyLen journalKinds k)
+  taken-length : (x : Judged) → judged ≡ x → takes (nextOf st (k ∷ u)) ≡ true → size (nextOf st (k ∷ u)) ≡ suc (bodyLen journalKinds k)
   taken-length (Refused r) e p = absurd (let z : _≡_ {A = Bool} true false = sym p ∙ ap takes (next-refused r e) ∙ refused-takes r (isCut r) in no z)
     where
       no : true ≡ false → ⊥
       no z = let f : _≡_ {A = ℕ} 0 1 = cc in omega arith
-  taken-length Accepted e p = ap length-of (next-accepted e) ∙ record-length st (body k u) (suc (bodyLen journalKinds k)) (recordOf k (body k u))
+  taken-length Accepted e p = ap size (next-accepted e) ∙ record-length st (body k u) (suc (bodyLen journalKinds k)) (recordOf k (body k u))
 
   -- and is there whole
   taken-by : (x : Judged) → judged ≡ x → takes (nextOf st (k ∷ u)) ≡ true → bodyLen journalKinds k ≤ length u
@@ -141,20 +127,20 @@ unfolding nextOf lookOf onLook
 stands-by st [] t w = absurd (w refl)
 stands-by st (k ∷ u) t w = more-by st k u t (decLe _ _) (unknownKind journalKinds (seenOf st) k (body k u)) refl w
 
-taken : (st : State) (s : List ℕ) → takes (nextOf st s) ≡ true → (0 < length-of (nextOf st s)) × (length-of (nextOf st s) ≤ length s)
-unfolding nextOf lookOf onLook takes
+taken : (st : State) (s : List ℕ) → takes (nextOf st s) ≡ true → (0 < size (nextOf st s)) × (size (nextOf st s) ≤ length s)
+unfolding nextOf lookOf onLook
 taken st [] p = absurd (let f : _≡_ {A = ℕ} 0 1 = cc in omega arith)
 taken st (k ∷ u) p =
-    let l : length-of (nextOf st (k ∷ u)) ≡ suc (bodyLen journalKinds k) = taken-length st k u (judged st k u) refl p in
+    let l : size (nextOf st (k ∷ u)) ≡ suc (bodyLen journalKinds k) = taken-length st k u (judged st k u) refl p in
     (omega arith, omega (arith, taken-by st k u (judged st k u) refl p))
 
 -- what is taken is all that was looked at
-enough : (st : State) (s : List ℕ) → takes (nextOf st s) ≡ true → nextOf st (take (length-of (nextOf st s)) s) ≡ nextOf st s
-unfolding nextOf lookOf onLook takes
+enough : (st : State) (s : List ℕ) → takes (nextOf st s) ≡ true → nextOf st (take (size (nextOf st s)) s) ≡ nextOf st s
+unfolding nextOf lookOf onLook
 enough st [] p = absurd (let f : _≡_ {A = ℕ} 0 1 = cc in omega arith)
 enough st (k ∷ u) p =
     let n = bodyLen journalKinds k in
-    let l : length-of (nextOf st (k ∷ u)) ≡ suc n = taken-length st k u (judged st k u) refl p in
+    let l : size (nextOf st (k ∷ u)) ≡ suc n = taken-length st k u (judged st k u) refl p in
     ap (λ (m : ℕ). nextOf st (take m (k ∷ u))) l ∙ same-record st k u (take n u) (take-take n n u (omega arith))
 
 none-waits : (st : State) → nextOf st [] ≡ wait
@@ -162,14 +148,7 @@ unfolding nextOf lookOf onLook
 none-waits st = refl
 
 pub machine : Machine nextOf
-unfolding takes length-of
-machine = record
-  { idle = none-waits
-  ; goes = λ st s st' n e. (let b = taken st s (ap takes e) in (omega (arith, b .0, ap length-of e), omega (arith, b .1, ap length-of e)))
-  ; tells-on = λ st s st' n i e. (let b = taken st s (ap takes e) in (omega (arith, b .0, ap length-of e), omega (arith, b .1, ap length-of e)))
-  ; goes-by = λ st s st' n e. sym (ap (λ (m : ℕ). nextOf st (take m s)) (ap length-of e)) ∙ enough st s (ap takes e) ∙ e
-  ; tells-by = λ st s st' n i e. sym (ap (λ (m : ℕ). nextOf st (take m s)) (ap length-of e)) ∙ enough st s (ap takes e) ∙ e
-  ; stands = stands-by }
+machine = record { idle = none-waits; there = taken; enough = enough; stands = stands-by }
 
 -- ---- what waits for more bytes is shorter than a record
 

@@ -40,7 +40,7 @@ use Rattle.reader.specs.State.{State, bases, ackWaits, headWaits, valueW
 use Rattle.reader.specs.Stream.{Next, wait, halt, go, tell, Advanced, past, advanced}
 use Rattle.reader.specs.Reading.{Instruction, lookAs, lookOf, callOf, onRecord, onLook, nextOf, whatOf, bodyOf}
 use Rattle.reader.specs.Steps.{stateOf, Room, isSmall, looksSmall, Added, TookOne, Reached, Collected, goesOn, Instructs, Turned}
-use Rattle.reader.proofs.Stream.{advanced-go, advanced-wait, advanced-halt, advanced-tell}
+use Rattle.reader.proofs.Stream.{goes, advanced-go, advanced-wait, advanced-halt, advanced-tell}
 use Rattle.reader.proofs.Reading.{machine}
 
 -- a value's place lies in the lent memory
@@ -219,7 +219,7 @@ reached-none st s at h = record { from = omega arith; within = h; ahead = past-n
 -- one record
 pub reached-one : (st : State) (s : List ℕ) (at : ℕ) (st' : State) (at' : ℕ) → at ≤ length s → at ≤ at' → nextOf st (drop at s) ≡ go st' (at' - at) → Reached st s at st' at'
 reached-one st s at st' at' h f e =
-    let b = machine .goes st (drop at s) st' (at' - at) e in
+    let b = goes nextOf machine st (drop at s) st' (at' - at) e in
     let d : at + (at' - at) ≡ at' = omega arith in
     record {
       from = f;
@@ -259,7 +259,7 @@ module _ (w : Waiting) (l : List Float) (s : List ℕ) (at : ℕ) (h : at ≤ le
 
   -- there are fewer bytes left, or no more turns
   less-by : (m : Bool) → r .more ≡ m → length s - r .at + cond (r .more) 1 0 < length s - at + 1
-  less-by true y = let b = machine .goes _ (drop at s) _ _ (t .waits y (outcomeOf [])) in rw y (omega (arith, b .0, b .1, length-drop at s))
+  less-by true y = let b = goes nextOf machine _ (drop at s) _ _ (t .waits y (outcomeOf [])) in rw y (omega (arith, b .0, b .1, length-drop at s))
   less-by false y = rw (y, t .same-place y) (omega arith)
 
   pub took-less : length s - r .at + cond (r .more) 1 0 < length s - at + 1

@@ -1,13 +1,29 @@
 -- The laws of a machine over bytes that come in parts.
 use Prim.Native.Nat.{ℕ, zero, suc, _+_, _-_, _≤_, _<_}
+use mathlib.Core.Bool.{Bool, true, false}
 use mathlib.Core.List.{List, [], _∷_, _++_, append-assoc, append-nil}
 use mathlib.Core.Path.{_≡_, refl, sym, ap, ap₂, _∙_}
 use native.Mathlib.Omega.{arith}
 use lib.ListN.{length, take, drop, length-append, length-drop}
 use lib.Seq.{drop-append-le, drop-drop, take-add, drop-at, length-take-le}
-use Rattle.reader.specs.Stream.{Next, wait, halt, go, tell, End, waiting, halted, Settled, telling, after, settle, settled, Advanced, past, upTo, advance, advanced, Machine, fed, whole}
+use Rattle.reader.specs.Stream.{Next, wait, halt, go, tell, End, waiting, halted, Settled, telling, after, settle, settled, Advanced, past, upTo, advance, advanced, takes, size, Machine, fed, whole}
 
 module _ {R E H : Type 0} (next : R → List ℕ → Next R E H) (m : Machine next) where
+  -- a record that is taken is there
+  pub goes : (r : R) (s : List ℕ) (r' : R) (n : ℕ) → next r s ≡ go r' n → (0 < n) × (n ≤ length s)
+  goes r s r' n e = let b = m .there r s (ap takes e) in (omega (arith, b .0, ap size e), omega (arith, b .1, ap size e))
+
+  pub tells-on : (r : R) (s : List ℕ) (r' : R) (n : ℕ) (t : E) → next r s ≡ tell r' n t → (0 < n) × (n ≤ length s)
+  tells-on r s r' n t e = let b = m .there r s (ap takes e) in (omega (arith, b .0, ap size e), omega (arith, b .1, ap size e))
+
+  -- and it alone gives the same, whatever stands behind it
+  alone : (r : R) (s t : List ℕ) → takes (next r s) ≡ true → next r (take (size (next r s)) s ++ t) ≡ next r s
+  alone r s t y =
+      m .stands r (take (size (next r s)) s) t (λ w. not-wait (next r s) y (sym (m .enough r s y) ∙ w)) ∙ m .enough r s y
+    where
+      not-wait : (x : Next R E H) → takes x ≡ true → x ≡ wait → ⊥
+      not-wait x p q = let z : _≡_ {A = Bool} true false = sym p ∙ ap takes q in let f : _≡_ {A = ℕ} 0 1 = cc in omega arith
+
   -- the equation of one record
   step-is : (f : ℕ) (r : R) (s : List ℕ) (x : Next R E H) → next r s ≡ x → settle next (suc f) r s ≡ after r s x (λ r' n. settle next f r' (drop n s))
   unfolding settle
@@ -32,10 +48,10 @@ module _ {R E H : Type 0} (next : R → List ℕ → Next R E H) (m : Machine ne
   fuel-by f g ih r s p q wait e = step-is f r s wait e ∙ sym (step-is g r s wait e)
   fuel-by f g ih r s p q (halt h) e = step-is f r s (halt h) e ∙ sym (step-is g r s (halt h) e)
   fuel-by f g ih r s p q (go r' n) e =
-      let b = m .goes r s r' n e in
+      let b = goes r s r' n e in
       step-is f r s (go r' n) e ∙ ih r' (drop n s) (omega (arith, length-drop n s)) (omega (arith, length-drop n s)) ∙ sym (step-is g r s (go r' n) e)
   fuel-by f g ih r s p q (tell r' n t) e =
-      let b = m .tells-on r s r' n t e in
+      let b = tells-on r s r' n t e in
       step-is f r s (tell r' n t) e
       ∙ ap (telling (t ∷ [])) (ih r' (drop n s) (omega (arith, length-drop n s)) (omega (arith, length-drop n s)))
       ∙ sym (step-is g r s (tell r' n t) e)
@@ -57,13 +73,13 @@ module _ {R E H : Type 0} (next : R → List ℕ → Next R E H) (m : Machine ne
   pub settled-go : (r : R) (s : List ℕ) (r' : R) (n : ℕ) → next r s ≡ go r' n → settled next r s ≡ settled next r' (drop n s)
   unfolding settled
   settled-go r s r' n e =
-      let b = m .goes r s r' n e in
+      let b = goes r s r' n e in
       step-is (length s) r s (go r' n) e ∙ fuel (length s) (suc (length (drop n s))) r' (drop n s) (omega (arith, length-drop n s)) (omega arith)
 
   pub settled-tell : (r : R) (s : List ℕ) (r' : R) (n : ℕ) (t : E) → next r s ≡ tell r' n t → settled next r s ≡ telling (t ∷ []) (settled next r' (drop n s))
   unfolding settled
   settled-tell r s r' n t e =
-      let b = m .tells-on r s r' n t e in
+      let b = tells-on r s r' n t e in
       step-is (length s) r s (tell r' n t) e
       ∙ ap (telling (t ∷ [])) (fuel (length s) (suc (length (drop n s))) r' (drop n s) (omega (arith, length-drop n s)) (omega arith))
 
@@ -84,7 +100,7 @@ module _ {R E H : Type 0} (next : R → List ℕ → Next R E H) (m : Machine ne
   joined-by f ih r s t p wait e = rw (step-is f r s wait e)
   joined-by f ih r s t p (halt h) e = rw (step-is f r s (halt h) e)
   joined-by f ih r s t p (go r' n) e =
-      let b = m .goes r s r' n e in
+      let b = goes r s r' n e in
       let u = drop n s in
       let a = settle next f r' u in
       let l : length (u ++ t) < f = omega (arith, length-append s t, length-append u t, length-drop n s) in
@@ -95,7 +111,7 @@ module _ {R E H : Type 0} (next : R → List ℕ → Next R E H) (m : Machine ne
       ∙ ih r' u t l
       ∙ ap (telling (a .told)) (fuel f (suc f) (a .state) (a .rest ++ t) k (omega arith)))
   joined-by f ih r s t p (tell r' n v) e =
-      let b = m .tells-on r s r' n v e in
+      let b = tells-on r s r' n v e in
       let u = drop n s in
       let a = settle next f r' u in
       let l : length (u ++ t) < f = omega (arith, length-append s t, length-append u t, length-drop n s) in
@@ -147,10 +163,10 @@ module _ {R E H : Type 0} (next : R → List ℕ → Next R E H) (m : Machine ne
   still-by f ih r s p wait e = rw (step-is f r s wait e) e
   still-by f ih r s p (halt h) e = rw (step-is f r s (halt h) e) e
   still-by f ih r s p (go r' n) e =
-      let b = m .goes r s r' n e in
+      let b = goes r s r' n e in
       rw (step-is f r s (go r' n) e) (ih r' (drop n s) (omega (arith, length-drop n s)))
   still-by f ih r s p (tell r' n t) e =
-      let b = m .tells-on r s r' n t e in
+      let b = tells-on r s r' n t e in
       rw (step-is f r s (tell r' n t) e) (still-telling (t ∷ []) (settle next f r' (drop n s)) (settle next f r' (drop n s) .end) (ih r' (drop n s) (omega (arith, length-drop n s))))
 
   still-at : (f : ℕ) (r : R) (s : List ℕ) → length s < f → Still (settle next f r s) (settle next f r s .end)
@@ -173,52 +189,48 @@ module _ {R E H : Type 0} (next : R → List ℕ → Next R E H) (m : Machine ne
   front-none : (r : R) (s : List ℕ) (x : End H) → Front r s (record { state = r; rest = s; told = []; end = x })
   front-none r s x = record { place = 0; within = omega arith; rest-is = refl; before = settled-wait r [] (m .idle r) }
 
-  -- one record in front of bytes that were taken
-  take-front : (s : List ℕ) (n p : ℕ) → n ≤ length s → take (n + p) s ≡ take n s ++ take p (drop n s)
-  take-front s n p h = take-add n p s
-
   drop-front : (s : List ℕ) (n p : ℕ) → n ≤ length s → drop n (take (n + p) s) ≡ take p (drop n s)
   drop-front s n p h = ap (drop n) (take-add n p s) ∙ drop-at (take n s) (take p (drop n s)) n (length-take-le n s h)
 
+  -- one record in front of bytes that were taken
+  first-is : (r : R) (s : List ℕ) (n p : ℕ) → takes (next r s) ≡ true → size (next r s) ≡ n → next r (take (n + p) s) ≡ next r s
+  first-is r s n p y e = ap (next r) (take-add n p s) ∙ rw e at (alone r s (take p (drop n s)) y)
+
   front-go : (r : R) (s : List ℕ) (r' : R) (n : ℕ) (a : Settled R E H) → next r s ≡ go r' n → Front r' (drop n s) a → Front r s a
   front-go r s r' n a e f =
-      let b = m .goes r s r' n e in
+      let b = goes r s r' n e in
       let p = f .place in
-      let q : next r (take (n + p) s) ≡ go r' n
-          = ap (next r) (take-front s n p (b .1)) ∙ m .stands r (take n s) (take p (drop n s)) (λ w. no-go w (m .goes-by r s r' n e)) ∙ m .goes-by r s r' n e in
       record
         { place = n + p
         ; within = omega (arith, f .within, length-drop n s, b .1)
         ; rest-is = f .rest-is ∙ drop-drop p n s
-        ; before = settled-go r (take (n + p) s) r' n q ∙ ap (settled next r') (drop-front s n p (b .1)) ∙ f .before }
-    where
-      no-go : {x : Next R E H} {r' : R} {n : ℕ} → x ≡ wait → x ≡ go r' n → ⊥
-      no-go p q = let z : _≡_ {A = ℕ} 0 1 = cc in omega arith
+        ; before =
+            settled-go r (take (n + p) s) r' n (first-is r s n p (ap takes e) (ap size e) ∙ e)
+            ∙ ap (settled next r') (drop-front s n p (b .1))
+            ∙ f .before }
 
   front-tell : (r : R) (s : List ℕ) (r' : R) (n : ℕ) (t : E) (a : Settled R E H) → next r s ≡ tell r' n t → Front r' (drop n s) a → Front r s (telling (t ∷ []) a)
   front-tell r s r' n t a e f =
-      let b = m .tells-on r s r' n t e in
+      let b = tells-on r s r' n t e in
       let p = f .place in
-      let q : next r (take (n + p) s) ≡ tell r' n t
-          = ap (next r) (take-front s n p (b .1)) ∙ m .stands r (take n s) (take p (drop n s)) (λ w. no-tell w (m .tells-by r s r' n t e)) ∙ m .tells-by r s r' n t e in
       record
         { place = n + p
         ; within = omega (arith, f .within, length-drop n s, b .1)
         ; rest-is = f .rest-is ∙ drop-drop p n s
-        ; before = settled-tell r (take (n + p) s) r' n t q ∙ ap (λ (u : List ℕ). telling (t ∷ []) (settled next r' u)) (drop-front s n p (b .1)) ∙ ap (telling (t ∷ [])) (f .before) }
-    where
-      no-tell : {x : Next R E H} {r' : R} {n : ℕ} {t : E} → x ≡ wait → x ≡ tell r' n t → ⊥
-      no-tell p q = let z : _≡_ {A = ℕ} 0 1 = cc in omega arith
+        ; before =
+            settled-tell r (take (n + p) s) r' n t (first-is r s n p (ap takes e) (ap size e) ∙ e)
+            ∙ ap (λ (u : List ℕ). telling (t ∷ []) (settled next r' u)) (drop-front s n p (b .1))
+            ∙ ap (telling (t ∷ [])) (f .before) }
 
   front-by : (f : ℕ) → ((r : R) (s : List ℕ) → length s < f → Front r s (settle next f r s))
       → (r : R) (s : List ℕ) → length s ≤ f → (x : Next R E H) → next r s ≡ x → Front r s (settle next (suc f) r s)
   front-by f ih r s p wait e = rw (step-is f r s wait e) (front-none r s waiting)
   front-by f ih r s p (halt h) e = rw (step-is f r s (halt h) e) (front-none r s (halted h))
   front-by f ih r s p (go r' n) e =
-      let b = m .goes r s r' n e in
+      let b = goes r s r' n e in
       rw (step-is f r s (go r' n) e) (front-go r s r' n (settle next f r' (drop n s)) e (ih r' (drop n s) (omega (arith, length-drop n s))))
   front-by f ih r s p (tell r' n t) e =
-      let b = m .tells-on r s r' n t e in
+      let b = tells-on r s r' n t e in
       rw (step-is f r s (tell r' n t) e) (front-tell r s r' n t (settle next f r' (drop n s)) e (ih r' (drop n s) (omega (arith, length-drop n s))))
 
   front-at : (f : ℕ) (r : R) (s : List ℕ) → length s < f → Front r s (settle next f r s)
@@ -240,7 +252,7 @@ module _ {R E H : Type 0} (next : R → List ℕ → Next R E H) (m : Machine ne
   turns-by f g ih r s p q wait e = turn-is f r s wait e ∙ sym (turn-is g r s wait e)
   turns-by f g ih r s p q (halt h) e = turn-is f r s (halt h) e ∙ sym (turn-is g r s (halt h) e)
   turns-by f g ih r s p q (go r' n) e =
-      let b = m .goes r s r' n e in
+      let b = goes r s r' n e in
       turn-is f r s (go r' n) e
       ∙ ap (past n) (ih r' (drop n s) (omega (arith, length-drop n s)) (omega (arith, length-drop n s)))
       ∙ sym (turn-is g r s (go r' n) e)
@@ -255,7 +267,7 @@ module _ {R E H : Type 0} (next : R → List ℕ → Next R E H) (m : Machine ne
   pub advanced-go : (r : R) (s : List ℕ) (r' : R) (n : ℕ) → next r s ≡ go r' n → advanced next r s ≡ past n (advanced next r' (drop n s))
   unfolding advanced
   advanced-go r s r' n e =
-      let b = m .goes r s r' n e in
+      let b = goes r s r' n e in
       turn-is (length s) r s (go r' n) e ∙ ap (past n) (turns (length s) (suc (length (drop n s))) r' (drop n s) (omega (arith, length-drop n s)) (omega arith))
 
   -- anything else, and it is there
@@ -289,7 +301,7 @@ module _ {R E H : Type 0} (next : R → List ℕ → Next R E H) (m : Machine ne
   ahead-by f ih r s p wait e = rw (turn-is f r s wait e) (record { rest = refl; then = e; within = omega arith })
   ahead-by f ih r s p (halt h) e = rw (turn-is f r s (halt h) e) (record { rest = refl; then = e; within = omega arith })
   ahead-by f ih r s p (go r' n) e =
-      let b = m .goes r s r' n e in
+      let b = goes r s r' n e in
       rw (turn-is f r s (go r' n) e)
       (ahead-past r r' s n (advance next f r' (drop n s)) (b .1) (settled-go r s r' n e) (ih r' (drop n s) (omega (arith, length-drop n s))))
   ahead-by f ih r s p (tell r' n t) e = rw (turn-is f r s (tell r' n t) e) (record { rest = refl; then = e; within = omega arith })

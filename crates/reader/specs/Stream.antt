@@ -1,5 +1,6 @@
 -- Machines over bytes that come in parts: such a machine takes whole records off the front of the bytes at hand, and waits where the last one is not there whole.
 use Prim.Native.Nat.{ℕ, zero, suc, _+_, _≤_, _<_}
+use mathlib.Core.Bool.{Bool, true, false}
 use mathlib.Core.List.{List, [], _∷_, _++_}
 use mathlib.Core.Path.{_≡_}
 use lib.ListN.{length, take, drop}
@@ -65,14 +66,25 @@ advance next (suc f) r s = upTo r (next r s) (λ r' n. advance next f r' (drop n
 unfoldable pub advanced : {R E H : Type 0} → (R → List ℕ → Next R E H) → R → List ℕ → Advanced R E H
 advanced next r s = advance next (suc (length s)) r s
 
+-- whether a machine takes a record, and how many bytes that has
+abbrev pub takes : {R E H : Type 0} → Next R E H → Bool
+takes wait = false
+takes (halt h) = false
+takes (go r n) = true
+takes (tell r n e) = true
+
+abbrev pub size : {R E H : Type 0} → Next R E H → ℕ
+size wait = 0
+size (halt h) = 0
+size (go r n) = n
+size (tell r n e) = n
+
 -- What is asked of a machine: with no bytes it waits; what it takes is at least one byte, is there, and is all that it looks at; and what it does with the bytes at hand, unless it
 -- waits, it does with more behind them.
 pub record Machine {R E H : Type 0} (next : R → List ℕ → Next R E H) : Type 0 where
   pub idle : (r : R) → next r [] ≡ wait
-  pub goes : (r : R) (s : List ℕ) (r' : R) (n : ℕ) → next r s ≡ go r' n → (0 < n) × (n ≤ length s)
-  pub tells-on : (r : R) (s : List ℕ) (r' : R) (n : ℕ) (e : E) → next r s ≡ tell r' n e → (0 < n) × (n ≤ length s)
-  pub goes-by : (r : R) (s : List ℕ) (r' : R) (n : ℕ) → next r s ≡ go r' n → next r (take n s) ≡ go r' n
-  pub tells-by : (r : R) (s : List ℕ) (r' : R) (n : ℕ) (e : E) → next r s ≡ tell r' n e → next r (take n s) ≡ tell r' n e
+  pub there : (r : R) (s : List ℕ) → takes (next r s) ≡ true → (0 < size (next r s)) × (size (next r s) ≤ length s)
+  pub enough : (r : R) (s : List ℕ) → takes (next r s) ≡ true → next r (take (size (next r s)) s) ≡ next r s
   pub stands : (r : R) (s t : List ℕ) → (next r s ≡ wait → ⊥) → next r (s ++ t) ≡ next r s
 
 -- feeding a list of parts, each with what was left over before it
