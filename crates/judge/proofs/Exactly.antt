@@ -1,21 +1,14 @@
 -- Exactly the causes of the table turn a record away, in its order; and what that says of framing.
 use mathlib.Core.Bool.{Bool, true, false, cond}
 use mathlib.Core.List.{List, [], _∷_}
-use mathlib.Core.Path.{_≡_, refl, sym, ap, _∙_, subst}
-use Prim.Native.Nat.{ℕ, _≤_, _<_}
+use mathlib.Core.Path.{_≡_, refl, sym, _∙_, subst}
+use Prim.Native.Nat.{ℕ, _≤_}
 use native.Mathlib.Omega.{arith}
-use borrow.Author.Tests.{ltb-false}
-use lib.ListN.{length, getD}
-use lib.Dec.{ltb}
-use Rattle.bytes_le.specs.Little.{byteAt}
-use Rattle.records.specs.Kinds.{bodyLen, journalKinds}
 use Rattle.judge.specs.declared.Seen.{Seen}
 use Rattle.judge.specs.declared.Refusal.{Refusal}
 use Rattle.judge.specs.declared.Refusal.the-variants.{UnknownKind, CutBody, BeforeSettings, Again, BadCode, BadSize, NotFinite, BoxCrossed, ListFull, NotReady}
-use Rattle.judge.specs.declared.Judged.{Judged}
 use Rattle.judge.specs.declared.Judged.the-variants.{Accepted, Refused}
-use Rattle.judge.specs.Causes.{capacities, countOf, unknownKind, bodyCut, beforeSettings, again, codeNotListed, sizeOutside, floatNotFinite, boxCrossed, listFull, notReady}
-use Rattle.judge.specs.Table.{Row, numberOf, refusalTable, firstRow, judgedOf}
+use Rattle.judge.specs.Table.{Row, numberOf, isCut, firstRow}
 use Rattle.judge.specs.Exactly.{Decides, this-row, later-row, Passes, no-row, not-this-row}
 
 module _ (seen : Seen) (k : ℕ) (b : List ℕ) where
@@ -66,3 +59,16 @@ numbers NotFinite = (omega arith, omega arith)
 numbers BoxCrossed = (omega arith, omega arith)
 numbers ListFull = (omega arith, omega arith)
 numbers NotReady = (omega arith, omega arith)
+
+-- only the cut body can be undone by more bytes
+pub cut-only : (r : Refusal) → isCut r ≡ true → r ≡ CutBody
+cut-only UnknownKind e = absurd (let z : _≡_ {A = ℕ} 0 1 = cc in omega arith)
+cut-only CutBody e = refl
+cut-only BeforeSettings e = absurd (let z : _≡_ {A = ℕ} 0 1 = cc in omega arith)
+cut-only Again e = absurd (let z : _≡_ {A = ℕ} 0 1 = cc in omega arith)
+cut-only BadCode e = absurd (let z : _≡_ {A = ℕ} 0 1 = cc in omega arith)
+cut-only BadSize e = absurd (let z : _≡_ {A = ℕ} 0 1 = cc in omega arith)
+cut-only NotFinite e = absurd (let z : _≡_ {A = ℕ} 0 1 = cc in omega arith)
+cut-only BoxCrossed e = absurd (let z : _≡_ {A = ℕ} 0 1 = cc in omega arith)
+cut-only ListFull e = absurd (let z : _≡_ {A = ℕ} 0 1 = cc in omega arith)
+cut-only NotReady e = absurd (let z : _≡_ {A = ℕ} 0 1 = cc in omega arith)

@@ -1,13 +1,12 @@
 -- What the judgement says of the frame, and of a value's place: a record of a kind that is not listed is refused as such, one that is cut as such, and one that is accepted is
 -- whole; a value that is accepted has its list and its room.
-use mathlib.Core.Bool.{Bool, true, false, cond, not, _&&_}
+use mathlib.Core.Bool.{Bool, true, false, not, _&&_}
 use mathlib.Core.List.{List, [], _∷_}
 use mathlib.Core.Path.{_≡_, refl, sym, ap, _∙_}
 use Prim.Native.Nat.{ℕ, zero, suc, _≤_, _<_}
 use native.Mathlib.Omega.{arith}
 use borrow.Author.Tests.{ltb-false, leb-false, not-true}
 use lib.ListN.{length, getD, drop}
-use lib.Dec.{ltb}
 use Rattle.bytes_le.specs.Little.{byteAt}
 use Rattle.records.specs.Kinds.{bodyLen, journalKinds}
 use Rattle.judge.specs.declared.Seen.{Seen}

@@ -6,7 +6,7 @@ use mathlib.Core.Bool.{Bool, true, false, cond}
 use native.Mathlib.Omega.{arith}
 use native.Mathlib.Decide.{decLe}
 use borrow.Author.Tests.{lt-ltb, le-ltb, leb-true}
-use lib.ListN.{length, take, drop, length-take, length-append, getD}
+use lib.ListN.{length, take, length-take, getD}
 use lib.Seq.{take-append-le, take-take}
 use lib.Dec.{leb}
 use Rattle.records.specs.declared.Record.{Record}
@@ -20,12 +20,13 @@ use Rattle.judge.specs.declared.Judged.the-variants.{Accepted, Refused}
 use Rattle.judge.specs.declared.Seen.{Seen}
 use Rattle.judge.specs.Causes.{unknownKind, bodyCut}
 use Rattle.judge.specs.Table.{isCut, judgedOf}
+use Rattle.judge.proofs.Exactly.{cut-only}
 use Rattle.judge.proofs.Framing.{judged-unknown, judged-cut, accepted-whole, whole-not-cut}
 use Rattle.reader.specs.declared.Look.the-variants as L
-use Rattle.reader.specs.Stream.{Next, wait, halt, go, tell, takes, size, Machine, Settled, End, waiting, halted, settled}
+use Rattle.reader.specs.Stream.{Next, wait, halt, takes, size, Machine, End, waiting, halted, settled}
 use Rattle.reader.specs.State.{State}
 use Rattle.reader.specs.Reading.{Instruction, lookAs, lookOf, onRecord, onLook, nextOf}
-use Rattle.reader.proofs.Stream.{Still, settled-still}
+use Rattle.reader.proofs.Stream.{settled-still}
 
 abbrev Move : Type 0
 Move = Next State Instruction Refusal
@@ -202,3 +203,40 @@ rest-by st s (halted r) e p = absurd (let z : _≡_ {A = ℕ} 0 1 = cc in omega 
 
 pub rest-short : (st : State) (s : List ℕ) → settled nextOf st s .end ≡ waiting → length (settled nextOf st s .rest) ≤ 257
 rest-short st s e = rest-by st s (settled nextOf st s .end) refl e
+
+-- ---- the other way: what a move says of the judgement
+
+record-not-halted : (st : State) (b : List ℕ) (n : ℕ) (x : Record) (r : Refusal) → onRecord st b n x ≡ halt r → ⊥
+unfolding onRecord
+record-not-halted st b n Settings r e = let z : _≡_ {A = ℕ} 0 1 = cc in omega arith
+record-not-halted st b n Reset r e = let z : _≡_ {A = ℕ} 0 1 = cc in omega arith
+record-not-halted st b n (Ack a) r e = let z : _≡_ {A = ℕ} 0 1 = cc in omega arith
+record-not-halted st b n (Head h) r e = let z : _≡_ {A = ℕ} 0 1 = cc in omega arith
+record-not-halted st b n (Value c x) r e = let z : _≡_ {A = ℕ} 0 1 = cc in omega arith
+record-not-halted st b n Outcome r e = let z : _≡_ {A = ℕ} 0 1 = cc in omega arith
+record-not-halted st b n (Tick t) r e = let z : _≡_ {A = ℕ} 0 1 = cc in omega arith
+
+halts-for : (r r' : Refusal) (t : Bool) → _≡_ {A = Move} (cond t wait (halt r')) (halt r) → r' ≡ r
+halts-for r r' true e = absurd (let z : _≡_ {A = ℕ} 0 1 = cc in omega arith)
+halts-for r r' false e = cc
+
+waits-for : (r : Refusal) (t : Bool) → isCut r ≡ t → _≡_ {A = Move} (cond t wait (halt r)) wait → r ≡ CutBody
+waits-for r true c e = cut-only r c
+waits-for r false c e = absurd (let z : _≡_ {A = ℕ} 0 1 = cc in omega arith)
+
+module _ (st : State) (k : ℕ) (u : List ℕ) where
+  halted-by : (r : Refusal) (x : Judged) → judged st k u ≡ x → nextOf st (k ∷ u) ≡ halt r → judged st k u ≡ Refused r
+  halted-by r Accepted e h = absurd (record-not-halted st (body k u) _ _ r (sym (next-accepted st k u e) ∙ h))
+  halted-by r (Refused r') e h = e ∙ ap Refused (halts-for r r' (isCut r') (sym (next-refused st k u r' e) ∙ h))
+
+  -- a reader that halts does so by the judgement
+  pub halted-judged : (r : Refusal) → nextOf st (k ∷ u) ≡ halt r → judged st k u ≡ Refused r
+  halted-judged r h = halted-by r (judged st k u) refl h
+
+  waiting-by : (x : Judged) → judged st k u ≡ x → nextOf st (k ∷ u) ≡ wait → judged st k u ≡ Refused CutBody
+  waiting-by Accepted e h = absurd (record-moves st (body k u) _ _ (sym (next-accepted st k u e) ∙ h))
+  waiting-by (Refused r) e h = e ∙ ap Refused (waits-for r (isCut r) refl (sym (next-refused st k u r e) ∙ h))
+
+  -- and one that waits has a record that is cut
+  pub waiting-judged : nextOf st (k ∷ u) ≡ wait → judged st k u ≡ Refused CutBody
+  waiting-judged h = waiting-by (judged st k u) refl h

@@ -1,7 +1,7 @@
 -- What a record at a place is, and what the reader's functions leave each other.
 use Prim.Native.Nat.{ℕ, zero, suc, _+_, _-_, _≤_, _<_, min}
 use mathlib.Core.Path.{_≡_, refl, sym, ap, ap₂, subst, _∙_}
-use mathlib.Core.List.{List, [], _∷_, _++_}
+use mathlib.Core.List.{List, [], _∷_}
 use mathlib.Core.Bool.{Bool, true, false, cond}
 use native.Mathlib.Omega.{arith}
 use native.Mathlib.Numerals.{add-one}
@@ -11,7 +11,6 @@ use lib.ListN.{length, take, drop, length-take, length-drop, getD, drop-of-lengt
 use lib.Seq.{take-all, drop-cons, drop-drop}
 use lib.Dec.{eqb}
 use lib.Ieee.{Float}
-use Rattle.bytes_le.specs.Little.{byteAt, floatAt}
 use Rattle.lictor_core.specs.declared.ack.VerifiedAck.{VerifiedAck}
 use Rattle.lictor_core.specs.declared.chunk.ChunkHead.{ChunkHead}
 use Rattle.lictor_core.specs.declared.outcome.Outcome as O
@@ -25,7 +24,7 @@ use Rattle.judge.specs.declared.Refusal.{Refusal}
 use Rattle.judge.specs.declared.Judged.{Judged}
 use Rattle.judge.specs.declared.Judged.the-variants.{Accepted, Refused}
 use Rattle.judge.specs.declared.Seen.{Seen}
-use Rattle.judge.specs.Causes.{capacities, countOf}
+use Rattle.judge.specs.Causes.{capacities}
 use Rattle.judge.specs.Table.{isCut, judgedOf}
 use Rattle.judge.proofs.Framing.{accepted-whole, accepted-list, accepted-room}
 use Rattle.reader.specs.declared.Look.{Look}

@@ -1,5 +1,5 @@
 -- What a journal's bytes say, record by record (01-scope.md, Journal): instructions for the fuse. The run state has no part in it.
-use mathlib.Core.Bool.{Bool, true, false, cond}
+use mathlib.Core.Bool.{cond}
 use mathlib.Core.List.{List, [], _∷_}
 use Prim.Native.Nat.{ℕ, suc}
 use lib.ListN.{take, drop}

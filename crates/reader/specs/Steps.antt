@@ -17,7 +17,7 @@ use Rattle.reader.specs.declared.Look.{Look}
 use Rattle.reader.specs.declared.Look.the-variants as L
 use Rattle.reader.specs.declared.Took.{Took}
 use Rattle.reader.specs.declared.Turn.{Turn}
-use Rattle.reader.specs.Stream.{Next, wait, halt, go, tell, Advanced, past, advanced}
+use Rattle.reader.specs.Stream.{Next, wait, halt, go, tell, past, advanced}
 use Rattle.reader.specs.State.{State}
 use Rattle.reader.specs.Reading.{Instruction, lookOf, bodyOf, onRecord, nextOf, whatOf}
 

@@ -1,10 +1,9 @@
 -- A pattern above that of infinity, its sign left out, is a NaN, and is made by dividing zero by zero.
 use borrow.Author.Needs.{needs}
-use mathlib.Core.Path.{_≡_, sym, _∙_, subst, ap, refl}
-use mathlib.Core.Bool.{Bool, true, false, not}
+use mathlib.Core.Path.{_≡_, sym, _∙_, subst, refl}
+use mathlib.Core.Bool.{Bool, true, not}
 use Prim.Native.Nat.{ℕ}
 use lib.Dec.{T}
-use native.Mathlib.Omega.{arith}
 use borrow.Author.Tests.{lt-ltb, le-ltb}
 use lib.Ieee
 use lib.Ieee.{Float, nan, inf, fin, binary64, div, ofBits, nanBits, isNan}

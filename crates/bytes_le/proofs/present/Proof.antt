@@ -1,8 +1,8 @@
 -- The loop goes down from the last byte: v is the number that the bytes passed stand for.
 use Prim.Native.Nat.{ℕ, _≤_, _<_, _+_, _-_, _*_, _^_}
-use mathlib.Core.Path.{_≡_, sym, _∙_, ap, ap₂}
+use mathlib.Core.Path.{_≡_, sym, _∙_, ap₂}
 use native.Mathlib.Omega.{arith}
-use lib.ListN.{length, getD}
+use lib.ListN.{getD}
 use denote.Ref.{now}
 use Rattle.bytes_le.specs.Little.{leAt}
 use Rattle.bytes_le.proofs.Laws.{leAt-under, leAt-none, leAt-more}

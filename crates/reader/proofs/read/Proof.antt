@@ -1,13 +1,12 @@
 -- Turn by turn, up to what the reader comes to.
-use Prim.Native.Nat.{ℕ, _+_, _-_, _≤_, _<_}
-use mathlib.Core.Path.{_≡_, sym, ap, _∙_}
-use mathlib.Core.Bool.{true, false, cond}
+use Prim.Native.Nat.{ℕ, _+_, _-_}
+use mathlib.Core.Path.{_≡_, sym, ap}
+use mathlib.Core.Bool.{false, cond}
 use mathlib.Core.List.{List}
 use native.Mathlib.Omega.{arith}
 use lib.ListN.{length, drop}
 use lib.Ieee.{Float}
 use Rattle.judge.specs.declared.Refusal.{Refusal}
-use Rattle.reader.specs.declared.Reader.{Reader}
 use Rattle.reader.specs.declared.Progress.{Progress}
 use Rattle.reader.specs.declared.Turn.{Turn}
 use Rattle.reader.specs.State.{State}

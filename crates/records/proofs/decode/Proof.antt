@@ -1,6 +1,6 @@
 -- An arm of the match knows its kind, and the definition at that kind computes.
 use Prim.Native.Nat.{ℕ}
-use mathlib.Core.Path.{_≡_, refl, sym, ap, ap₂, _∙_}
+use mathlib.Core.Path.{sym, ap, ap₂, _∙_}
 use borrow.Author.Tests.{ne-eqb}
 use Rattle.records.specs.declared.Record.the-variants.{Ack, Head, Value, Tick}
 use Rattle.records.specs.Body.{recordOf}

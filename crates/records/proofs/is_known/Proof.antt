@@ -1,5 +1,4 @@
 use Rattle.lictor_core.proofs.Branch.{branches}
-use borrow.Author.Tests.{lt-ltb, le-ltb, le-leb, lt-leb}
 use Rattle.records.specs.Kinds.{isKnown}
 use Rattle.records.proofs.is_known.Statement.{statement}
 use Rattle.records.proofs.is_known.Tie as tie
