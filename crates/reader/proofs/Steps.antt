@@ -36,10 +36,10 @@ use Rattle.reader.specs.declared.What.the-variants as W
 use Rattle.reader.specs.declared.Took.{Took}
 use Rattle.reader.specs.declared.Turn.{Turn}
 use Rattle.reader.specs.State.{State, bases, ackWaits, headWaits, valueWaits, stored, outcomeWaits, inputOf}
-use Rattle.reader.specs.Stream.{Next, wait, halt, go, tell, Advanced, past, advanced}
+use Rattle.reader.specs.Stream.{go, goesOn, Reached}
 use Rattle.reader.specs.Reading.{Instruction, lookAs, lookOf, callOf, onRecord, onLook, nextOf, whatOf, bodyOf}
-use Rattle.reader.specs.Steps.{stateOf, Room, isSmall, looksSmall, Added, TookOne, Reached, Collected, goesOn, Instructs, Turned}
-use Rattle.reader.proofs.Stream.{goes, advanced-go, advanced-wait, advanced-halt, advanced-tell}
+use Rattle.reader.specs.Steps.{stateOf, Room, isSmall, looksSmall, Added, TookOne, Collected, Instructs, Turned}
+use Rattle.reader.proofs.Stream.{goes, reached-none, reached-one, reached-on}
 use Rattle.reader.proofs.Reading.{machine}
 
 -- a value's place lies in the lent memory
@@ -200,53 +200,14 @@ module _ (w : Waiting) (l : List Float) (s : List ℕ) (at : ℕ) where
       no : false ≡ true → ⊥
       no y = let f : _≡_ {A = ℕ} 0 1 = cc in omega arith
 
--- ---- a run of records that tell nothing
-
-abbrev with-used : {R E H : Type 0} → Advanced R E H → ℕ → Advanced R E H
-with-used a u = record { state = a .state; used = u; next = a .next }
-
-past-none : {R E H : Type 0} (k : ℕ) (a : Advanced R E H) → k ≡ 0 → a ≡ past k a
-past-none k a e = ap (with-used a) (let f : a .used ≡ k + a .used = omega arith in f)
-
-past-past : {R E H : Type 0} (n m k : ℕ) (a : Advanced R E H) → n + m ≡ k → past n (past m a) ≡ past k a
-past-past n m k a e = ap (with-used a) (let f : n + (m + a .used) ≡ k + a .used = omega arith in f)
-
--- no way at all
-pub reached-none : (st : State) (s : List ℕ) (at : ℕ) → at ≤ length s → Reached st s at st at
-reached-none st s at h = record { from = omega arith; within = h; ahead = past-none (at - at) (advanced nextOf st (drop at s)) (omega arith) }
-
--- one record
-pub reached-one : (st : State) (s : List ℕ) (at : ℕ) (st' : State) (at' : ℕ) → at ≤ length s → at ≤ at' → nextOf st (drop at s) ≡ go st' (at' - at) → Reached st s at st' at'
-reached-one st s at st' at' h f e =
-    let b = goes nextOf machine st (drop at s) st' (at' - at) e in
-    let d : at + (at' - at) ≡ at' = omega arith in
-    record {
-      from = f;
-      within = omega (arith, b .1, length-drop at s);
-      ahead =
-          advanced-go nextOf machine st (drop at s) st' (at' - at) e
-          ∙ ap (λ (v : List ℕ). past (at' - at) (advanced nextOf st' v)) (rw d at (drop-drop (at' - at) at s));
-    }
-
--- two ways, one behind the other
-pub reached-on : {st st' st'' : State} {s : List ℕ} {at at' at'' : ℕ} → Reached st s at st' at' → Reached st' s at' st'' at'' → Reached st s at st'' at''
-reached-on {st'' = st''} {s = s} {at = at} {at' = at'} {at'' = at''} p q = record {
-  from = omega (arith, p .from, q .from);
-  within = q .within;
-  ahead =
-      p .ahead
-      ∙ ap (past (at' - at)) (q .ahead)
-      ∙ past-past (at' - at) (at'' - at') (at'' - at) (advanced nextOf st'' (drop at'' s)) (omega (arith, p .from, q .from));
-}
-
 -- ---- one small record
 
 module _ (w : Waiting) (l : List Float) (s : List ℕ) (at : ℕ) (h : at ≤ length s) (r : Took) (l' : List Float) (t : TookOne w l s at r l') where
-  reached-by : (o : O.Outcome) (m : Bool) → r .more ≡ m → Reached (stateOf w o l) s at (stateOf (r .waiting) o l') (r .at)
-  reached-by o true y = reached-one (stateOf w o l) s at (stateOf (r .waiting) o l') (r .at) h (t .from) (t .waits y o)
-  reached-by o false y = rw (t .same-waiting y, t .same-lists y, t .same-place y) (reached-none (stateOf w o l) s at h)
+  reached-by : (o : O.Outcome) (m : Bool) → r .more ≡ m → Reached nextOf (stateOf w o l) s at (stateOf (r .waiting) o l') (r .at)
+  reached-by o true y = reached-one nextOf machine (stateOf w o l) s at (stateOf (r .waiting) o l') (r .at) h (t .from) (t .waits y o)
+  reached-by o false y = rw (t .same-waiting y, t .same-lists y, t .same-place y) (reached-none nextOf machine (stateOf w o l) s at h)
 
-  pub took-reached : (o : O.Outcome) → Reached (stateOf w o l) s at (stateOf (r .waiting) o l') (r .at)
+  pub took-reached : (o : O.Outcome) → Reached nextOf (stateOf w o l) s at (stateOf (r .waiting) o l') (r .at)
   took-reached o = reached-by o (r .more) refl
 
   pub took-within : r .at ≤ length s
@@ -359,8 +320,8 @@ module _ (w : Waiting) (o : O.Outcome) (l : List Float) (s : List ℕ) (at : ℕ
         let d : r .at - t .at ≡ suc n = omega (arith, i .past y) in
         let q : nextOf came (drop (t .at) s) ≡ go (record { reader = r .reader; lists = l' }) (r .at - t .at) = rw d (then-is (L.Found x n) e ∙ i .waits y) in
         record {
-          reached = reached-on (k .reached o)
-              (reached-one came s (t .at) (record { reader = r .reader; lists = l' }) (r .at) (k .reached o .within) (omega (arith, i .past y)) q);
+          reached = reached-on nextOf machine (k .reached o)
+              (reached-one nextOf machine came s (t .at) (record { reader = r .reader; lists = l' }) (r .at) (k .reached o .within) (omega (arith, i .past y)) q);
           further = λ z. omega (arith, k .reached o .from, i .past y);
           stops = λ z. absurd (no (sym y ∙ z));
           what = λ z. absurd (no (sym y ∙ z));
@@ -384,20 +345,6 @@ module _ (w : Waiting) (o : O.Outcome) (l : List Float) (s : List ℕ) (at : ℕ
     turned-found r i = found-by-turn r i (r .more) refl
 
 -- ---- the reader
-
--- where the reader stops, that is how far it goes
-stops-by : (st : State) (s : List ℕ) (x : Next State Instruction Refusal) → nextOf st s ≡ x → goesOn x ≡ false → advanced nextOf st s ≡ record { state = st; used = 0; next = x }
-stops-by st s wait e g = advanced-wait nextOf machine st s e
-stops-by st s (halt r) e g = advanced-halt nextOf machine st s r e
-stops-by st s (go st' n) e g = absurd (let z : _≡_ {A = ℕ} 0 1 = cc in omega arith)
-stops-by st s (tell st' n i) e g = advanced-tell nextOf machine st s st' n i e
-
-pub reached-end : (st : State) (s : List ℕ) (st' : State) (at : ℕ) → Reached st s 0 st' at → goesOn (nextOf st' (drop at s)) ≡ false
-    → advanced nextOf st s ≡ record { state = st'; used = at; next = nextOf st' (drop at s) }
-reached-end st s st' at r g =
-    let e : at - 0 + 0 ≡ at = omega arith in
-    r .ahead ∙ ap (past (at - 0)) (stops-by st' (drop at s) (nextOf st' (drop at s)) refl g)
-    ∙ ap (λ (u : ℕ). record { state = st'; used = u; next = nextOf st' (drop at s) }) e
 
 -- there are fewer bytes left, or no more turns
 turn-less-by : (st : State) (s : List ℕ) (at : ℕ) (r : Turn) (l' : List Float) → Turned st s at r l' → (m : Bool) → r .more ≡ m

@@ -6,7 +6,7 @@ use mathlib.Core.Path.{_≡_, refl, sym, ap, _∙_}
 use native.Mathlib.Omega.{arith}
 use lib.ListN.{length, take, drop, length-append, length-drop}
 use lib.Seq.{drop-append-le, drop-drop, take-add, drop-at, length-take-le}
-use Rattle.reader.specs.Stream.{Next, wait, halt, go, tell, End, waiting, halted, Settled, telling, after, settle, settled, Advanced, past, upTo, advance, advanced, takes, size, Machine, fed, whole}
+use Rattle.reader.specs.Stream.{Next, wait, halt, go, tell, End, waiting, halted, Settled, telling, after, settle, settled, Advanced, past, upTo, advance, advanced, Reached, goesOn, takes, size, Machine, fed, whole}
 
 module _ {R E H : Type 0} (next : R → List ℕ → Next R E H) (m : Machine next) where
   -- a record that is taken is there
@@ -313,3 +313,55 @@ module _ {R E H : Type 0} (next : R → List ℕ → Next R E H) (m : Machine ne
   pub ahead : (r : R) (s : List ℕ) → Ahead r s (advanced next r s)
   unfolding advanced
   ahead r s = ahead-at (suc (length s)) r s (omega arith)
+
+  -- ---- from place to place
+
+  abbrev with-used : Advanced R E H → ℕ → Advanced R E H
+  with-used a u = record { state = a .state; used = u; next = a .next }
+
+  past-none : (k : ℕ) (a : Advanced R E H) → k ≡ 0 → a ≡ past k a
+  past-none k a e = ap (with-used a) (let f : a .used ≡ k + a .used = omega arith in f)
+
+  past-past : (n k l : ℕ) (a : Advanced R E H) → n + k ≡ l → past n (past k a) ≡ past l a
+  past-past n k l a e = ap (with-used a) (let f : n + (k + a .used) ≡ l + a .used = omega arith in f)
+
+  -- no way at all
+  pub reached-none : (r : R) (s : List ℕ) (at : ℕ) → at ≤ length s → Reached next r s at r at
+  reached-none r s at h = record { from = omega arith; within = h; ahead = past-none (at - at) (advanced next r (drop at s)) (omega arith) }
+
+  -- one record
+  pub reached-one : (r : R) (s : List ℕ) (at : ℕ) (r' : R) (at' : ℕ) → at ≤ length s → at ≤ at' → next r (drop at s) ≡ go r' (at' - at) → Reached next r s at r' at'
+  reached-one r s at r' at' h f e =
+      let b = goes r (drop at s) r' (at' - at) e in
+      let d : at + (at' - at) ≡ at' = omega arith in
+      record
+        { from = f
+        ; within = omega (arith, b .1, length-drop at s)
+        ; ahead =
+            advanced-go r (drop at s) r' (at' - at) e
+            ∙ ap (λ (v : List ℕ). past (at' - at) (advanced next r' v)) (rw d at (drop-drop (at' - at) at s)) }
+
+  -- two ways, one behind the other
+  pub reached-on : {r r' r'' : R} {s : List ℕ} {at at' at'' : ℕ} → Reached next r s at r' at' → Reached next r' s at' r'' at'' → Reached next r s at r'' at''
+  reached-on {r'' = r''} {s = s} {at = at} {at' = at'} {at'' = at''} p q = record
+    { from = omega (arith, p .from, q .from)
+    ; within = q .within
+    ; ahead =
+        p .ahead
+        ∙ ap (past (at' - at)) (q .ahead)
+        ∙ past-past (at' - at) (at'' - at') (at'' - at) (advanced next r'' (drop at'' s)) (omega (arith, p .from, q .from)) }
+
+  -- where a machine does not go on, that is how far it goes
+  stops-by : (r : R) (s : List ℕ) (x : Next R E H) → next r s ≡ x → goesOn x ≡ false → advanced next r s ≡ record { state = r; used = 0; next = x }
+  stops-by r s wait e g = advanced-wait r s e
+  stops-by r s (halt h) e g = advanced-halt r s h e
+  stops-by r s (go r' n) e g = absurd (let z : _≡_ {A = ℕ} 0 1 = cc in omega arith)
+  stops-by r s (tell r' n t) e g = advanced-tell r s r' n t e
+
+  pub reached-end : (r : R) (s : List ℕ) (r' : R) (at : ℕ) → Reached next r s 0 r' at → goesOn (next r' (drop at s)) ≡ false
+      → advanced next r s ≡ record { state = r'; used = at; next = next r' (drop at s) }
+  reached-end r s r' at h g =
+      let e : at - 0 + 0 ≡ at = omega arith in
+      h .ahead
+      ∙ ap (past (at - 0)) (stops-by r' (drop at s) (next r' (drop at s)) refl g)
+      ∙ ap (λ (u : ℕ). record { state = r'; used = u; next = next r' (drop at s) }) e

@@ -17,7 +17,7 @@ use Rattle.reader.specs.declared.Look.{Look}
 use Rattle.reader.specs.declared.Look.the-variants as L
 use Rattle.reader.specs.declared.Took.{Took}
 use Rattle.reader.specs.declared.Turn.{Turn}
-use Rattle.reader.specs.Stream.{Next, wait, halt, go, tell, past, advanced}
+use Rattle.reader.specs.Stream.{go, goesOn, Reached}
 use Rattle.reader.specs.State.{State}
 use Rattle.reader.specs.Reading.{Instruction, lookOf, bodyOf, onRecord, nextOf, whatOf}
 
@@ -69,24 +69,11 @@ pub record TookOne (w : Waiting) (l : List Float) (s : List ℕ) (at : ℕ) (r :
   pub same-lists : r .more ≡ false → l' ≡ l
   pub same-place : r .more ≡ false → r .at ≡ at
 
--- from one place to another by records that tell nothing
-pub record Reached (st : State) (s : List ℕ) (at : ℕ) (st' : State) (at' : ℕ) : Type 0 where
-  pub from : at ≤ at'
-  pub within : at' ≤ length s
-  pub ahead : advanced nextOf st (drop at s) ≡ past (at' - at) (advanced nextOf st' (drop at' s))
-
 -- all small records from place `at` on were added, whatever outcome waits, and what stands behind them is none
 pub record Collected (w : Waiting) (l : List Float) (s : List ℕ) (at : ℕ) (r : Took) (l' : List Float) : Type 0 where
-  pub reached : (o : O.Outcome) → Reached (stateOf w o l) s at (stateOf (r .waiting) o l') (r .at)
+  pub reached : (o : O.Outcome) → Reached nextOf (stateOf w o l) s at (stateOf (r .waiting) o l') (r .at)
   pub other : looksSmall (r .look) ≡ false
   pub look : r .look ≡ lookOf (r .waiting .seen) (drop (r .at) s)
-
--- what the reader does next does not go on
-abbrev pub goesOn : Next State Instruction Refusal → Bool
-goesOn wait = false
-goesOn (halt r) = false
-goesOn (go st n) = true
-goesOn (tell st n e) = false
 
 -- a record that is not small: an outcome waits, and the others instruct
 pub record Instructs (rd : Reader) (l : List Float) (s : List ℕ) (at n : ℕ) (x : Record) (r : Turn) : Type 0 where
@@ -99,7 +86,7 @@ pub record Instructs (rd : Reader) (l : List Float) (s : List ℕ) (at n : ℕ) 
 
 -- one turn of the reader: it went on, or it came to something else, and says what
 pub record Turned (st : State) (s : List ℕ) (at : ℕ) (r : Turn) (l' : List Float) : Type 0 where
-  pub reached : Reached st s at (record { reader = r .reader; lists = l' }) (r .at)
+  pub reached : Reached nextOf st s at (record { reader = r .reader; lists = l' }) (r .at)
   pub further : r .more ≡ true → at < r .at
   pub stops : r .more ≡ false → goesOn (nextOf (record { reader = r .reader; lists = l' }) (drop (r .at) s)) ≡ false
   pub what : r .more ≡ false → r .what ≡ whatOf (nextOf (record { reader = r .reader; lists = l' }) (drop (r .at) s))

@@ -1,5 +1,5 @@
 -- Machines over bytes that come in parts: such a machine takes whole records off the front of the bytes at hand, and waits where the last one is not there whole.
-use Prim.Native.Nat.{ℕ, zero, suc, _+_, _≤_, _<_}
+use Prim.Native.Nat.{ℕ, zero, suc, _+_, _-_, _≤_, _<_}
 use mathlib.Core.Bool.{Bool, true, false}
 use mathlib.Core.List.{List, [], _∷_, _++_}
 use mathlib.Core.Path.{_≡_}
@@ -65,6 +65,19 @@ advance next (suc f) r s = upTo r (next r s) (λ r' n. advance next f r' (drop n
 
 unfoldable pub advanced : {R E H : Type 0} → (R → List ℕ → Next R E H) → R → List ℕ → Advanced R E H
 advanced next r s = advance next (suc (length s)) r s
+
+-- from one place of s to another by records that tell nothing
+pub record Reached {R E H : Type 0} (next : R → List ℕ → Next R E H) (r : R) (s : List ℕ) (at : ℕ) (r' : R) (at' : ℕ) : Type 0 where
+  pub from : at ≤ at'
+  pub within : at' ≤ length s
+  pub ahead : advanced next r (drop at s) ≡ past (at' - at) (advanced next r' (drop at' s))
+
+-- whether a machine goes on by itself
+abbrev pub goesOn : {R E H : Type 0} → Next R E H → Bool
+goesOn wait = false
+goesOn (halt h) = false
+goesOn (go r n) = true
+goesOn (tell r n e) = false
 
 -- whether a machine takes a record, and how many bytes that has
 abbrev pub takes : {R E H : Type 0} → Next R E H → Bool

@@ -8,15 +8,18 @@ use lib.Ieee.{Float}
 use Rattle.lictor_core.specs.declared.outcome.Outcome.{Outcome}
 use Rattle.reader.specs.declared.Waiting.{Waiting}
 use Rattle.reader.specs.declared.Took.{Took}
-use Rattle.reader.specs.Reading.{lookOf}
-use Rattle.reader.specs.Steps.{stateOf, looksSmall, TookOne, Reached, Collected}
-use Rattle.reader.proofs.Steps.{reached-none, reached-on, took-reached, took-within, took-look, took-less}
+use Rattle.reader.specs.Stream.{Reached}
+use Rattle.reader.specs.Reading.{lookOf, nextOf}
+use Rattle.reader.specs.Steps.{stateOf, looksSmall, TookOne, Collected}
+use Rattle.reader.proofs.Stream.{reached-none, reached-on}
+use Rattle.reader.proofs.Reading.{machine}
+use Rattle.reader.proofs.Steps.{took-reached, took-within, took-look, took-less}
 use Rattle.reader.proofs.collect.Statement.{statement}
 use Rattle.reader.proofs.collect.Tie as tie
 
 -- what was taken since the first record, and what stands there where nothing more is taken
 record Kept (l₀ : List Float) (s : List ℕ) (t₀ : Took) (l : List Float) (t : Took) : Type 0 where
-  pub reached : (o : Outcome) → Reached (stateOf (t₀ .waiting) o l₀) s (t₀ .at) (stateOf (t .waiting) o l) (t .at)
+  pub reached : (o : Outcome) → Reached nextOf (stateOf (t₀ .waiting) o l₀) s (t₀ .at) (stateOf (t .waiting) o l) (t .at)
   pub within : t .at ≤ length s
   pub other : t .more ≡ false → looksSmall (t .look) ≡ false
   pub look : t .more ≡ false → t .look ≡ lookOf (t .waiting .seen) (drop (t .at) s)
@@ -24,12 +27,12 @@ record Kept (l₀ : List Float) (s : List ℕ) (t₀ : Took) (l : List Float) (t
 kept-first : (w : Waiting) (l : List Float) (s : List ℕ) (at : ℕ) → at ≤ length s → (r : Took) (l' : List Float) → TookOne w l s at r l' → Kept l' s r l' r
 kept-first w l s at h r l' t =
     let v = took-within w l s at h r l' t in
-    record { reached = λ o. reached-none (stateOf (r .waiting) o l') s (r .at) v; within = v; other = t .other; look = took-look w l s at h r l' t }
+    record { reached = λ o. reached-none nextOf machine (stateOf (r .waiting) o l') s (r .at) v; within = v; other = t .other; look = took-look w l s at h r l' t }
 
 kept-more : (l₀ : List Float) (s : List ℕ) (t₀ : Took) (l : List Float) (t : Took) → Kept l₀ s t₀ l t → (r : Took) (l' : List Float) → TookOne (t .waiting) l s (t .at) r l'
     → Kept l₀ s t₀ l' r
 kept-more l₀ s t₀ l t k r l' n = record {
-  reached = λ o. reached-on (k .reached o) (took-reached (t .waiting) l s (t .at) (k .within) r l' n o);
+  reached = λ o. reached-on nextOf machine (k .reached o) (took-reached (t .waiting) l s (t .at) (k .within) r l' n o);
   within = took-within (t .waiting) l s (t .at) (k .within) r l' n;
   other = n .other;
   look = took-look (t .waiting) l s (t .at) (k .within) r l' n;
@@ -38,7 +41,7 @@ kept-more l₀ s t₀ l t k r l' n = record {
 collected : (w : Waiting) (l : List Float) (s : List ℕ) (at : ℕ) → at ≤ length s → (t₀ : Took) (l₀ : List Float) → TookOne w l s at t₀ l₀ → (l' : List Float) (t : Took)
     → Kept l₀ s t₀ l' t → t .more ≡ false → Collected w l s at t l'
 collected w l s at h t₀ l₀ n l' t k y =
-    record { reached = λ o. reached-on (took-reached w l s at h t₀ l₀ n o) (k .reached o); other = k .other y; look = k .look y }
+    record { reached = λ o. reached-on nextOf machine (took-reached w l s at h t₀ l₀ n o) (k .reached o); other = k .other y; look = k .look y }
 
 abbrev Inv-loop : tie.InvT-loop
 Inv-loop l₀ s at t₀ l t = Kept l₀ s t₀ l t

@@ -10,10 +10,12 @@ use Rattle.judge.specs.declared.Refusal.{Refusal}
 use Rattle.reader.specs.declared.Progress.{Progress}
 use Rattle.reader.specs.declared.Turn.{Turn}
 use Rattle.reader.specs.State.{State}
-use Rattle.reader.specs.Stream.{Advanced}
+use Rattle.reader.specs.Stream.{Advanced, Reached, goesOn}
 use Rattle.reader.specs.Reading.{Instruction, nextOf, whatOf, readOf, listsAfter}
-use Rattle.reader.specs.Steps.{goesOn, Reached, Turned}
-use Rattle.reader.proofs.Steps.{reached-none, reached-on, reached-end, turn-less}
+use Rattle.reader.specs.Steps.{Turned}
+use Rattle.reader.proofs.Stream.{reached-none, reached-on, reached-end}
+use Rattle.reader.proofs.Reading.{machine}
+use Rattle.reader.proofs.Steps.{turn-less}
 use Rattle.reader.proofs.read.Statement.{statement}
 use Rattle.reader.proofs.read.Tie as tie
 
@@ -22,22 +24,22 @@ at-turn t l = record { reader = t .reader; lists = l }
 
 -- what was taken since the first turn, and what stands there where nothing more is taken
 record Kept (l₀ : List Float) (s : List ℕ) (t₀ : Turn) (l : List Float) (t : Turn) : Type 0 where
-  pub reached : Reached (at-turn t₀ l₀) s (t₀ .at) (at-turn t l) (t .at)
+  pub reached : Reached nextOf (at-turn t₀ l₀) s (t₀ .at) (at-turn t l) (t .at)
   pub stops : t .more ≡ false → goesOn (nextOf (at-turn t l) (drop (t .at) s)) ≡ false
   pub what : t .more ≡ false → t .what ≡ whatOf (nextOf (at-turn t l) (drop (t .at) s))
 
 kept-first : (st : State) (s : List ℕ) (at : ℕ) (r : Turn) (l : List Float) → Turned st s at r l → Kept l s r l r
-kept-first st s at r l t = record { reached = reached-none (at-turn r l) s (r .at) (t .reached .within); stops = t .stops; what = t .what }
+kept-first st s at r l t = record { reached = reached-none nextOf machine (at-turn r l) s (r .at) (t .reached .within); stops = t .stops; what = t .what }
 
 kept-more : (l₀ : List Float) (s : List ℕ) (t₀ : Turn) (l : List Float) (t : Turn) → Kept l₀ s t₀ l t → (r : Turn) (l' : List Float) → Turned (at-turn t l) s (t .at) r l'
     → Kept l₀ s t₀ l' r
-kept-more l₀ s t₀ l t k r l' n = record { reached = reached-on (k .reached) (n .reached); stops = n .stops; what = n .what }
+kept-more l₀ s t₀ l t k r l' n = record { reached = reached-on nextOf machine (k .reached) (n .reached); stops = n .stops; what = n .what }
 
 finished : (st : State) (s : List ℕ) (t₀ : Turn) (l₀ : List Float) → Turned st s 0 t₀ l₀ → (l : List Float) (t : Turn) → Kept l₀ s t₀ l t → t .more ≡ false
     → (_≡_ {A = Progress} (record { reader = t .reader; used = t .at; what = t .what }) (readOf st s)) × (l ≡ listsAfter st s)
 unfolding readOf listsAfter
 finished st s t₀ l₀ n l t k y =
-    let e = reached-end st s (at-turn t l) (t .at) (reached-on (n .reached) (k .reached)) (k .stops y) in (
+    let e = reached-end nextOf machine st s (at-turn t l) (t .at) (reached-on nextOf machine (n .reached) (k .reached)) (k .stops y) in (
       rw (e, k .what y),
       ap (λ (a : Advanced State Instruction Refusal). a .state .lists) (sym e),
     )
