@@ -1,0 +1,4 @@
+-- Laws that belong to no one function.
+pub mod Contents
+pub mod Exactly
+pub mod Framing

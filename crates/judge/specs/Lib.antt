@@ -1,0 +1,4 @@
+-- Definitions that the contracts of this crate, and of those above it, cite.
+pub mod Causes
+pub mod Table
+pub mod Exactly

@@ -1,0 +1,4 @@
+-- Laws that belong to no one function.
+pub mod Stream
+pub mod Reading
+pub mod Steps

@@ -1,0 +1,83 @@
+-- Each turn takes one small record, or finds that there is none.
+use Prim.Native.Nat.{ℕ, _+_, _-_, _≤_}
+use mathlib.Core.Path.{_≡_}
+use mathlib.Core.Bool.{false, cond}
+use mathlib.Core.List.{List}
+use lib.ListN.{length, drop}
+use lib.Ieee.{Float}
+use Rattle.lictor_core.specs.declared.outcome.Outcome.{Outcome}
+use Rattle.reader.specs.declared.Waiting.{Waiting}
+use Rattle.reader.specs.declared.Took.{Took}
+use Rattle.reader.specs.Stream.{Reached}
+use Rattle.reader.specs.Reading.{lookOf, nextOf}
+use Rattle.reader.specs.Steps.{stateOf, looksSmall, TookOne, Collected}
+use Rattle.reader.proofs.Stream.{reached-none, reached-on}
+use Rattle.reader.proofs.Reading.{machine}
+use Rattle.reader.proofs.Steps.{took-reached, took-within, took-look, took-less}
+use Rattle.reader.proofs.collect.Statement.{statement}
+use Rattle.reader.proofs.collect.Tie as tie
+
+-- what was taken since the first record, and what stands there where nothing more is taken
+record Kept (l₀ : List Float) (s : List ℕ) (t₀ : Took) (l : List Float) (t : Took) : Type 0 where
+  pub reached : (o : Outcome) → Reached nextOf (stateOf (t₀ .waiting) o l₀) s (t₀ .at) (stateOf (t .waiting) o l) (t .at)
+  pub within : t .at ≤ length s
+  pub other : t .more ≡ false → looksSmall (t .look) ≡ false
+  pub look : t .more ≡ false → t .look ≡ lookOf (t .waiting .seen) (drop (t .at) s)
+
+kept-first : (w : Waiting) (l : List Float) (s : List ℕ) (at : ℕ) → at ≤ length s → (r : Took) (l' : List Float) → TookOne w l s at r l' → Kept l' s r l' r
+kept-first w l s at h r l' t =
+    let v = took-within w l s at h r l' t in
+    record { reached = λ o. reached-none nextOf machine (stateOf (r .waiting) o l') s (r .at) v; within = v; other = t .other; look = took-look w l s at h r l' t }
+
+kept-more : (l₀ : List Float) (s : List ℕ) (t₀ : Took) (l : List Float) (t : Took) → Kept l₀ s t₀ l t → (r : Took) (l' : List Float) → TookOne (t .waiting) l s (t .at) r l'
+    → Kept l₀ s t₀ l' r
+kept-more l₀ s t₀ l t k r l' n = record {
+  reached = λ o. reached-on nextOf machine (k .reached o) (took-reached (t .waiting) l s (t .at) (k .within) r l' n o);
+  within = took-within (t .waiting) l s (t .at) (k .within) r l' n;
+  other = n .other;
+  look = took-look (t .waiting) l s (t .at) (k .within) r l' n;
+}
+
+collected : (w : Waiting) (l : List Float) (s : List ℕ) (at : ℕ) → at ≤ length s → (t₀ : Took) (l₀ : List Float) → TookOne w l s at t₀ l₀ → (l' : List Float) (t : Took)
+    → Kept l₀ s t₀ l' t → t .more ≡ false → Collected w l s at t l'
+collected w l s at h t₀ l₀ n l' t k y =
+    record { reached = λ o. reached-on nextOf machine (took-reached w l s at h t₀ l₀ n o) (k .reached o); other = k .other y; look = k .look y }
+
+abbrev Inv-loop : tie.InvT-loop
+Inv-loop l₀ s at t₀ l t = Kept l₀ s t₀ l t
+
+abbrev μ-loop : tie.MeasureT-loop
+μ-loop l₀ s at t₀ l t = length s - t .at + cond (t .more) 1 0
+
+take-one-requires : tie.Need-take-one-requires Inv-loop μ-loop
+take-one-requires c κs = tt
+
+loop-holds : tie.Need-loop-holds Inv-loop μ-loop
+loop-holds c = kept-first _ _ _ _ (c .before .before .before .pre) _ _ (c .take-one .ensures)
+
+take-one-requires-2 : tie.Need-take-one-requires-2 Inv-loop μ-loop
+take-one-requires-2 c κs = tt
+
+loop-less : tie.Need-loop-less Inv-loop μ-loop
+loop-less c =
+    let k = c .before .before .before .before .loop .inv in
+    rw (c .before .before .before .loop-test .taken) (took-less _ _ _ _ (k .within) _ _ (c .take-one2 .ensures))
+
+loop-again : tie.Need-loop-again Inv-loop μ-loop
+loop-again c = kept-more _ _ _ _ _ (c .before .before .before .before .loop .inv) _ _ (c .take-one2 .ensures)
+
+returns : tie.Need-returns Inv-loop μ-loop
+returns c = collected _ _ _ _ (c .before .before .before .before .before .pre) _ _ (c .before .before .take-one .ensures) _ _ (c .before .loop .inv) (c .loop-test .left)
+
+pub collect-spec : {M : Type 1} → statement M
+collect-spec =
+    tie.close
+    (tie.spec
+    Inv-loop
+    μ-loop
+    take-one-requires
+    loop-holds
+    take-one-requires-2
+    loop-less
+    loop-again
+    returns)

@@ -1,0 +1,11 @@
+use mathlib.Core.Path.{refl}
+use Rattle.reader.specs.State.{outcomeWaits}
+use Rattle.reader.proofs.with_outcome.Statement.{statement}
+use Rattle.reader.proofs.with_outcome.Tie as tie
+
+returns : tie.Need-returns
+unfolding outcomeWaits
+returns c = refl
+
+pub with-outcome-spec : {M : Type 1} → statement M
+with-outcome-spec = tie.close (tie.spec returns)

@@ -1,0 +1,483 @@
+// Reads a journal, in parts of any sizes: bytes to instructions for the fuse.
+ghost use mathlib.Core.Bool.{Bool, false, cond};
+ghost use mathlib.Core.List.{[]};
+ghost use mathlib.Core.Path.{_≡_};
+ghost use Prim.Native.Nat.{_+_, _<_, _≤_, _^_, min};
+ghost use lib.ListN.{length, drop, getD};
+ghost use Rattle.judge.specs.declared.Judged.the-variants as Judged;
+ghost use Rattle.lictor_core.specs.declared.ack.MaybeAck.the-variants as MaybeAck;
+ghost use Rattle.lictor_core.specs.declared.chunk.MaybeChunk.the-variants as MaybeChunk;
+ghost use Rattle.judge.specs.Causes.{capacities, countOf};
+ghost use Rattle.judge.specs.Table.{isCut};
+ghost use Rattle.reader.specs.State.{ackWaits, headWaits, valueWaits, stored, outcomeWaits, settingsCame, emptied as State·emptied, startReader, inputOf};
+ghost use Rattle.reader.specs.Reading.{lookAs, lookOf, readOf, listsAfter};
+ghost use Rattle.reader.specs.Steps.{Room, isSmall, Added, TookOne, Collected, Instructs, Turned};
+use judge::Judged;
+use judge::Refusal;
+use judge::Seen;
+use lictor_core::ack::AckDecision;
+use lictor_core::ack::MaybeAck;
+use lictor_core::ack::VerifiedAck;
+use lictor_core::chunk::ChunkHead;
+use lictor_core::chunk::MaybeChunk;
+use lictor_core::fuse::TickInput;
+use lictor_core::outcome::Outcome;
+use records::Record;
+use records::TickNumbers;
+
+// What waits for a tick, but for the outcome: small, since it goes by value with each record.
+pub struct Waiting {
+    pub seen: Seen,
+    // the last that came; it waits where `seen` says so
+    pub ack: VerifiedAck,
+    pub head: ChunkHead,
+}
+
+// All that waits, but for the values of the lists, which are in lent memory.
+pub struct Reader {
+    pub waiting: Waiting,
+    pub outcome: Outcome,
+}
+
+// The record at the front of some bytes.
+pub enum Look {
+    // There is none, or it is not there whole.
+    Waits,
+    Refuses(Refusal),
+    // The record, and the length of its body.
+    Found(Record, usize),
+}
+
+// What a reader comes to: the end of the bytes, a refusal, or an instruction for the fuse.
+pub enum What {
+    Waits,
+    Refuses(Refusal),
+    Begins,
+    Resets,
+    Ticks(TickInput),
+}
+
+pub struct Progress {
+    pub reader: Reader,
+    // the bytes up to there
+    pub used: usize,
+    pub what: What,
+}
+
+// Where each list begins in the lent memory.
+const BASE: [usize; 5] = [0, 512, 528, 544, 560];
+
+fn least(a: usize, b: usize) -> usize
+    ensures { λ r. ⌜ r ≡ min a b ⌝ }
+{
+    if a < b { a } else { b }
+}
+
+fn is_cut(r: Refusal) -> bool
+    ensures { λ t. ⌜ t ≡ isCut r ⌝ }
+{
+    judge::number(r) == 6
+}
+
+fn refused_as(r: Refusal) -> Look
+    ensures { λ x. ⌜ x ≡ lookAs 0 [] (Judged.Refused r) ⌝ }
+{
+    if is_cut(r) {
+        return Look::Waits;
+    }
+    Look::Refuses(r)
+}
+
+// A record of a kind, with its body as far as it came, by what the judge says.
+fn look_as(k: u8, b: &[u8], j: Judged) -> Look
+    ensures { λ r. ⌜ r ≡ lookAs k (now (b .entry)) j ⌝ }
+{
+    match j {
+        Judged::Refused(r) => refused_as(r),
+        Judged::Accepted => Look::Found(records::decode(k, b), records::body_len(k)),
+    }
+}
+
+// The record at a place.
+fn look_at(seen: Seen, s: &[u8], at: usize) -> Look
+    ensures { λ r. ⌜ r ≡ lookOf seen (drop at (now (s .entry))) ⌝ }
+{
+    if s.len() <= at {
+        return Look::Waits;
+    }
+    let k = s[at];
+    let a = at + 1;
+    let n = records::body_len(k);
+    let e = a + least(n, s.len() - a);
+    let b = &s[a..e];
+    let j = judge::judge(seen, k, b);
+    look_as(k, b, j)
+}
+
+// ---- records that only wait
+
+fn with_ack(w: Waiting, a: VerifiedAck) -> Waiting
+    ensures { λ r. ⌜ r ≡ ackWaits w a ⌝ }
+{
+    let mut seen = w.seen;
+    seen.ack = true;
+    let head = w.head;
+    Waiting { seen, ack: a, head }
+}
+
+fn with_head(w: Waiting, h: ChunkHead) -> Waiting
+    ensures { λ r. ⌜ r ≡ headWaits w h ⌝ }
+{
+    let mut seen = w.seen;
+    seen.head = true;
+    let ack = w.ack;
+    Waiting { seen, ack, head: h }
+}
+
+fn with_value(w: Waiting, c: u8) -> Waiting
+    requires { ⌜ (c < 5) × (countOf (w .seen) c < getD capacities c 0) ⌝ }
+    ensures { λ r. ⌜ r ≡ valueWaits w c ⌝ }
+{
+    let i = c as usize;
+    let mut seen = w.seen;
+    let mut counts = seen.counts;
+    counts[i] = counts[i] + 1;
+    seen.counts = counts;
+    let ack = w.ack;
+    let head = w.head;
+    Waiting { seen, ack, head }
+}
+
+// Puts a value behind those that its list has.
+fn store(lists: &mut [f64; 576], seen: Seen, c: u8, x: f64) -> usize
+    requires { ⌜ (c < 5) × (countOf seen c < getD capacities c 0) ⌝ }
+    ensures { λ r. ⌜ now (lists .exit) ≡ stored (now (lists .entry)) seen c x ⌝ }
+{
+    let i = c as usize;
+    let counts = seen.counts;
+    let at = BASE[i] + counts[i];
+    lists[at] = x;
+    at
+}
+
+struct Took {
+    waiting: Waiting,
+    at: usize,
+    look: Look,
+    more: bool,
+}
+
+// Adds the record at a place to what waits, where it is small.
+fn add(w: Waiting, lists: &mut [f64; 576], at: usize, n: usize, x: Record) -> Took
+    requires { ⌜ at + n + 1 < 2 ^ 64 ⌝ }
+    requires { ⌜ Room (w .seen) x ⌝ }
+    ensures { λ r. ⌜ Added w (now (lists .entry)) at n x r (now (lists .exit)) ⌝ }
+{
+    let seen = w.seen;
+    match x {
+        Record::Ack(a) => Took {
+            waiting: with_ack(w, a),
+            at: at + n + 1,
+            look: Look::Waits,
+            more: true,
+        },
+        Record::Head(h) => Took {
+            waiting: with_head(w, h),
+            at: at + n + 1,
+            look: Look::Waits,
+            more: true,
+        },
+        Record::Value(c, v) => {
+            store(lists, seen, c, v);
+            Took {
+                waiting: with_value(w, c),
+                at: at + n + 1,
+                look: Look::Waits,
+                more: true,
+            }
+        }
+        Record::Settings => Took {
+            waiting: w,
+            at,
+            look: Look::Found(x, n),
+            more: false,
+        },
+        Record::Reset => Took {
+            waiting: w,
+            at,
+            look: Look::Found(x, n),
+            more: false,
+        },
+        Record::Outcome => Took {
+            waiting: w,
+            at,
+            look: Look::Found(x, n),
+            more: false,
+        },
+        Record::Tick(_) => Took {
+            waiting: w,
+            at,
+            look: Look::Found(x, n),
+            more: false,
+        },
+    }
+}
+
+fn take_one(w: Waiting, lists: &mut [f64; 576], s: &[u8], at: usize) -> Took
+    ensures { λ r. ⌜ TookOne w (now (lists .entry)) (now (s .entry)) at r (now (lists .exit)) ⌝ }
+{
+    let seen = w.seen;
+    let look = look_at(seen, s, at);
+    match look {
+        Look::Found(x, n) => add(w, lists, at, n, x),
+        Look::Waits => Took {
+            waiting: w,
+            at,
+            look,
+            more: false,
+        },
+        Look::Refuses(_) => Took {
+            waiting: w,
+            at,
+            look,
+            more: false,
+        },
+    }
+}
+
+// Takes all small records from a place on.
+fn collect(w: Waiting, lists: &mut [f64; 576], s: &[u8], at: usize) -> Took
+    requires { ⌜ at ≤ length (now s) ⌝ }
+    ensures { λ r. ⌜ Collected w (now (lists .entry)) (now (s .entry)) at r (now (lists .exit)) ⌝ }
+{
+    let mut t = take_one(w, lists, s, at);
+    while t.more {
+        let next = t.waiting;
+        let i = t.at;
+        t = take_one(next, lists, s, i);
+    }
+    t
+}
+
+// ---- records that instruct
+
+fn chunk_of(w: Waiting) -> MaybeChunk
+    ensures { λ r. ⌜ r ≡ cond (w .seen .head) (MaybeChunk.Delivered (w .head)) MaybeChunk.NoChunk ⌝ }
+{
+    let seen = w.seen;
+    if seen.head {
+        let head = w.head;
+        return MaybeChunk::Delivered(head);
+    }
+    MaybeChunk::NoChunk
+}
+
+fn ack_of(w: Waiting) -> MaybeAck
+    ensures { λ r. ⌜ r ≡ cond (w .seen .ack) (MaybeAck.Given (w .ack)) MaybeAck.NoAck ⌝ }
+{
+    let seen = w.seen;
+    if seen.ack {
+        let ack = w.ack;
+        return MaybeAck::Given(ack);
+    }
+    MaybeAck::NoAck
+}
+
+fn input_of(w: Waiting, n: TickNumbers) -> TickInput
+    ensures { λ r. ⌜ r ≡ inputOf w n ⌝ }
+{
+    let chunk = chunk_of(w);
+    let ack = ack_of(w);
+    TickInput {
+        t: n.t,
+        idx: n.idx,
+        missed_ticks: n.missed_ticks,
+        schema_fault: n.schema_fault,
+        has_vel: n.has_vel,
+        chunk,
+        ack,
+    }
+}
+
+fn with_outcome(rd: Reader, o: Outcome) -> Reader
+    ensures { λ r. ⌜ r ≡ outcomeWaits rd o ⌝ }
+{
+    let mut waiting = rd.waiting;
+    let mut seen = waiting.seen;
+    seen.outcome = true;
+    waiting.seen = seen;
+    Reader {
+        waiting,
+        outcome: o,
+    }
+}
+
+// The reader after settings.
+pub fn begun(rd: Reader) -> Reader
+    ensures { λ r. ⌜ r ≡ settingsCame rd ⌝ }
+{
+    let mut waiting = rd.waiting;
+    let mut seen = waiting.seen;
+    seen.settings = true;
+    waiting.seen = seen;
+    let outcome = rd.outcome;
+    Reader { waiting, outcome }
+}
+
+// The reader after a reset or a tick: nothing waits.
+pub fn emptied(rd: Reader) -> Reader
+    ensures { λ r. ⌜ r ≡ State·emptied rd ⌝ }
+{
+    let mut waiting = rd.waiting;
+    let mut seen = waiting.seen;
+    seen.ack = false;
+    seen.head = false;
+    seen.outcome = false;
+    seen.counts = [0; 5];
+    waiting.seen = seen;
+    let outcome = rd.outcome;
+    Reader { waiting, outcome }
+}
+
+struct Turn {
+    reader: Reader,
+    at: usize,
+    what: What,
+    more: bool,
+}
+
+// A record that is not small.
+fn instruct(rd: Reader, lists: &[f64; 576], s: &[u8], at: usize, n: usize, x: Record) -> Turn
+    requires { ⌜ at + n < length (now s) ⌝ }
+    requires { ⌜ isSmall x ≡ false ⌝ }
+    ensures { λ r. ⌜ Instructs rd (now (lists .entry)) (now (s .entry)) at n x r ⌝ }
+{
+    let w = rd.waiting;
+    match x {
+        Record::Outcome => {
+            let a = at + 1;
+            let e = a + n;
+            let o = records::read_outcome(&s[a..e]);
+            Turn {
+                reader: with_outcome(rd, o),
+                at: e,
+                what: What::Waits,
+                more: true,
+            }
+        }
+        Record::Settings => Turn {
+            reader: rd,
+            at,
+            what: What::Begins,
+            more: false,
+        },
+        Record::Reset => Turn {
+            reader: rd,
+            at,
+            what: What::Resets,
+            more: false,
+        },
+        Record::Tick(t) => Turn {
+            reader: rd,
+            at,
+            what: What::Ticks(input_of(w, t)),
+            more: false,
+        },
+        Record::Ack(_) => Turn {
+            reader: rd,
+            at,
+            what: What::Waits,
+            more: false,
+        },
+        Record::Head(_) => Turn {
+            reader: rd,
+            at,
+            what: What::Waits,
+            more: false,
+        },
+        Record::Value(_, _) => Turn {
+            reader: rd,
+            at,
+            what: What::Waits,
+            more: false,
+        },
+    }
+}
+
+// All small records from a place on, and the one behind them.
+fn take_turn(rd: Reader, lists: &mut [f64; 576], s: &[u8], at: usize) -> Turn
+    requires { ⌜ at ≤ length (now s) ⌝ }
+    ensures { λ r. ⌜ Turned (record { reader = rd; lists = now (lists .entry) }) (now (s .entry)) at r (now (lists .exit)) ⌝ }
+{
+    let w = rd.waiting;
+    let outcome = rd.outcome;
+    let t = collect(w, lists, s, at);
+    let waiting = t.waiting;
+    let i = t.at;
+    let look = t.look;
+    let reader = Reader { waiting, outcome };
+    match look {
+        Look::Found(x, n) => instruct(reader, lists, s, i, n, x),
+        Look::Waits => Turn {
+            reader,
+            at: i,
+            what: What::Waits,
+            more: false,
+        },
+        Look::Refuses(r) => Turn {
+            reader,
+            at: i,
+            what: What::Refuses(r),
+            more: false,
+        },
+    }
+}
+
+// The reader before the first byte.
+pub fn start() -> Reader
+    ensures { λ r. ⌜ r ≡ startReader ⌝ }
+{
+    let seen = Seen {
+        settings: false,
+        ack: false,
+        head: false,
+        outcome: false,
+        counts: [0; 5],
+    };
+    let decision = AckDecision::Resume;
+    let ack = VerifiedAck {
+        decision,
+        operator_slot: 0,
+        nonce: 0,
+        handoff_seq: 0,
+    };
+    let head = ChunkHead {
+        seq: 0,
+        t_emit: 0,
+        horizon: 0,
+        dim: 0,
+        exec_steps: 0,
+    };
+    let waiting = Waiting { seen, ack, head };
+    let outcome = records::read_outcome(b"");
+    Reader { waiting, outcome }
+}
+
+// Takes all records up to the next that instructs the fuse, that is turned away or that is not there whole, and says what comes there.
+pub fn read(rd: Reader, lists: &mut [f64; 576], s: &[u8]) -> Progress
+    ensures { λ r. ⌜ (r ≡ readOf (record { reader = rd; lists = now (lists .entry) }) (now (s .entry))) × (now (lists .exit) ≡ listsAfter (record { reader = rd; lists = now (lists .entry) }) (now (s .entry))) ⌝ }
+{
+    let mut t = take_turn(rd, lists, s, 0);
+    while t.more {
+        let next = t.reader;
+        let i = t.at;
+        t = take_turn(next, lists, s, i);
+    }
+    let reader = t.reader;
+    let what = t.what;
+    Progress {
+        reader,
+        used: t.at,
+        what,
+    }
+}

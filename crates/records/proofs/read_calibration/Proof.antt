@@ -1,0 +1,17 @@
+use Rattle.records.specs.Body.{calibrationOf}
+use borrow.Author.Needs.{needs}
+use Rattle.records.proofs.read_calibration.Statement.{statement}
+use Rattle.records.proofs.read_calibration.Tie as tie
+
+le32-requires : tie.Need-le32-requires
+le32-requires c κs = search needs
+
+f64-at-requires : tie.Need-f64-at-requires
+f64-at-requires c κs = search needs
+
+returns : tie.Need-returns
+unfolding calibrationOf
+returns c = cc
+
+pub read-calibration-spec : {M : Type 1} → statement M
+read-calibration-spec = tie.close (tie.spec le32-requires f64-at-requires returns)

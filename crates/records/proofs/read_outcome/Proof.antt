@@ -1,0 +1,46 @@
+use Rattle.records.specs.Body.{outcomeOf}
+use borrow.Author.Needs.{needs}
+use Rattle.records.proofs.read_outcome.Statement.{statement}
+use Rattle.records.proofs.read_outcome.Tie as tie
+
+read-scores-requires : tie.Need-read-scores-requires
+read-scores-requires c κs = search needs
+
+eight-requires : tie.Need-eight-requires
+eight-requires c κs = search needs
+
+eight-requires-2 : tie.Need-eight-requires-2
+eight-requires-2 c κs = search needs
+
+le32-requires : tie.Need-le32-requires
+le32-requires c κs = search needs
+
+le32-requires-2 : tie.Need-le32-requires-2
+le32-requires-2 c κs = search needs
+
+byte-requires : tie.Need-byte-requires
+byte-requires c κs = search needs
+
+set-requires : tie.Need-set-requires
+set-requires c κs = search needs
+
+f64-at-requires : tie.Need-f64-at-requires
+f64-at-requires c κs = search needs
+
+returns : tie.Need-returns
+unfolding outcomeOf
+returns c = cc
+
+pub read-outcome-spec : {M : Type 1} → statement M
+read-outcome-spec =
+    tie.close
+    (tie.spec
+    read-scores-requires
+    eight-requires
+    eight-requires-2
+    le32-requires
+    le32-requires-2
+    byte-requires
+    set-requires
+    f64-at-requires
+    returns)

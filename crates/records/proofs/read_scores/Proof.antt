@@ -1,0 +1,24 @@
+use Rattle.records.specs.Body.{scoresOf}
+use borrow.Author.Needs.{needs}
+use Rattle.records.proofs.read_scores.Statement.{statement}
+use Rattle.records.proofs.read_scores.Tie as tie
+
+twelve-requires : tie.Need-twelve-requires
+twelve-requires c κs = search needs
+
+f64-at-requires : tie.Need-f64-at-requires
+f64-at-requires c κs = search needs
+
+le32-requires : tie.Need-le32-requires
+le32-requires c κs = search needs
+
+le32-requires-2 : tie.Need-le32-requires-2
+le32-requires-2 c κs = search needs
+
+returns : tie.Need-returns
+unfolding scoresOf
+returns c = cc
+
+pub read-scores-spec : {M : Type 1} → statement M
+read-scores-spec =
+    tie.close (tie.spec twelve-requires f64-at-requires le32-requires le32-requires-2 returns)
