@@ -92,37 +92,6 @@ module _ {R A K : Type 0} (step : R → K → Step R A) (P : A → Type 0) where
       (one (I (suc j) (suc i)) (n + m) (step r (call t)) (λ r′. trace step r′ (series call (suc t) n ++ ks)) (law j i t r u h (omega arith))
       (λ r′ h′. through I call ks m top last law after n (suc j) (suc i) (suc t) (omega arith) (omega arith) (omega arith) r′ h′))
 
--- ---- what a tick of the stop needs of the run state: a chunk was taken, the clock stands at i, the velocity has a first component
-
-record Running (i : ℕ) (r : FuseRt) : Type 0 where
-  filled : r .clock .filled ≡ true
-  begun : 0 < r .clock .seq
-  time : r .clock .«last_t» ≡ i
-  room : 0 < length (r .motion .vel)
-
-module _ (b h e i : ℕ) (v : Float) (fine : finite v ≡ true) (r : FuseRt) (o : Running i r) where
-  abbrev call : Call
-  call = callAt (slowSettings b h e) (suc i) v true NoChunk []
-
-  -- the guard finds nothing
-  no-bits : guardBits r call ≡ 0
-  unfolding guardBits guardOf nonFinite lengthsOf shapeBad deliveryBad clockBad schemaBad bitIf deliveredOf allFinite configOf
-  no-bits =
-      rw (fine, o .filled, ne-eqb (r .clock .seq) 0 (λ e. let k = o .begun in omega arith), o .time, eq-eqb (i + 1 + 0) (suc i) (omega arith)) refl
-
-  -- so the tick is clean
-  by-clean : (P : Decided → Type 0) → P (cleanTick (configOf (slowSettings b h e)) r (call .input) (call .outcome) (call .pos) (call .vel)) → P (decided r call)
-  by-clean P p = by-guard (λ clean (d : Decided). P d) r call (λ z. p) (λ z. absurd (T-not (eqb (guardBits r call) 0) z (rw no-bits tt)))
-
-  runs-on : Running (suc i) (decided r call .rt)
-  unfolding cleanTick closeClean closedOf cleanClock ingestOf velocityOf takenRow configOf
-  runs-on = by-clean (λ (d : Decided). Running (suc i) (d .rt)) (record { filled = rw (o .filled) refl; begun = omega arith; time = refl; room = rw row-length (o .room) })
-
-  -- no fault bit comes, and no acknowledgement
-  law : StopLaw (configOf (slowSettings b h e)) (r .control .state) false NoAck (readyOf (r .control) (foundOf r call)) (cleanTurn r call)
-  unfolding readyOf machineInput judgeOf maskedOf withBrake anyOf acceptedAck configOf
-  law = stop-law (configOf (slowSettings b h e)) (readyOf (r .control) (foundOf r call)) _ (machineInput (configOf (slowSettings b h e)) (call .input) (foundOf r call))
-
 -- ---- the state machine in Braking, with no fault bit
 
 module _ (cfg : FuseConfig) (rt : Control) (pos : List Float) (inp : FsmInput) (none : anyOf (inp .trips) faultBits ≡ false) where
@@ -149,6 +118,14 @@ module _ (cfg : FuseConfig) (rt : Control) (pos : List Float) (inp : FsmInput) (
   unfolding nextByRows settledOf countRun brakingOf confirmedOf standstillRow
   standing h k c m = rw (← tells cfg rt pos inp, braking-rows (rt .state) _ _ _ h, lt-leb _ _ k, m, c, le-leb 1 (rt .«stopped_ticks» + 1) (omega arith)) refl
 
+-- ---- what a tick of the stop needs of the run state: a chunk was taken, the clock stands at i, the velocity has a first component
+
+record Running (i : ℕ) (r : FuseRt) : Type 0 where
+  filled : r .clock .filled ≡ true
+  begun : 0 < r .clock .seq
+  time : r .clock .«last_t» ≡ i
+  room : 0 < length (r .motion .vel)
+
 -- ---- whether the arm stands
 
 take-one : (l : List Float) (v : Float) → 0 < length l → take 1 (set l 0 v) ≡ v ∷ []
@@ -164,7 +141,7 @@ module _ (b h e i : ℕ) (r : FuseRt) (o : Running i r) where
   unfolding judgeOf standstillOf slowOf normOf addSquares rootOf ingestOf velocityOf takenRow rowTo configOf modeOf add mul le
   stands-still = rw (take-one (r .motion .vel) zeroFloat (o .room)) refl
 
--- ---- one tick of the stop
+-- ---- the words of the stop
 
 abbrev Closes : Seen → Type 0
 Closes x = T (closes x)
@@ -204,6 +181,8 @@ passes : (b h e : ℕ) → T (isAccepted (checkOf (slowSettings b h e)))
 unfolding checkOf firstRow settingsTable badCode badSize badFloat badBox crossedOf anyBelow allFinite isNan lt zeros
 passes b h e = tt
 
+-- ---- one tick of the stop, whatever its velocity
+
 module _ (b h e i : ℕ) (v : Float) (fine : finite v ≡ true) (r : FuseRt) (o : Running i r) where
   abbrev cfg : FuseConfig
   cfg = configOf (slowSettings b h e)
@@ -211,17 +190,36 @@ module _ (b h e i : ℕ) (v : Float) (fine : finite v ≡ true) (r : FuseRt) (o 
   abbrev tick : Call
   tick = callAt (slowSettings b h e) (suc i) v true NoChunk []
 
+  -- the guard finds nothing
+  no-bits : guardBits r tick ≡ 0
+  unfolding guardBits guardOf nonFinite lengthsOf shapeBad deliveryBad clockBad schemaBad bitIf deliveredOf allFinite configOf
+  no-bits =
+      rw (fine, o .filled, ne-eqb (r .clock .seq) 0 (λ e. let k = o .begun in omega arith), o .time, eq-eqb (i + 1 + 0) (suc i) (omega arith)) refl
+
+  -- so the tick is clean
+  by-clean : (P : Decided → Type 0) → P (cleanTick cfg r (tick .input) (tick .outcome) (tick .pos) (tick .vel)) → P (decided r tick)
+  by-clean P p = by-guard (λ clean (d : Decided). P d) r tick (λ z. p) (λ z. absurd (T-not (eqb (guardBits r tick) 0) z (rw no-bits tt)))
+
+  runs-on : Running (suc i) (decided r tick .rt)
+  unfolding cleanTick closeClean closedOf cleanClock ingestOf velocityOf takenRow configOf
+  runs-on = by-clean (λ (d : Decided). Running (suc i) (d .rt)) (record { filled = rw (o .filled) refl; begun = omega arith; time = refl; room = rw row-length (o .room) })
+
+  -- no fault bit comes, and no acknowledgement
+  law : StopLaw cfg (r .control .state) false NoAck (readyOf (r .control) (foundOf r tick)) (cleanTurn r tick)
+  unfolding readyOf machineInput judgeOf maskedOf withBrake anyOf acceptedAck configOf
+  law = stop-law cfg (readyOf (r .control) (foundOf r tick)) _ (machineInput cfg (tick .input) (foundOf r tick))
+
   -- the tick ends as the machine says
   ended : (decided r tick .verdict .state ≡ cleanTurn r tick .state) × (decided r tick .rt .control ≡ cleanTurn r tick .rt)
   unfolding cleanTick closeClean closedOf verdictOf
-  ended = by-clean b h e i v fine r o (λ (d : Decided). (d .verdict .state ≡ cleanTurn r tick .state) × (d .rt .control ≡ cleanTurn r tick .rt)) (refl, refl)
+  ended = by-clean (λ (d : Decided). (d .verdict .state ≡ cleanTurn r tick .state) × (d .rt .control ≡ cleanTurn r tick .rt)) (refl, refl)
 
   next-at : (q : FuseState) (count : Control → ℕ) (n : ℕ) → T (isState q (cleanTurn r tick .state)) → count (cleanTurn r tick .rt) ≡ n → At q count n (suc i) (decided r tick .rt)
   next-at q count n p k =
       record {
         state = rw (ended .1) (rw (settled cfg (readyOf (r .control) (foundOf r tick)) _ (machineInput cfg (tick .input) (foundOf r tick))) p);
         counted = rw (ended .1) k;
-        running = runs-on b h e i v fine r o;
+        running = runs-on;
       }
 
   -- so to a state of an open stop: the stop stays open
