@@ -39,7 +39,8 @@ impl Subject {
             .stdin(Stdio::piped())
             .stdout(Stdio::piped())
             .stderr(Stdio::null())
-            .spawn()?;
+            .spawn()
+            .map_err(|what| io::Error::new(what.kind(), format!("{}: {what}", self.command[0])))?;
         let stdin = child.stdin.take().expect("piped");
         let mut stdout = child.stdout.take().expect("piped");
         let (alive, watch) = mpsc::channel();
@@ -141,7 +142,7 @@ impl Subject {
         let start = text[..offset].iter().rposition(|b| *b == b'\n').map_or(0, |i| i + 1);
         let end = text[offset..].iter().position(|b| *b == b'\n').map_or(text.len(), |i| offset + i);
         let got_end = got.iter().position(|b| *b == b'\n').unwrap_or(got.len());
-        let show = |bytes: &[u8]| String::from_utf8_lossy(bytes).into_owned();
+        let show = |bytes: &[u8]| bytes.escape_ascii().to_string();
         let first = text.split(|b| *b == b'\n').next().unwrap_or(b"");
         Difference {
             line: lines + text[..start].iter().filter(|b| **b == b'\n').count() + 1,
