@@ -1,3 +1,4 @@
 pub mod Data
+pub mod Lent
 pub mod Refused
 pub mod Thin

@@ -44,7 +44,7 @@ use Rattle.lictor_core.specs.declared.envelope.Settings.{Settings}
 use Rattle.lictor_core.specs.declared.fuse.FuseRt.{FuseRt}
 use Rattle.lictor_core.specs.declared.fuse.TickInput.{TickInput}
 use Rattle.lictor_core.specs.declared.outcome.Outcome.{Outcome}
-use Rattle.lictor_core.specs.Settings.{checkOf}
+use Rattle.lictor_core.specs.Settings.{checkOf, checkNumber}
 use Rattle.lictor_core.proofs.fuse.FuseRt as St
 use Rattle.lictor_core.proofs.fuse.FuseRt.Laws as St′
 use Rattle.lictor_core.proofs.envelope.Settings as Se
@@ -58,7 +58,7 @@ use Rattle.lictor_core.proofs.settings.SettingsCheck.Laws as Ck′
 use Rattle.lictor_core.proofs.verdict.SafetyVerdict as Ve
 use Rattle.lictor_core.proofs.verdict.SafetyVerdict.Laws as Ve′
 use Rattle.lictor_fuse.specs.declared.tick.Ticked.{Ticked}
-use Rattle.lictor_fuse.specs.Tick.{tickOf, isAccepted}
+use Rattle.lictor_fuse.specs.Tick.{tickOf, isAccepted, noVerdict}
 use Rattle.lictor_fuse.proofs.tick.Ticked as Tk
 use Rattle.lictor_fuse.proofs.tick.Ticked.Laws as Tk′
 use Rattle.lictor_fuse.proofs.tick.tick as core
@@ -66,7 +66,7 @@ use Rattle.lictor_fuse.proofs.tick.tick.Symbol as core-def
 use Rattle.lictor_fuse.proofs.tick.tick.Symbol.{name as #core}
 use Rattle.lictor_fuse.proofs.tick.tick.Met as core-thm
 use Rattle.host.specs.declared.Answer.{Answer}
-use Rattle.host.specs.Host.{answerOf, refusalOf}
+use Rattle.host.specs.Host.{answerOf, numberOf}
 use Rattle.host.proofs.Answer as An
 use Rattle.host.proofs.Answer.Laws as An′
 use Rattle.host.proofs.Data.{Data, row, struct, vals, Of, spelled, typed, had}
@@ -143,8 +143,13 @@ module _ (h : FuseRt) (s : Settings) (i : TickInput) (u : Outcome) (l : Ls) wher
   got = tickOf s h i u (now (l .0)) (now (l .1 .0)) (now (l .1 .1 .0)) (now (l .1 .1 .1 .0)) (now (l .1 .1 .1 .1 .0))
 
   -- what the contract says of the answer a and of the last state z, from what the core ensures
-  said : (r : Ticked) → r ≡ got → (answerOf r ≡ answerOf got) × (r .rt ≡ got .rt) × (isAccepted (checkOf s) ≡ false → (answerOf r ≡ refusalOf s) × (r .rt ≡ h))
-  said r e = (ap answerOf e, ap (λ (z : Ticked). z .rt) e, λ bad. let z = refused-call s h i u (now (l .0)) (now (l .1 .0)) (now (l .1 .1 .0)) (now (l .1 .1 .1 .0)) (now (l .1 .1 .1 .1 .0)) bad in (ap answerOf e ∙ z .0, ap (λ (z : Ticked). z .rt) e ∙ z .1))
+  said : (r : Ticked) → r ≡ got → (answerOf r ≡ answerOf got) × (r .rt ≡ got .rt) × (isAccepted (checkOf s) ≡ false → (numberOf (answerOf r) ≡ checkNumber (checkOf s)) × (r .verdict ≡ noVerdict) × (r .rt ≡ h))
+  said r e = (
+    ap answerOf e,
+    ap (λ (z : Ticked). z .rt) e,
+    λ bad. let z = refused-call s h i u (now (l .0)) (now (l .1 .0)) (now (l .1 .1 .0)) (now (l .1 .1 .1 .0)) (now (l .1 .1 .1 .1 .0)) bad in
+        (ap (λ (z : Ticked). numberOf (answerOf z)) e ∙ z .0, ap (λ (z : Ticked). z .verdict) e ∙ z .1, ap (λ (z : Ticked). z .rt) e ∙ z .2),
+  )
 
   abbrev to : Settings × (FuseRt × (TickInput × (Outcome × Ls)))
   to = (s, (h, (i, (u, l))))
