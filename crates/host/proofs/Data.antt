@@ -1,5 +1,5 @@
 -- A type of plain data, with all that a walk asks of it. It says nothing of the fuse.
---     Data     a type's row (`denote.RattleType`), with its one MIR type told apart from the rest, so that a walk over a type that is a variable knows that it is one;  `val`, a value's machine value;  and the laws: the row's relation tells the machine value, and makes what the type owns, and the machine value has the type's MIR type
+--     Data     a type's row (`denote.RattleType`), with its one MIR type told apart from the rest, and with nothing left to say of it at exit, so that a walk over a type that is a variable knows both;  `val`, a value's machine value;  and the laws: the row's relation tells the machine value, and makes what the type owns, and the machine value has the type's MIR type
 --     row      the row of it
 --     struct   of a declared struct, from the modules that `rattle check` makes of it: `struct T.the-type T′.the-laws T′.the-plain`
 --     vals     a value's machine values, of which there is one.        Of D x       the relation of x and its machine value
@@ -17,7 +17,7 @@ use base.Stored.{Coded}
 use prog.Wp.{Heap}
 use ghost.Atoms.{Atoms}
 use types.Kit.{Given, Goal, Item, Step, ‵}
-use denote.Exit.{Exit, Kept}
+use denote.Exit.{unchanged}
 use denote.RattleType.{RattleType}
 use denote.Laws.{Is, Tells, Makes, Lawful}
 use denote.Memory.{lone}
@@ -26,8 +26,8 @@ use denote.Struct.Struct.{Plains}
 use denote.Struct.Declared as SD
 use denote.Struct.Laws as SL
 
-abbrev pub rowOf : (D : Type 0) → Ty → Written → List (Written × List Ty) → (D → List Val → Fml) → (Kept → Exit D) → Coded D → RattleType
-rowOf D τ w rs own exit coded = record { Denot = D; mir = τ ∷ []; written = w; reaches = rs; own = own; exit = exit; coded = coded }
+abbrev pub rowOf : (D : Type 0) → Ty → Written → List (Written × List Ty) → (D → List Val → Fml) → Coded D → RattleType
+rowOf D τ w rs own coded = record { Denot = D; mir = τ ∷ []; written = w; reaches = rs; own = own; exit = λ k. unchanged; coded = coded }
 
 pub record Data : Type 2 where
   pub D : Type 0
@@ -35,15 +35,14 @@ pub record Data : Type 2 where
   pub written : Written
   pub reaches : List (Written × List Ty)
   pub own : D → List Val → Fml
-  pub exit : Kept → Exit D
   pub coded : Coded D
   pub val : D → Val
-  pub tells : Tells (rowOf D ty written reaches own exit coded) (Is (rowOf D ty written reaches own exit coded)) (λ d. val d ∷ [])
-  pub makes : {M : Type 1} (𝓤 : URA M) (H : Heap 𝓤) (A : Atoms 𝓤) → Makes 𝓤 H A (rowOf D ty written reaches own exit coded) (Is (rowOf D ty written reaches own exit coded))
-  pub lawful : {M : Type 1} (𝓤 : URA M) (H : Heap 𝓤) (A : Atoms 𝓤) (W : Given 𝓤 H A) → Lawful 𝓤 H A (rowOf D ty written reaches own exit coded)
+  pub tells : Tells (rowOf D ty written reaches own coded) (Is (rowOf D ty written reaches own coded)) (λ d. val d ∷ [])
+  pub makes : {M : Type 1} (𝓤 : URA M) (H : Heap 𝓤) (A : Atoms 𝓤) → Makes 𝓤 H A (rowOf D ty written reaches own coded) (Is (rowOf D ty written reaches own coded))
+  pub lawful : {M : Type 1} (𝓤 : URA M) (H : Heap 𝓤) (A : Atoms 𝓤) (W : Given 𝓤 H A) → Lawful 𝓤 H A (rowOf D ty written reaches own coded)
 
 abbrev pub row : Data → RattleType
-row D = rowOf (D .D) (D .ty) (D .written) (D .reaches) (D .own) (D .exit) (D .coded)
+row D = rowOf (D .D) (D .ty) (D .written) (D .reaches) (D .own) (D .coded)
 
 abbrev pub struct : (T : SD.Declared) (L : SL.Laws T) → Plains (SD.fields T) → Data
 struct T L pl = record {
@@ -52,12 +51,11 @@ struct T L pl = record {
   written = SD.row T .written;
   reaches = SD.row T .reaches;
   own = SD.row T .own;
-  exit = SD.row T .exit;
   coded = SD.row T .coded;
   val = SL.val T L;
   tells = SL.tells T L;
   makes = λ 𝓤 H A. SL.makes T pl 𝓤 H A;
-  lawful = λ 𝓤 H A W. SL.lawful T L 𝓤 H A W;
+  lawful = λ 𝓤 H A W. record { typed = SL.lawful T L 𝓤 H A W .typed };
 }
 
 module _ (D : Data) where

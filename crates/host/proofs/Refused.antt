@@ -7,15 +7,15 @@ use Rattle.lictor_core.specs.declared.envelope.Settings.{Settings}
 use Rattle.lictor_core.specs.declared.fuse.FuseRt.{FuseRt}
 use Rattle.lictor_core.specs.declared.fuse.TickInput.{TickInput}
 use Rattle.lictor_core.specs.declared.outcome.Outcome.{Outcome}
-use Rattle.lictor_core.specs.Settings.{checkOf}
+use Rattle.lictor_core.specs.Settings.{checkOf, checkNumber}
 use Rattle.lictor_fuse.specs.declared.tick.Ticked.{Ticked}
-use Rattle.lictor_fuse.specs.Tick.{isAccepted, acceptedTick, refusedTick, tickBy, tickOf}
-use Rattle.host.specs.Host.{answerOf, refusalOf}
+use Rattle.lictor_fuse.specs.Tick.{isAccepted, acceptedTick, refusedTick, noVerdict, tickBy, tickOf}
+use Rattle.host.specs.Host.{answerOf, numberOf}
 
--- the answer is the refusal, and the run state the one that came in
+-- the answer has the number of the cause and no verdict, and the run state is the one that came in
 pub refused-call : (s : Settings) (rt : FuseRt) (inp : TickInput) (out : Outcome) (pos vel aux ext chunk : List Float) → isAccepted (checkOf s) ≡ false
-    → (answerOf (tickOf s rt inp out pos vel aux ext chunk) ≡ refusalOf s) × (tickOf s rt inp out pos vel aux ext chunk .rt ≡ rt)
+    → (numberOf (answerOf (tickOf s rt inp out pos vel aux ext chunk)) ≡ checkNumber (checkOf s)) × (tickOf s rt inp out pos vel aux ext chunk .verdict ≡ noVerdict) × (tickOf s rt inp out pos vel aux ext chunk .rt ≡ rt)
 unfolding tickOf tickBy refusedTick
 refused-call s rt inp out pos vel aux ext chunk bad =
     let e : tickOf s rt inp out pos vel aux ext chunk ≡ refusedTick (checkOf s) rt = ap (λ (b : Bool). cond b (acceptedTick s rt inp out pos vel aux ext chunk) (refusedTick (checkOf s) rt)) bad in
-    (ap answerOf e, ap (λ (t : Ticked). t .rt) e)
+    (ap (λ (t : Ticked). numberOf (answerOf t)) e, ap (λ (t : Ticked). t .verdict) e, ap (λ (t : Ticked). t .rt) e)

@@ -59,7 +59,7 @@ answered S τ2 τ3 τ4 τ5 τ6 τ7 τ8 τ9 τc τv νR νZ k = record {
 }
 
 -- ---- the walks
-has-ty : (τ : Ty) {v u : Val} → v ≡ u → Holds (hasTy τ u) × WT u → Holds (hasTy τ v) × WT v
+pub has-ty : (τ : Ty) {v u : Val} → v ≡ u → Holds (hasTy τ u) × WT u → Holds (hasTy τ v) × WT v
 has-ty τ e t = subst (λ (w : Val). Holds (hasTy τ w) × WT w) (sym e) t
 
 module _ (S : Data) {M : Type 1} (𝓤 : URA M) (H : Heap 𝓤) (A : Atoms 𝓤) (W : Given 𝓤 H A) (C : Calls 𝓤 H) (Λ : Loops 𝓤 H) (fm : FmC 𝓤 H (W .laws) C) (k : Name) (κ : Lft) (q : Share) (b o : ℕ) (γ : GName) (h : S .D) (Post : Val → SProp 𝓤) where
