@@ -14,7 +14,7 @@ far-of-requires : tie.Need-far-of-requires
 far-of-requires c κs = search needs
 
 returns : tie.Need-returns
-returns c = c .far-of .ensures ∙ rw (lt-ltb _ _ (c .before .if1 .taken)) refl
+returns c = c .far-of .ensures ∙ rw (lt-ltb 999999 (c .before .before .args .n) (omega (arith, c .before .if1 .taken))) refl
 
 cast-z : tie.Need-cast-z
 cast-z c = search needs
