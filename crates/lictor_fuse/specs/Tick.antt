@@ -41,18 +41,21 @@ use Rattle.lictor_fuse.specs.declared.tick.Ticked.{Ticked}
 -- ---- the end of every tick: the verdict is recorded, its action is the last command, seq goes up by one and stops at its end
 
 unfoldable pub closedOf : Control → Motion → Clock → Tally → SafetyVerdict → TickEvents → Decided
-closedOf control m k tally v ev = record
-  { rt = record
-    { control = control
-    ; motion = record { pos = m .pos; «prev_pos» = m .«prev_pos»; vel = m .vel; «have_prev_pos» = m .«have_prev_pos»; «last_cmd» = v .action }
-    ; clock = record
-      { filled = k .filled
-      ; seq = satUp 32 (k .seq)
-      ; «last_t» = k .«last_t»
-      ; «next_chunk_seq» = k .«next_chunk_seq»
-      ; «chunk_ok_this_tick» = k .«chunk_ok_this_tick» }
-    ; tally = recordOf tally v ev }
-  ; verdict = v }
+closedOf control m k tally v ev = record {
+  rt = record {
+    control = control;
+    motion = record { pos = m .pos; «prev_pos» = m .«prev_pos»; vel = m .vel; «have_prev_pos» = m .«have_prev_pos»; «last_cmd» = v .action };
+    clock = record {
+      filled = k .filled;
+      seq = satUp 32 (k .seq);
+      «last_t» = k .«last_t»;
+      «next_chunk_seq» = k .«next_chunk_seq»;
+      «chunk_ok_this_tick» = k .«chunk_ok_this_tick»;
+    };
+    tally = recordOf tally v ev;
+  };
+  verdict = v;
+}
 
 -- ---- a clean tick
 
@@ -62,31 +65,33 @@ nextChunk boundary n = cond boundary (wrapUp 32 n) n
 
 -- t is taken; a chunk counts as taken from then on
 unfoldable pub cleanClock : Clock → TickInput → Bool → Clock
-cleanClock k inp ok = record
-  { filled = k .filled || deliveredOf (inp .chunk)
-  ; seq = k .seq
-  ; «last_t» = inp .t
-  ; «next_chunk_seq» = nextChunk (deliveredOf (inp .chunk)) (k .«next_chunk_seq»)
-  ; «chunk_ok_this_tick» = ok }
+cleanClock k inp ok = record {
+  filled = k .filled || deliveredOf (inp .chunk);
+  seq = k .seq;
+  «last_t» = inp .t;
+  «next_chunk_seq» = nextChunk (deliveredOf (inp .chunk)) (k .«next_chunk_seq»);
+  «chunk_ok_this_tick» = ok;
+}
 
 -- the machine starts from the window that has this tick's hit
 unfoldable pub readyOf : Control → Findings → Control
-readyOf c f = record
-  { window = f .scored .window
-  ; state = c .state
-  ; hold = c .hold
-  ; «clean_run» = c .«clean_run»
-  ; «clamp_streak» = c .«clamp_streak»
-  ; clamps = c .clamps
-  ; «brake_ticks» = c .«brake_ticks»
-  ; «stopped_ticks» = c .«stopped_ticks»
-  ; «held_ticks» = c .«held_ticks»
-  ; «held_clean» = c .«held_clean»
-  ; «escalated_ticks» = c .«escalated_ticks»
-  ; rearms = c .rearms
-  ; «handoff_seq» = c .«handoff_seq»
-  ; «handoff_pending» = c .«handoff_pending»
-  ; «last_nonce» = c .«last_nonce» }
+readyOf c f = record {
+  window = f .scored .window;
+  state = c .state;
+  hold = c .hold;
+  «clean_run» = c .«clean_run»;
+  «clamp_streak» = c .«clamp_streak»;
+  clamps = c .clamps;
+  «brake_ticks» = c .«brake_ticks»;
+  «stopped_ticks» = c .«stopped_ticks»;
+  «held_ticks» = c .«held_ticks»;
+  «held_clean» = c .«held_clean»;
+  «escalated_ticks» = c .«escalated_ticks»;
+  rearms = c .rearms;
+  «handoff_seq» = c .«handoff_seq»;
+  «handoff_pending» = c .«handoff_pending»;
+  «last_nonce» = c .«last_nonce»;
+}
 
 -- a chunk is counted before the verdict is
 unfoldable pub chunkTally : Bool → Tally → ℕ → Tally
@@ -110,12 +115,13 @@ cleanTick cfg rt inp out pos vel =
 -- ---- a fault tick: it takes t and, if it is fit, the position; nothing of the outcome, the acknowledgement, the chunk or the velocity
 
 unfoldable pub faultClock : Clock → ℕ → Clock
-faultClock k t = record
-  { filled = k .filled
-  ; seq = k .seq
-  ; «last_t» = t
-  ; «next_chunk_seq» = k .«next_chunk_seq»
-  ; «chunk_ok_this_tick» = k .«chunk_ok_this_tick» }
+faultClock k t = record {
+  filled = k .filled;
+  seq = k .seq;
+  «last_t» = t;
+  «next_chunk_seq» = k .«next_chunk_seq»;
+  «chunk_ok_this_tick» = k .«chunk_ok_this_tick»;
+}
 
 unfoldable pub closeFault : FuseRt → TickInput → Motion → Turn → SafetyVerdict → Decided
 closeFault rt inp m turn v = closedOf (turn .rt) m (faultClock (rt .clock) (inp .t)) (rt .tally) v noEvents
@@ -142,27 +148,28 @@ isAccepted c = eqb (checkNumber c) 0
 
 -- what stands in the verdict's place on a refusal: no tick, so nothing in it
 unfoldable pub noVerdict : SafetyVerdict
-noVerdict = record
-  { seq = 0
-  ; t = 0
-  ; status = Nominal
-  ; state = Idle
-  ; «prev_state» = Idle
-  ; trips = 0
-  ; action = zeros 8
-  ; «action_dim» = 0
-  ; «action_src» = Hold
-  ; substituted = false
-  ; «clamped_dims» = 0
-  ; scores = disarmedScores
-  ; tau = nan
-  ; window = 0
-  ; «window_hits» = 0
-  ; «brake_margin» = nan
-  ; reason = Ok
-  ; «handoff_seq» = NoHandoff
-  ; «ack_consumed» = false
-  ; «violation_reached_env» = false }
+noVerdict = record {
+  seq = 0;
+  t = 0;
+  status = Nominal;
+  state = Idle;
+  «prev_state» = Idle;
+  trips = 0;
+  action = zeros 8;
+  «action_dim» = 0;
+  «action_src» = Hold;
+  substituted = false;
+  «clamped_dims» = 0;
+  scores = disarmedScores;
+  tau = nan;
+  window = 0;
+  «window_hits» = 0;
+  «brake_margin» = nan;
+  reason = Ok;
+  «handoff_seq» = NoHandoff;
+  «ack_consumed» = false;
+  «violation_reached_env» = false;
+}
 
 unfoldable pub refusedTick : SettingsCheck → FuseRt → Ticked
 refusedTick c rt = record { check = c; rt = rt; verdict = noVerdict }

@@ -1,7 +1,11 @@
 // The run state before and at the start of an episode (FuseRt::new, reset).
 ghost use mathlib.Core.Path.{_≡_};
 ghost use Rattle.lictor_core.specs.Initial.{freshControl, freshMotion, freshClock, newOf, resetOf};
-use lictor_core::fuse::{Clock, Control, FuseRt, Motion, Window};
+use lictor_core::fuse::Clock;
+use lictor_core::fuse::Control;
+use lictor_core::fuse::FuseRt;
+use lictor_core::fuse::Motion;
+use lictor_core::fuse::Window;
 use lictor_core::state::FuseState;
 use lictor_core::zero::no_row;
 

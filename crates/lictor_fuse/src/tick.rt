@@ -10,22 +10,46 @@ ghost use Rattle.lictor_stages.specs.Verdict.{verdictOf, faultVerdict, eventsOf
 ghost use Rattle.lictor_tally.specs.Tally.{recordChunk};
 ghost use Rattle.lictor_table.specs.Table.{nextOf};
 ghost use Rattle.lictor_fuse.specs.Tick.{nextChunk, cleanClock, faultClock, readyOf, chunkTally, closedOf, closeClean, cleanTick, closeFault, faultTick, decideBy, decideOf, isAccepted, noVerdict, acceptedTick, givenOf, refusedTick, tickBy, tickOf};
-use lictor_core::envelope::{FuseConfig, Settings};
-use lictor_core::fuse::{Clock, Control, FuseRt, Motion, TickInput};
-use lictor_core::num::{sat_u32, wrap_u32};
+use lictor_core::envelope::FuseConfig;
+use lictor_core::envelope::Settings;
+use lictor_core::fuse::Clock;
+use lictor_core::fuse::Control;
+use lictor_core::fuse::FuseRt;
+use lictor_core::fuse::Motion;
+use lictor_core::fuse::TickInput;
+use lictor_core::num::sat_u32;
+use lictor_core::num::wrap_u32;
 use lictor_core::outcome::Outcome;
 use lictor_core::reason::ReasonCode;
-use lictor_core::settings::{SettingsCheck, check, check_number, config};
-use lictor_core::state::{FuseState, Time};
+use lictor_core::settings::SettingsCheck;
+use lictor_core::settings::check;
+use lictor_core::settings::check_number;
+use lictor_core::settings::config;
+use lictor_core::state::FuseState;
+use lictor_core::state::Time;
 use lictor_core::tally::Tally;
-use lictor_core::verdict::{ActionSource, MaybeHandoff, SafetyVerdict, Status};
+use lictor_core::verdict::ActionSource;
+use lictor_core::verdict::MaybeHandoff;
+use lictor_core::verdict::SafetyVerdict;
+use lictor_core::verdict::Status;
 use lictor_core::zero::no_row;
 use lictor_detect::brake::hold_action;
-use lictor_guard::{delivered, guard};
-use lictor_stages::act::{Acted, act};
-use lictor_stages::ingest::{fault_motion, ingest};
-use lictor_stages::judge::{Findings, fault_input, judge, machine_input};
-use lictor_stages::verdict::{disarmed_scores, events_of, fault_verdict, no_events, rejected, verdict_of};
+use lictor_guard::delivered;
+use lictor_guard::guard;
+use lictor_stages::act::Acted;
+use lictor_stages::act::act;
+use lictor_stages::ingest::fault_motion;
+use lictor_stages::ingest::ingest;
+use lictor_stages::judge::Findings;
+use lictor_stages::judge::fault_input;
+use lictor_stages::judge::judge;
+use lictor_stages::judge::machine_input;
+use lictor_stages::verdict::disarmed_scores;
+use lictor_stages::verdict::events_of;
+use lictor_stages::verdict::fault_verdict;
+use lictor_stages::verdict::no_events;
+use lictor_stages::verdict::rejected;
+use lictor_stages::verdict::verdict_of;
 use lictor_table::Turn;
 use lictor_tally::TickEvents;
 
@@ -45,7 +69,14 @@ pub struct Ticked {
 // ---- the end of every tick
 
 // The verdict is recorded, its action kept as the last command, and the tick counted.
-fn closed(control: Control, motion: Motion, clock: Clock, tally: Tally, v: SafetyVerdict, ev: TickEvents) -> Decided
+fn closed(
+    control: Control,
+    motion: Motion,
+    clock: Clock,
+    tally: Tally,
+    v: SafetyVerdict,
+    ev: TickEvents,
+) -> Decided
     ensures { λ r. ⌜ r ≡ closedOf control motion clock tally v ev ⌝ }
 {
     let t = lictor_tally::record(tally, v, ev);
@@ -160,7 +191,15 @@ fn acted(cfg: FuseConfig, out: Outcome, m: Motion, turn: Turn) -> Acted
     act(cfg, s, m, hold, out)
 }
 
-fn verdict_for(cfg: FuseConfig, rt: FuseRt, inp: TickInput, out: Outcome, f: Findings, turn: Turn, a: Acted) -> SafetyVerdict
+fn verdict_for(
+    cfg: FuseConfig,
+    rt: FuseRt,
+    inp: TickInput,
+    out: Outcome,
+    f: Findings,
+    turn: Turn,
+    a: Acted,
+) -> SafetyVerdict
     ensures { λ r. ⌜ r ≡ verdictOf cfg (rt .clock .seq) (rt .control .state) inp out f turn a ⌝ }
 {
     let k = rt.clock;
@@ -194,14 +233,30 @@ fn events_for(cfg: FuseConfig, rt: FuseRt, out: Outcome, turn: Turn) -> TickEven
     events_of(cal, sc, before, turn)
 }
 
-fn closed_by(turn: Turn, m: Motion, clock: Clock, tally: Tally, v: SafetyVerdict, ev: TickEvents) -> Decided
+fn closed_by(
+    turn: Turn,
+    m: Motion,
+    clock: Clock,
+    tally: Tally,
+    v: SafetyVerdict,
+    ev: TickEvents,
+) -> Decided
     ensures { λ r. ⌜ r ≡ closedOf (turn .rt) m clock tally v ev ⌝ }
 {
     let q = turn.rt;
     closed(q, m, clock, tally, v, ev)
 }
 
-fn close_clean(cfg: FuseConfig, rt: FuseRt, inp: TickInput, out: Outcome, m: Motion, f: Findings, turn: Turn, v: SafetyVerdict) -> Decided
+fn close_clean(
+    cfg: FuseConfig,
+    rt: FuseRt,
+    inp: TickInput,
+    out: Outcome,
+    m: Motion,
+    f: Findings,
+    turn: Turn,
+    v: SafetyVerdict,
+) -> Decided
     ensures { λ r. ⌜ r ≡ closeClean cfg rt inp out m f turn v ⌝ }
 {
     let clock = clock_for(rt, inp, f);
@@ -210,7 +265,14 @@ fn close_clean(cfg: FuseConfig, rt: FuseRt, inp: TickInput, out: Outcome, m: Mot
     closed_by(turn, m, clock, tally, v, ev)
 }
 
-fn clean_tick(cfg: FuseConfig, rt: FuseRt, inp: TickInput, out: Outcome, pos: &[f64], vel: &[f64]) -> Decided
+fn clean_tick(
+    cfg: FuseConfig,
+    rt: FuseRt,
+    inp: TickInput,
+    out: Outcome,
+    pos: &[f64],
+    vel: &[f64],
+) -> Decided
     ensures { λ r. ⌜ r ≡ cleanTick cfg rt inp out (now (pos .entry)) (now (vel .entry)) ⌝ }
 {
     let m = ingested(cfg, rt, inp, pos, vel);
@@ -247,7 +309,13 @@ fn fault_stepped(cfg: FuseConfig, rt: FuseRt, inp: TickInput, bits: u32, m: Moti
     lictor_fsm::next(cfg, control, p, x)
 }
 
-fn fault_verdict_for(cfg: FuseConfig, rt: FuseRt, inp: TickInput, bits: u32, turn: Turn) -> SafetyVerdict
+fn fault_verdict_for(
+    cfg: FuseConfig,
+    rt: FuseRt,
+    inp: TickInput,
+    bits: u32,
+    turn: Turn,
+) -> SafetyVerdict
     ensures { λ r. ⌜ r ≡ faultVerdict cfg (rt .clock .seq) (rt .control .state) inp bits turn (holdAction cfg (turn .rt .hold)) ⌝ }
 {
     let k = rt.clock;
@@ -281,14 +349,31 @@ fn fault_tick(cfg: FuseConfig, rt: FuseRt, inp: TickInput, bits: u32, pos: &[f64
 
 // ---- one tick
 
-fn guarded(cfg: FuseConfig, rt: FuseRt, inp: TickInput, pos: &[f64], vel: &[f64], aux: &[f64], ext: &[f64], chunk: &[f64]) -> u32
+fn guarded(
+    cfg: FuseConfig,
+    rt: FuseRt,
+    inp: TickInput,
+    pos: &[f64],
+    vel: &[f64],
+    aux: &[f64],
+    ext: &[f64],
+    chunk: &[f64],
+) -> u32
     ensures { λ r. ⌜ r ≡ guardOf cfg (rt .clock) inp (now (pos .entry)) (now (vel .entry)) (now (aux .entry)) (now (ext .entry)) (now (chunk .entry)) ⌝ }
 {
     let k = rt.clock;
     guard(cfg, k, inp, pos, vel, aux, ext, chunk)
 }
 
-fn decide_by(cfg: FuseConfig, rt: FuseRt, inp: TickInput, out: Outcome, bits: u32, pos: &[f64], vel: &[f64]) -> Decided
+fn decide_by(
+    cfg: FuseConfig,
+    rt: FuseRt,
+    inp: TickInput,
+    out: Outcome,
+    bits: u32,
+    pos: &[f64],
+    vel: &[f64],
+) -> Decided
     ensures { λ r. ⌜ r ≡ decideBy cfg rt inp out bits (now (pos .entry)) (now (vel .entry)) ⌝ }
 {
     if bits == 0 {
@@ -298,7 +383,17 @@ fn decide_by(cfg: FuseConfig, rt: FuseRt, inp: TickInput, out: Outcome, bits: u3
 }
 
 // One tick under a configuration: the state goes in, and comes back with the verdict.
-pub fn decide(cfg: FuseConfig, rt: FuseRt, inp: TickInput, out: Outcome, pos: &[f64], vel: &[f64], aux: &[f64], ext: &[f64], chunk: &[f64]) -> Decided
+pub fn decide(
+    cfg: FuseConfig,
+    rt: FuseRt,
+    inp: TickInput,
+    out: Outcome,
+    pos: &[f64],
+    vel: &[f64],
+    aux: &[f64],
+    ext: &[f64],
+    chunk: &[f64],
+) -> Decided
     ensures { λ r. ⌜ r ≡ decideOf cfg rt inp out (now (pos .entry)) (now (vel .entry)) (now (aux .entry)) (now (ext .entry)) (now (chunk .entry)) ⌝ }
 {
     let bits = guarded(cfg, rt, inp, pos, vel, aux, ext, chunk);
@@ -348,7 +443,11 @@ fn refused(c: SettingsCheck, rt: FuseRt) -> Ticked
     ensures { λ r. ⌜ r ≡ refusedTick c rt ⌝ }
 {
     let v = no_verdict();
-    Ticked { check: c, rt, verdict: v }
+    Ticked {
+        check: c,
+        rt,
+        verdict: v,
+    }
 }
 
 fn given(d: Decided) -> Ticked
@@ -363,7 +462,17 @@ fn given(d: Decided) -> Ticked
     }
 }
 
-fn accepted(s: Settings, rt: FuseRt, inp: TickInput, out: Outcome, pos: &[f64], vel: &[f64], aux: &[f64], ext: &[f64], chunk: &[f64]) -> Ticked
+fn accepted(
+    s: Settings,
+    rt: FuseRt,
+    inp: TickInput,
+    out: Outcome,
+    pos: &[f64],
+    vel: &[f64],
+    aux: &[f64],
+    ext: &[f64],
+    chunk: &[f64],
+) -> Ticked
     ensures { λ r. ⌜ r ≡ acceptedTick s rt inp out (now (pos .entry)) (now (vel .entry)) (now (aux .entry)) (now (ext .entry)) (now (chunk .entry)) ⌝ }
 {
     let cfg = config(s);
@@ -371,7 +480,18 @@ fn accepted(s: Settings, rt: FuseRt, inp: TickInput, out: Outcome, pos: &[f64], 
     given(d)
 }
 
-fn tick_by(c: SettingsCheck, s: Settings, rt: FuseRt, inp: TickInput, out: Outcome, pos: &[f64], vel: &[f64], aux: &[f64], ext: &[f64], chunk: &[f64]) -> Ticked
+fn tick_by(
+    c: SettingsCheck,
+    s: Settings,
+    rt: FuseRt,
+    inp: TickInput,
+    out: Outcome,
+    pos: &[f64],
+    vel: &[f64],
+    aux: &[f64],
+    ext: &[f64],
+    chunk: &[f64],
+) -> Ticked
     ensures { λ r. ⌜ r ≡ tickBy c s rt inp out (now (pos .entry)) (now (vel .entry)) (now (aux .entry)) (now (ext .entry)) (now (chunk .entry)) ⌝ }
 {
     if is_accepted(c) {
@@ -381,7 +501,17 @@ fn tick_by(c: SettingsCheck, s: Settings, rt: FuseRt, inp: TickInput, out: Outco
 }
 
 // One call: settings that fail the check answer that, and nothing changes; else one tick under them.
-pub fn tick(s: Settings, rt: FuseRt, inp: TickInput, out: Outcome, pos: &[f64], vel: &[f64], aux: &[f64], ext: &[f64], chunk: &[f64]) -> Ticked
+pub fn tick(
+    s: Settings,
+    rt: FuseRt,
+    inp: TickInput,
+    out: Outcome,
+    pos: &[f64],
+    vel: &[f64],
+    aux: &[f64],
+    ext: &[f64],
+    chunk: &[f64],
+) -> Ticked
     ensures { λ r. ⌜ r ≡ tickOf s rt inp out (now (pos .entry)) (now (vel .entry)) (now (aux .entry)) (now (ext .entry)) (now (chunk .entry)) ⌝ }
 {
     let c = check(s);

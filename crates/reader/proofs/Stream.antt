@@ -200,27 +200,29 @@ module _ {R E H : Type 0} (next : R → List ℕ → Next R E H) (m : Machine ne
   front-go r s r' n a e f =
       let b = goes r s r' n e in
       let p = f .place in
-      record
-        { place = n + p
-        ; within = omega (arith, f .within, length-drop n s, b .1)
-        ; rest-is = f .rest-is ∙ drop-drop p n s
-        ; before =
+      record {
+        place = n + p;
+        within = omega (arith, f .within, length-drop n s, b .1);
+        rest-is = f .rest-is ∙ drop-drop p n s;
+        before =
             settled-go r (take (n + p) s) r' n (first-is r s n p (ap takes e) (ap size e) ∙ e)
             ∙ ap (settled next r') (drop-front s n p (b .1))
-            ∙ f .before }
+            ∙ f .before;
+      }
 
   front-tell : (r : R) (s : List ℕ) (r' : R) (n : ℕ) (t : E) (a : Settled R E H) → next r s ≡ tell r' n t → Front r' (drop n s) a → Front r s (telling (t ∷ []) a)
   front-tell r s r' n t a e f =
       let b = tells-on r s r' n t e in
       let p = f .place in
-      record
-        { place = n + p
-        ; within = omega (arith, f .within, length-drop n s, b .1)
-        ; rest-is = f .rest-is ∙ drop-drop p n s
-        ; before =
+      record {
+        place = n + p;
+        within = omega (arith, f .within, length-drop n s, b .1);
+        rest-is = f .rest-is ∙ drop-drop p n s;
+        before =
             settled-tell r (take (n + p) s) r' n t (first-is r s n p (ap takes e) (ap size e) ∙ e)
             ∙ ap (λ (u : List ℕ). telling (t ∷ []) (settled next r' u)) (drop-front s n p (b .1))
-            ∙ ap (telling (t ∷ [])) (f .before) }
+            ∙ ap (telling (t ∷ [])) (f .before);
+      }
 
   front-by : (f : ℕ) → ((r : R) (s : List ℕ) → length s < f → Front r s (settle next f r s))
       → (r : R) (s : List ℕ) → length s ≤ f → (x : Next R E H) → next r s ≡ x → Front r s (settle next (suc f) r s)
@@ -335,22 +337,24 @@ module _ {R E H : Type 0} (next : R → List ℕ → Next R E H) (m : Machine ne
   reached-one r s at r' at' h f e =
       let b = goes r (drop at s) r' (at' - at) e in
       let d : at + (at' - at) ≡ at' = omega arith in
-      record
-        { from = f
-        ; within = omega (arith, b .1, length-drop at s)
-        ; ahead =
+      record {
+        from = f;
+        within = omega (arith, b .1, length-drop at s);
+        ahead =
             advanced-go r (drop at s) r' (at' - at) e
-            ∙ ap (λ (v : List ℕ). past (at' - at) (advanced next r' v)) (rw d at (drop-drop (at' - at) at s)) }
+            ∙ ap (λ (v : List ℕ). past (at' - at) (advanced next r' v)) (rw d at (drop-drop (at' - at) at s));
+      }
 
   -- two ways, one behind the other
   pub reached-on : {r r' r'' : R} {s : List ℕ} {at at' at'' : ℕ} → Reached next r s at r' at' → Reached next r' s at' r'' at'' → Reached next r s at r'' at''
-  reached-on {r'' = r''} {s = s} {at = at} {at' = at'} {at'' = at''} p q = record
-    { from = omega (arith, p .from, q .from)
-    ; within = q .within
-    ; ahead =
+  reached-on {r'' = r''} {s = s} {at = at} {at' = at'} {at'' = at''} p q = record {
+    from = omega (arith, p .from, q .from);
+    within = q .within;
+    ahead =
         p .ahead
         ∙ ap (past (at' - at)) (q .ahead)
-        ∙ past-past (at' - at) (at'' - at') (at'' - at) (advanced next r'' (drop at'' s)) (omega (arith, p .from, q .from)) }
+        ∙ past-past (at' - at) (at'' - at') (at'' - at) (advanced next r'' (drop at'' s)) (omega (arith, p .from, q .from));
+  }
 
   -- where a machine does not go on, that is how far it goes
   stops-by : (r : R) (s : List ℕ) (x : Next R E H) → next r s ≡ x → goesOn x ≡ false → advanced next r s ≡ record { state = r; used = 0; next = x }

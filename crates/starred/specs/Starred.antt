@@ -7,6 +7,9 @@ use lib.IntN.{pos}
 use lib.ListN.{getD, set}
 use lib.Ieee.{Float, nan, inf, fin, binary64, ofBits, toBits}
 use Rattle.fmath.specs.Root.{rootOf}
+use Rattle.report.specs.Margin.{marginOf}
+use Rattle.report.specs.Lines.{marginText}
+use Rattle.text.specs.Ascii.{ascii}
 use Rattle.lictor_core.specs.declared.ack.AckDecision.{AckDecision}
 use Rattle.lictor_core.specs.declared.ack.AckDecision.the-variants.{Resume, Abort, Retune}
 use Rattle.lictor_core.specs.declared.ack.MaybeAck.{MaybeAck}
@@ -35,75 +38,80 @@ one = fin false 1 (pos 0)
 -- The limits that rows name: the clamp limit, the brake limit B and the handoff limit E. The others are out of the way: one hit is predictive and none comes,
 -- the streak's limit is far, standstill is confirmed at once, H is 5, and no tick may be missed.
 unfoldable pub limits : ℕ → ℕ → ℕ → Hysteresis
-limits clamps b e = record
-  { k = 1
-  ; «warn_margin» = zeroFloat
-  ; «clear_ticks» = 9
-  ; «clamp_streak_to_brake» = 255
-  ; «max_clamps_per_episode» = clamps
-  ; «stop_confirm_ticks» = 1
-  ; «v_stop_eps» = zeroFloat
-  ; «brake_timeout_ticks» = b
-  ; «rearm_hold» = 5
-  ; «max_rearms» = 1
-  ; «escalate_after_hold_ticks» = 5
-  ; «handoff_timeout_ticks» = e
-  ; «watchdog_ticks» = 0 }
+limits clamps b e = record {
+  k = 1;
+  «warn_margin» = zeroFloat;
+  «clear_ticks» = 9;
+  «clamp_streak_to_brake» = 255;
+  «max_clamps_per_episode» = clamps;
+  «stop_confirm_ticks» = 1;
+  «v_stop_eps» = zeroFloat;
+  «brake_timeout_ticks» = b;
+  «rearm_hold» = 5;
+  «max_rearms» = 1;
+  «escalate_after_hold_ticks» = 5;
+  «handoff_timeout_ticks» = e;
+  «watchdog_ticks» = 0;
+}
 
 -- Enforce, EePosition, clamping on, AckOnly, one component
 unfoldable pub settings : Hysteresis → Settings
-settings h = record
-  { mode = 1
-  ; kind = 0
-  ; clamp = 1
-  ; rearm = 1
-  ; dim = 1
-  ; «pos_dim» = 1
-  ; horizon = 1
-  ; exec = 1
-  ; dt = one
-  ; «inv_dt» = one
-  ; «a_max» = one
-  ; «box_lo» = zeros 8
-  ; «box_hi» = zeros 8
-  ; hyst = h
-  ; «window_mask» = 1
-  ; «tier0_enabled» = 63
-  ; calib = record { mask = 0; tau = zeroFloat } }
+settings h = record {
+  mode = 1;
+  kind = 0;
+  clamp = 1;
+  rearm = 1;
+  dim = 1;
+  «pos_dim» = 1;
+  horizon = 1;
+  exec = 1;
+  dt = one;
+  «inv_dt» = one;
+  «a_max» = one;
+  «box_lo» = zeros 8;
+  «box_hi» = zeros 8;
+  hyst = h;
+  «window_mask» = 1;
+  «tier0_enabled» = 63;
+  calib = record { mask = 0; tau = zeroFloat };
+}
 
 -- after the reset, the control group in the given state and with the given count of clamps, and a chunk taken
 unfoldable pub started : FuseState → ℕ → FuseRt
-started s n = record
-  { control = record
-    { window = resetOf newOf .control .window
-    ; state = s
-    ; hold = resetOf newOf .control .hold
-    ; «clean_run» = 0
-    ; «clamp_streak» = 0
-    ; clamps = n
-    ; «brake_ticks» = 0
-    ; «stopped_ticks» = 0
-    ; «held_ticks» = 0
-    ; «held_clean» = 0
-    ; «escalated_ticks» = 0
-    ; rearms = 0
-    ; «handoff_seq» = 0
-    ; «handoff_pending» = false
-    ; «last_nonce» = resetOf newOf .control .«last_nonce» }
-  ; motion = resetOf newOf .motion
-  ; clock = record { filled = true; seq = 0; «last_t» = 0; «next_chunk_seq» = 1; «chunk_ok_this_tick» = false }
-  ; tally = resetOf newOf .tally }
+started s n = record {
+  control = record {
+    window = resetOf newOf .control .window;
+    state = s;
+    hold = resetOf newOf .control .hold;
+    «clean_run» = 0;
+    «clamp_streak» = 0;
+    clamps = n;
+    «brake_ticks» = 0;
+    «stopped_ticks» = 0;
+    «held_ticks» = 0;
+    «held_clean» = 0;
+    «escalated_ticks» = 0;
+    rearms = 0;
+    «handoff_seq» = 0;
+    «handoff_pending» = false;
+    «last_nonce» = resetOf newOf .control .«last_nonce»;
+  };
+  motion = resetOf newOf .motion;
+  clock = record { filled = true; seq = 0; «last_t» = 0; «next_chunk_seq» = 1; «chunk_ok_this_tick» = false };
+  tally = resetOf newOf .tally;
+}
 
 -- an outcome with these trips, feasible, and no score
 unfoldable pub outcome : ℕ → Outcome
-outcome trips = record
-  { trips = trips
-  ; «clamped_dims» = 0
-  ; feasible = true
-  ; margin = zeroFloat
-  ; scores = record { z = zeros 12; s = inf true; valid = 0; fired = 0 }
-  ; policy = zeros 8
-  ; clamped = zeros 8 }
+outcome trips = record {
+  trips = trips;
+  «clamped_dims» = 0;
+  feasible = true;
+  margin = zeroFloat;
+  scores = record { z = zeros 12; s = inf true; valid = 0; fired = 0 };
+  policy = zeros 8;
+  clamped = zeros 8;
+}
 
 -- a tick at t, after `missed` ticks, with this acknowledgement
 unfoldable pub input : ℕ → ℕ → MaybeAck → TickInput
@@ -179,4 +187,7 @@ starred =
     ∷ ending (tick (limits 2 5 5) (started Armed 0) 0 0 NoAck 896) is (7 ∷ 896 ∷ 17 ∷ [])
     -- the root of 2.25 is 1.5, by their bits
     ∷ (toBits binary64 (rootOf (ofBits binary64 0x4002_0000_0000_0000)) ∷ []) is (0x3ff8_0000_0000_0000 ∷ [])
+    -- margin 0.0625 prints 63, and -0.0625 prints -63
+    ∷ marginText (marginOf (ofBits binary64 0x3fb0_0000_0000_0000)) is ascii "63"
+    ∷ marginText (marginOf (ofBits binary64 0xbfb0_0000_0000_0000)) is ascii "-63"
     ∷ []

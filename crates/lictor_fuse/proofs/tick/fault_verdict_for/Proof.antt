@@ -1,4 +1,3 @@
-
 use borrow.Author.Needs.{needs}
 use Rattle.lictor_fuse.proofs.tick.fault_verdict_for.Statement.{statement}
 use Rattle.lictor_fuse.proofs.tick.fault_verdict_for.Tie as tie

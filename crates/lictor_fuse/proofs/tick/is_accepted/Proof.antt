@@ -1,4 +1,3 @@
-
 use borrow.Author.Needs.{needs}
 use Rattle.lictor_fuse.proofs.tick.is_accepted.Statement.{statement}
 use Rattle.lictor_fuse.proofs.tick.is_accepted.Tie as tie

@@ -1,4 +1,3 @@
-
 use borrow.Author.Needs.{needs}
 use Rattle.lictor_fuse.proofs.tick.record_delivery.Statement.{statement}
 use Rattle.lictor_fuse.proofs.tick.record_delivery.Tie as tie

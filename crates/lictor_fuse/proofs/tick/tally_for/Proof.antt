@@ -1,4 +1,3 @@
-
 use borrow.Author.Needs.{needs}
 use Rattle.lictor_fuse.proofs.tick.tally_for.Statement.{statement}
 use Rattle.lictor_fuse.proofs.tick.tally_for.Tie as tie

@@ -1,0 +1,11 @@
+-- The proofs of the claims, layer by layer.
+pub mod Runs
+pub mod Law
+pub mod Rows
+pub mod Tick
+pub mod Demand3
+pub mod Flag
+pub mod ClockEnd
+pub mod Tallies
+pub mod Limit
+pub mod Counters

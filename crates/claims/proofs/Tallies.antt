@@ -1,0 +1,89 @@
+-- The tally and the ticks since the reset: the proofs of specs/Tallies.
+use mathlib.Core.Path.{_≡_, refl, _∙_, ap, sym}
+use mathlib.Core.Bool.{Bool, true, false, cond}
+use mathlib.Core.List.{List, [], _∷_}
+use Prim.Native.Nat.{_+_, _^_, _<_}
+use native.Mathlib.Omega.{arith}
+use lib.ListN.{length}
+use Rattle.lictor_core.specs.declared.fuse.FuseRt.{FuseRt}
+use Rattle.lictor_core.specs.declared.state.FuseState.the-variants as S
+use Rattle.lictor_core.specs.declared.verdict.SafetyVerdict.{SafetyVerdict}
+use Rattle.lictor_core.specs.Initial.{resetOf}
+use Rattle.lictor_core.specs.Settings.{configOf}
+use Rattle.lictor_stages.specs.Judge.{judgeOf}
+use Rattle.lictor_stages.specs.Verdict.{verdictOf, faultVerdict, eventsOf}
+use Rattle.lictor_tally.specs.History as H
+use Rattle.lictor_tally.specs.History.{Item, recorded, tallyFrom, tallyOf}
+use Rattle.lictor_tally.proofs.History.{history}
+use Rattle.lictor_fuse.specs.declared.tick.Decided.{Decided}
+use Rattle.lictor_fuse.specs.declared.tick.Ticked.{Ticked}
+use Rattle.lictor_fuse.specs.Tick.{isAccepted, chunkTally, closedOf, closeClean, cleanTick, closeFault, faultTick, givenOf}
+use Rattle.claims.specs.Runs.{Step, silent, event, andThen}
+use Rattle.claims.specs.Calls.{Call, answerOf, tripsOf, after}
+use Rattle.claims.specs.Tallies.{itemBy, itemOf, historyFrom, verdictsFrom, number, endedIn, endedNominal, TalliesTold}
+use Rattle.claims.proofs.Tick.{by-step, by-guard, decided}
+
+-- a tick leaves the tally with its item recorded
+takes-in : (r : FuseRt) (c : Call) → decided r c .rt .tally ≡ recorded (r .tally) (itemOf r c (givenOf (decided r c)))
+unfolding givenOf recorded eventsOf cleanTick closeClean faultTick closeFault closedOf verdictOf faultVerdict chunkTally judgeOf tripsOf configOf
+takes-in r c = by-guard (λ b (d : Decided). d .rt .tally ≡ recorded (r .tally) (itemBy b r c (d .rt) (d .verdict))) r c (λ h. refl) (λ h. refl)
+
+-- so a list of calls leaves the tally of its history
+tally-after : (r : FuseRt) (cs : List Call) → after r cs .tally ≡ tallyFrom (r .tally) (historyFrom r cs)
+tally-after r [] = refl
+tally-after r (c ∷ cs) =
+    by-step itemOf (λ r′ (s : Step FuseRt Item). after r′ cs .tally ≡ tallyFrom (r .tally) (andThen s (λ (r″ : FuseRt). historyFrom r″ cs))) r c
+    (λ h. tally-after (decided r c .rt) cs ∙ ap (λ t. tallyFrom t (historyFrom (decided r c .rt) cs)) (takes-in r c)) (λ h. tally-after r cs)
+
+-- the verdicts of the history are the list of verdicts
+module _ (p : SafetyVerdict → Bool) where
+  abbrev inItem : Item → Bool
+  inItem x = p (x .verdict)
+
+  one-more : (b : Bool) (r : FuseRt) (c : Call) (a : Ticked) (cs : List Call) → H.number inItem (historyFrom (a .rt) cs) ≡ number p (verdictsFrom (a .rt) cs)
+      → H.number inItem (andThen (cond b (event (itemOf r c a) (a .rt)) (silent (a .rt))) (λ r′. historyFrom r′ cs))
+      ≡ number p (andThen (cond b (event (a .verdict) (a .rt)) (silent (a .rt))) (λ r′. verdictsFrom r′ cs))
+  one-more true r c a cs e = ap (λ n. cond (p (a .verdict)) 1 0 + n) e
+  one-more false r c a cs e = e
+
+  same-number : (r : FuseRt) (cs : List Call) → H.number inItem (historyFrom r cs) ≡ number p (verdictsFrom r cs)
+  same-number r [] = refl
+  same-number r (c ∷ cs) = one-more (isAccepted (answerOf r c .check)) r c (answerOf r c) cs (same-number (answerOf r c .rt) cs)
+
+every-one : (l : List SafetyVerdict) → number (λ v. true) l ≡ length l
+every-one [] = refl
+every-one (v ∷ l) = omega (arith, every-one l)
+
+every-item : (h : List Item) → H.number (λ x. true) h ≡ length h
+every-item [] = refl
+every-item (x ∷ h) = omega (arith, every-item h)
+
+same-length : (r : FuseRt) (cs : List Call) → length (historyFrom r cs) ≡ length (verdictsFrom r cs)
+same-length r cs = sym (every-item (historyFrom r cs)) ∙ same-number (λ v. true) r cs ∙ every-one (verdictsFrom r cs)
+
+-- ---- the claim
+
+pub tally-told : TalliesTold
+unfolding resetOf
+tally-told r cs =
+    let z = resetOf r in
+    let e : after z cs .tally ≡ tallyOf (historyFrom z cs) = tally-after z cs in
+    let l = history (historyFrom z cs) in
+    let n = same-length z cs in
+    record {
+      whole = e;
+      states = λ few.
+          let f : length (historyFrom z cs) < 2 ^ 32 = omega arith in
+          rw e (record {
+            ticks = l .all f ∙ n;
+            sum = l .sum f;
+            nominal = l .exact f H.nominal ∙ same-number endedNominal z cs;
+            watching = l .exact f H.watching ∙ same-number (endedIn S.Watching) z cs;
+            clamped = l .exact f H.clamped ∙ same-number (endedIn S.Clamped) z cs;
+            braking = l .exact f H.braking ∙ same-number (endedIn S.Braking) z cs;
+            held = l .exact f H.held ∙ same-number (endedIn S.Held) z cs;
+            escalated = l .exact f H.escalated ∙ same-number (endedIn S.Escalated) z cs;
+            fault = l .exact f H.fault ∙ same-number (endedIn S.Fault) z cs;
+            terminated = l .exact f H.terminated ∙ same-number (endedIn S.Terminated) z cs;
+          });
+    }

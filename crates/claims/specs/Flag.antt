@@ -1,0 +1,11 @@
+-- The verdict's flag `ack_consumed` says of every tick whether it consumes an acknowledgement, as the claim on acknowledgements has it.
+-- Proved in proofs/Flag, `flag-tells`.
+use mathlib.Core.Path.{_≡_}
+use mathlib.Core.Bool.{not}
+use lib.Dec.{T}
+use Rattle.lictor_core.specs.declared.fuse.FuseRt.{FuseRt}
+use Rattle.claims.specs.Calls.{Call, accepted, answerOf, tookOf}
+use Rattle.claims.specs.Demand3.{none?}
+
+abbrev pub FlagTells : Type 0
+FlagTells = (r : FuseRt) (c : Call) → T (accepted c) → answerOf r c .verdict .«ack_consumed» ≡ not (none? (tookOf r c))

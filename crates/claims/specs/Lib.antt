@@ -1,0 +1,9 @@
+-- The claims, and the words that they are written with.
+pub mod Runs
+pub mod Calls
+pub mod Demand3
+pub mod Flag
+pub mod ClockEnd
+pub mod Tallies
+pub mod Limit
+pub mod Counters

@@ -1,0 +1,90 @@
+-- The tally and the ticks since the reset: what the run state's tally holds after any list of calls (01-scope.md, Modules 4).
+-- Proved in proofs/Tallies, `tally-told`.
+use mathlib.Core.Path.{_≡_}
+use mathlib.Core.Bool.{Bool, cond, _&&_}
+use mathlib.Core.List.{List}
+use Prim.Native.Nat.{ℕ, _+_, _^_, _<_}
+use lib.Dec.{eqb}
+use lib.ListN.{length}
+use Rattle.lictor_core.specs.declared.fuse.FuseRt.{FuseRt}
+use Rattle.lictor_core.specs.declared.state.FuseState.{FuseState}
+use Rattle.lictor_core.specs.declared.state.FuseState.the-variants as S
+use Rattle.lictor_core.specs.declared.tally.Tally.{Tally}
+use Rattle.lictor_core.specs.declared.verdict.SafetyVerdict.{SafetyVerdict}
+use Rattle.lictor_core.specs.Codes.{isState}
+use Rattle.lictor_core.specs.Initial.{resetOf}
+use Rattle.lictor_guard.specs.Guard.{deliveredOf}
+use Rattle.lictor_stages.specs.Verdict.{eventsOf, noEvents, rejectedOf}
+use Rattle.lictor_table.specs.declared.Turn.{Turn}
+use Rattle.lictor_tally.specs.History.{Item, tallyOf}
+use Rattle.lictor_tally.specs.Tally.{isNominal}
+use Rattle.lictor_fuse.specs.declared.tick.Ticked.{Ticked}
+use Rattle.claims.specs.Runs.{total, trace}
+use Rattle.claims.specs.Calls.{Call, guardBits, tripsOf, stepOf, after}
+
+-- ---- what the tally takes in of a tick
+
+-- what the state machine answered, as far as the events go by it
+abbrev pub turnOf : FuseRt → SafetyVerdict → Turn
+turnOf r v = record { rt = r .control; state = v .state; extra = 0; reason = v .reason }
+
+-- a call on r, clean or not, that leaves r′ and gives v: its verdict; of a clean tick its chunk, if it brings one, and the events, which a fault tick has not
+abbrev pub itemBy : Bool → FuseRt → Call → FuseRt → SafetyVerdict → Item
+itemBy clean r c r′ v =
+    record {
+      chunk = clean && deliveredOf (c .input .chunk);
+      rejected = rejectedOf (tripsOf c);
+      verdict = v;
+      events = cond clean (eventsOf (c .settings .calib) (c .outcome .scores) (r .control) (turnOf r′ v)) noEvents;
+    }
+
+abbrev pub itemOf : FuseRt → Call → Ticked → Item
+itemOf r c a = itemBy (eqb (guardBits r c) 0) r c (a .rt) (a .verdict)
+
+abbrev pub verdictIn : FuseRt → Call → Ticked → SafetyVerdict
+verdictIn r c a = a .verdict
+
+-- ---- of a list of calls from the run state r
+
+-- what the tally took in, tick by tick, and the verdicts
+abbrev pub historyFrom : FuseRt → List Call → List Item
+historyFrom r cs = trace (stepOf itemOf) r cs
+
+abbrev pub verdictsFrom : FuseRt → List Call → List SafetyVerdict
+verdictsFrom r cs = trace (stepOf verdictIn) r cs
+
+-- ---- the claim
+
+-- how many of the verdicts have the property
+abbrev pub number : (SafetyVerdict → Bool) → List SafetyVerdict → ℕ
+number p l = total (λ v. cond (p v) 1 0) l
+
+abbrev pub endedIn : FuseState → SafetyVerdict → Bool
+endedIn q v = isState (v .state) q
+
+-- in Idle or Armed
+abbrev pub endedNominal : SafetyVerdict → Bool
+endedNominal v = isNominal (v .state)
+
+-- every tick is counted, by its verdict's state
+pub record StateCounts (t : Tally) (l : List SafetyVerdict) : Type 0 where
+  pub ticks : t .ticks ≡ length l
+  pub sum : t .nominal + t .watching + t .clamped + t .braking + t .held + t .escalated + t .fault + t .terminated ≡ t .ticks
+  pub nominal : t .nominal ≡ number endedNominal l
+  pub watching : t .watching ≡ number (endedIn S.Watching) l
+  pub clamped : t .clamped ≡ number (endedIn S.Clamped) l
+  pub braking : t .braking ≡ number (endedIn S.Braking) l
+  pub held : t .held ≡ number (endedIn S.Held) l
+  pub escalated : t .escalated ≡ number (endedIn S.Escalated) l
+  pub fault : t .fault ≡ number (endedIn S.Fault) l
+  pub terminated : t .terminated ≡ number (endedIn S.Terminated) l
+
+pub record TallyTold (r : FuseRt) (cs : List Call) : Type 0 where
+  -- of whatever length: the tally is that of the history, every field (lictor_tally, specs/History, says of each what it holds, at its ceiling too)
+  pub whole : after r cs .tally ≡ tallyOf (historyFrom r cs)
+  -- below 2^32 ticks
+  pub states : length (verdictsFrom r cs) < 2 ^ 32 → StateCounts (after r cs .tally) (verdictsFrom r cs)
+
+-- after any calls from a reset on, whatever their settings, refused ones among them
+abbrev pub TalliesTold : Type 0
+TalliesTold = (r : FuseRt) (cs : List Call) → TallyTold (resetOf r) cs

@@ -1,0 +1,23 @@
+// Claims about whole lists of calls: demand 3, the tally and its history, the end of the clock, the counters. The statements are in specs/, their proofs in
+// proofs/; they speak of the definitions that `tick` and `reset` of lictor_fuse promise, so the only code here is what ties their sizes to the types.
+ghost use mathlib.Core.Path.{_≡_};
+ghost use mathlib.Core.Bool.{true};
+ghost use Prim.Native.Nat.{_≤_};
+ghost use Rattle.claims.specs.ClockEnd.{lastTime};
+ghost use Rattle.claims.specs.Demand3.{Sized};
+use lictor_core::envelope::Settings;
+use lictor_core::fuse::TickInput;
+
+// Whatever settings the code holds, their limits have the sizes that demand 3 asks for.
+pub fn sized(s: Settings) -> bool
+    ensures { λ r. ⌜ (r ≡ true) × Sized s ⌝ }
+{
+    true
+}
+
+// Whatever a tick brings, its t is none after the clock's last.
+pub fn in_time(inp: TickInput) -> bool
+    ensures { λ r. ⌜ (r ≡ true) × (inp .t ≤ lastTime) ⌝ }
+{
+    true
+}

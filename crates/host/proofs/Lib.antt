@@ -1,0 +1,6 @@
+pub mod Call
+pub mod Data
+pub mod Lent
+pub mod Refused
+pub mod Thin
+pub mod Types

@@ -1,0 +1,21 @@
+-- A call whose settings are refused: what the definition of a tick gives for it.
+use mathlib.Core.Path.{_≡_, ap}
+use mathlib.Core.Bool.{Bool, false, cond}
+use mathlib.Core.List.{List}
+use lib.Ieee.{Float}
+use Rattle.lictor_core.specs.declared.envelope.Settings.{Settings}
+use Rattle.lictor_core.specs.declared.fuse.FuseRt.{FuseRt}
+use Rattle.lictor_core.specs.declared.fuse.TickInput.{TickInput}
+use Rattle.lictor_core.specs.declared.outcome.Outcome.{Outcome}
+use Rattle.lictor_core.specs.Settings.{checkOf, checkNumber}
+use Rattle.lictor_fuse.specs.declared.tick.Ticked.{Ticked}
+use Rattle.lictor_fuse.specs.Tick.{isAccepted, acceptedTick, refusedTick, noVerdict, tickBy, tickOf}
+use Rattle.host.specs.Host.{answerOf, numberOf}
+
+-- the answer has the number of the cause and no verdict, and the run state is the one that came in
+pub refused-call : (s : Settings) (rt : FuseRt) (inp : TickInput) (out : Outcome) (pos vel aux ext chunk : List Float) → isAccepted (checkOf s) ≡ false
+    → (numberOf (answerOf (tickOf s rt inp out pos vel aux ext chunk)) ≡ checkNumber (checkOf s)) × (tickOf s rt inp out pos vel aux ext chunk .verdict ≡ noVerdict) × (tickOf s rt inp out pos vel aux ext chunk .rt ≡ rt)
+unfolding tickOf tickBy refusedTick
+refused-call s rt inp out pos vel aux ext chunk bad =
+    let e : tickOf s rt inp out pos vel aux ext chunk ≡ refusedTick (checkOf s) rt = ap (λ (b : Bool). cond b (acceptedTick s rt inp out pos vel aux ext chunk) (refusedTick (checkOf s) rt)) bad in
+    (ap (λ (t : Ticked). numberOf (answerOf t)) e, ap (λ (t : Ticked). t .verdict) e, ap (λ (t : Ticked). t .rt) e)

@@ -1,0 +1,13 @@
+-- What a host's call answers.
+use Prim.Native.Nat.{ℕ}
+use Rattle.lictor_core.specs.Settings.{checkNumber}
+use Rattle.lictor_fuse.specs.declared.tick.Ticked.{Ticked}
+use Rattle.host.specs.declared.Answer.{Answer}
+
+-- all that the by-value core gives but the run state, which is stored where the host lent it
+abbrev pub answerOf : Ticked → Answer
+answerOf t = record { check = t .check; verdict = t .verdict }
+
+-- the number of an answer in the refusal table (01-scope.md, Journal): 1 to 4, or 0 for a tick that was done
+abbrev pub numberOf : Answer → ℕ
+numberOf a = checkNumber (a .check)

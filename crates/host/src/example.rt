@@ -1,0 +1,55 @@
+// A caller with plain parameters: a run state that is a local is lent for a tick. Whoever calls `once` has a function by value, and its proof needs no walk.
+ghost use mathlib.Core.Path.{_≡_};
+ghost use Rattle.lictor_fuse.specs.Tick.{tickOf};
+ghost use Rattle.host.specs.Example.{threeOf};
+use lictor_core::envelope::Settings;
+use lictor_core::fuse::FuseRt;
+use lictor_core::fuse::TickInput;
+use lictor_core::outcome::Outcome;
+use lictor_fuse::tick::Ticked;
+
+// One tick by value, through the lent one: the two agree.
+pub fn once(
+    rt: FuseRt,
+    s: Settings,
+    inp: TickInput,
+    out: Outcome,
+    pos: &[f64],
+    vel: &[f64],
+    aux: &[f64],
+    ext: &[f64],
+    chunk: &[f64],
+) -> Ticked
+    ensures { λ r. ⌜ r ≡ tickOf s rt inp out (now (pos .entry)) (now (vel .entry)) (now (aux .entry)) (now (ext .entry)) (now (chunk .entry)) ⌝ }
+{
+    let mut lent = rt;
+    let a = crate::tick(&mut lent, s, inp, out, pos, vel, aux, ext, chunk);
+    Ticked {
+        check: a.check,
+        rt: lent,
+        verdict: a.verdict,
+    }
+}
+
+// Three ticks in a row, each on the run state that the one before left.
+pub fn three(
+    rt: FuseRt,
+    s: Settings,
+    a: TickInput,
+    b: TickInput,
+    c: TickInput,
+    out: Outcome,
+    pos: &[f64],
+    vel: &[f64],
+    aux: &[f64],
+    ext: &[f64],
+    chunk: &[f64],
+) -> Ticked
+    ensures { λ r. ⌜ r ≡ threeOf s rt a b c out (now (pos .entry)) (now (vel .entry)) (now (aux .entry)) (now (ext .entry)) (now (chunk .entry)) ⌝ }
+{
+    let x = once(rt, s, a, out, pos, vel, aux, ext, chunk);
+    let y = x.rt;
+    let z = once(y, s, b, out, pos, vel, aux, ext, chunk);
+    let w = z.rt;
+    once(w, s, c, out, pos, vel, aux, ext, chunk)
+}

@@ -1,0 +1,3 @@
+// What `fuse` prints: the margin in millimetres, the lines.
+pub mod lines;
+pub mod margin;

@@ -1,0 +1,239 @@
+//! Compares programs with the Rust reference on generated journals.
+//!
+//!     compare [--fuse COMMAND] [--trace COMMAND] [options] [JOURNAL ..]
+//!
+//! COMMAND is a path with arguments after blanks. With files, those journals are compared; else generated ones:
+//!     --seeds N      so many seeds (20)
+//!     --first S      from this one on (1)
+//!     --profile P    this profile alone (may be repeated)
+//!     --each         only the profiles that are run with every seed
+//!     --once         only those that are run with the first one alone
+//!     --failures D   folder for journals that show a difference (target/differential/failures)
+//!     --quick        stop at the first difference, do not shrink
+//!     --all          print every point of the coverage
+//!     --write D      write the journals to a folder instead of comparing
+//!     --show         print the files in words instead of comparing
+//!     --list         list the profiles
+//! The exit status is 0 if nothing differs, 1 if something does, 2 for anything else.
+
+mod shrink;
+mod subject;
+
+use std::{
+    fs, io,
+    path::PathBuf,
+    process::ExitCode,
+    time::{Duration, Instant},
+};
+
+use coverage::Coverage;
+use generate::profiles::{named, Often, Profile, PROFILES};
+use oracle::{answer::Program, journal::Unobserved, records::describe};
+use subject::{Difference, Subject};
+
+struct Options {
+    subjects: Vec<Subject>,
+    seeds: u64,
+    first: u64,
+    profiles: Vec<&'static Profile>,
+    each: bool,
+    once: bool,
+    failures: PathBuf,
+    quick: bool,
+    all: bool,
+    write: Option<PathBuf>,
+    show: bool,
+    files: Vec<PathBuf>,
+}
+
+fn options() -> Result<Options, String> {
+    let mut given = Options {
+        subjects: Vec::new(),
+        seeds: 20,
+        first: 1,
+        profiles: Vec::new(),
+        each: true,
+        once: true,
+        failures: PathBuf::from("target/differential/failures"),
+        quick: false,
+        all: false,
+        write: None,
+        show: false,
+        files: Vec::new(),
+    };
+    let mut args = std::env::args().skip(1);
+    while let Some(arg) = args.next() {
+        let mut value = || args.next().ok_or(format!("{arg} needs a value"));
+        let number = |text: String| text.parse().map_err(|_| format!("{text} is no number"));
+        match arg.as_str() {
+            "--fuse" => given.subjects.push(subject(Program::Fuse, &value()?)),
+            "--trace" => given.subjects.push(subject(Program::Trace, &value()?)),
+            "--seeds" => given.seeds = number(value()?)?,
+            "--first" => given.first = number(value()?)?,
+            "--profile" => {
+                let name = value()?;
+                given.profiles.push(named(&name).ok_or(format!("no profile {name}"))?);
+            }
+            "--each" => given.once = false,
+            "--once" => given.each = false,
+            "--failures" => given.failures = value()?.into(),
+            "--quick" => given.quick = true,
+            "--all" => given.all = true,
+            "--write" => given.write = Some(value()?.into()),
+            "--show" => given.show = true,
+            "--list" => {
+                PROFILES.iter().for_each(|p| println!("{:16} {}", p.name, p.what));
+                std::process::exit(0);
+            }
+            other if other.starts_with("--") => return Err(format!("unknown option {other}")),
+            file => given.files.push(file.into()),
+        }
+    }
+    if given.profiles.is_empty() {
+        given.profiles = PROFILES.iter().collect();
+    }
+    if given.subjects.is_empty() && given.write.is_none() && !given.show {
+        return Err("nothing to compare: give --fuse or --trace".into());
+    }
+    Ok(given)
+}
+
+fn subject(program: Program, command: &str) -> Subject {
+    Subject { program, command: command.split_whitespace().map(String::from).collect() }
+}
+
+fn main() -> ExitCode {
+    let given = match options() {
+        Ok(given) => given,
+        Err(what) => {
+            eprintln!("compare: {what}");
+            return ExitCode::from(2);
+        }
+    };
+    let mut run = Run { given, coverage: Coverage::new(), bytes: 0, differences: 0, started: Instant::now() };
+    match run.everything() {
+        Ok(()) if run.differences == 0 => ExitCode::SUCCESS,
+        Ok(()) => ExitCode::from(1),
+        Err(what) => {
+            eprintln!("compare: {what}");
+            ExitCode::from(2)
+        }
+    }
+}
+
+struct Run {
+    given: Options,
+    coverage: Coverage,
+    bytes: u64,
+    differences: u64,
+    started: Instant,
+}
+
+impl Run {
+    fn everything(&mut self) -> io::Result<()> {
+        if self.given.show {
+            for file in &self.given.files {
+                print!("{}", describe(&fs::read(file)?));
+            }
+            return Ok(());
+        }
+        if self.given.files.is_empty() {
+            self.generated()?;
+        }
+        for file in std::mem::take(&mut self.given.files) {
+            let name = file.file_stem().unwrap_or_default().to_string_lossy().into_owned();
+            self.journal(&name, &fs::read(&file)?)?;
+        }
+        if self.given.write.is_none() {
+            self.report()?;
+        }
+        Ok(())
+    }
+
+    fn generated(&mut self) -> io::Result<()> {
+        for seed in self.given.first..self.given.first + self.given.seeds {
+            for profile in self.given.profiles.clone() {
+                let due = match profile.often {
+                    Often::EachSeed => self.given.each,
+                    Often::Once => self.given.once && seed == self.given.first,
+                };
+                if !due {
+                    continue;
+                }
+                for (i, journal) in profile.journals(seed).iter().enumerate() {
+                    let name = format!("{}-{seed}-{i}", profile.name);
+                    self.journal(&name, journal)?;
+                    if self.given.quick && self.differences > 0 {
+                        return Ok(());
+                    }
+                }
+            }
+        }
+        Ok(())
+    }
+
+    fn journal(&mut self, name: &str, journal: &[u8]) -> io::Result<()> {
+        if let Some(folder) = &self.given.write {
+            fs::create_dir_all(folder)?;
+            return fs::write(folder.join(format!("{name}.journal")), journal);
+        }
+        self.bytes += journal.len() as u64;
+        self.coverage.begin();
+        for (i, subject) in self.given.subjects.iter().enumerate() {
+            // The coverage is counted once for each journal.
+            let found = if i == 0 {
+                subject.compare(journal, &mut self.coverage)?
+            } else {
+                subject.compare(journal, &mut Unobserved)?
+            };
+            if let Some(difference) = found {
+                self.differences += 1;
+                self.show(name, subject, journal, &difference)?;
+                break;
+            }
+        }
+        Ok(())
+    }
+
+    fn show(&self, name: &str, subject: &Subject, journal: &[u8], found: &Difference) -> io::Result<()> {
+        println!("DIFFERENCE {name} ({:?}, line {})", subject.program, found.line);
+        println!("  at       {}", found.tick);
+        println!("  expected {}", found.expected);
+        println!("  got      {}", found.got);
+        if self.given.quick {
+            return Ok(());
+        }
+        let small = shrink::shrink(journal, Duration::from_secs(40), |bytes| {
+            subject.compare(bytes, &mut Unobserved).is_ok_and(|found| found.is_some())
+        });
+        fs::create_dir_all(&self.given.failures)?;
+        let whole = self.given.failures.join(format!("{name}.journal"));
+        let shrunk = self.given.failures.join(format!("{name}.shrunk.journal"));
+        fs::write(&whole, journal)?;
+        fs::write(&shrunk, &small)?;
+        println!("  journal  {} ({} bytes)", whole.display(), journal.len());
+        println!("  shrunk   {} ({} bytes)", shrunk.display(), small.len());
+        if let Some(found) = subject.compare(&small, &mut Unobserved)? {
+            println!("  there    {}", found.tick);
+            println!("  expected {}", found.expected);
+            println!("  got      {}", found.got);
+        }
+        Ok(())
+    }
+
+    fn report(&self) -> io::Result<()> {
+        let seconds = self.started.elapsed().as_secs_f64();
+        self.coverage.print(&mut io::stdout().lock(), self.given.all)?;
+        self.coverage.missing().iter().for_each(|what| println!("missing: {what}"));
+        println!(
+            "{} ticks in {} journals of {} bytes, {} programs, {seconds:.1} s ({:.0} ticks/s), {} differences",
+            self.coverage.ticks,
+            self.coverage.journals,
+            self.bytes,
+            self.given.subjects.len(),
+            self.coverage.ticks as f64 / seconds,
+            self.differences,
+        );
+        Ok(())
+    }
+}

@@ -1,0 +1,168 @@
+//! Runs a program on a journal and compares what it prints with the reference, line by line.
+
+use std::{
+    io::{self, Read, Write},
+    process::{Command, Stdio},
+    sync::mpsc::{self, RecvTimeoutError},
+    thread,
+    time::Duration,
+};
+
+use oracle::{
+    answer::{Answer, Program},
+    journal::{Observer, Unobserved},
+};
+
+/// A program under comparison: what it should print, and its command with arguments.
+pub struct Subject {
+    pub program: Program,
+    pub command: Vec<String>,
+}
+
+/// The first line that is not as the reference has it.
+pub struct Difference {
+    pub line: usize,
+    /// the last `tick` line before it, or that line itself
+    pub tick: String,
+    pub expected: String,
+    pub got: String,
+}
+
+/// A program that writes nothing for so long is stopped.
+const PATIENCE: Duration = Duration::from_secs(60);
+
+impl Subject {
+    /// None if the program prints what the reference prints.
+    pub fn compare(&self, journal: &[u8], observer: &mut impl Observer) -> io::Result<Option<Difference>> {
+        let mut child = Command::new(&self.command[0])
+            .args(&self.command[1..])
+            .stdin(Stdio::piped())
+            .stdout(Stdio::piped())
+            .stderr(Stdio::null())
+            .spawn()
+            .map_err(|what| io::Error::new(what.kind(), format!("{}: {what}", self.command[0])))?;
+        let stdin = child.stdin.take().expect("piped");
+        let mut stdout = child.stdout.take().expect("piped");
+        let (alive, watch) = mpsc::channel();
+        thread::scope(|scope| {
+            scope.spawn(|| feed(stdin, journal));
+            let watcher = scope.spawn(move || {
+                let silent = loop {
+                    match watch.recv_timeout(PATIENCE) {
+                        Ok(()) => continue,
+                        Err(RecvTimeoutError::Timeout) => break true,
+                        Err(RecvTimeoutError::Disconnected) => break false,
+                    }
+                };
+                if silent {
+                    let _ = child.kill();
+                }
+                (silent, child)
+            });
+            let compared = self.read(&mut stdout, journal, observer, || alive.send(()).is_ok());
+            drop(stdout); // a program that still writes is told that nobody reads
+            drop(alive);
+            let (silent, mut child) = watcher.join().expect("the watcher does not panic");
+            let status = child.wait()?;
+            if silent {
+                return Ok(Some(self.ended("nothing for a minute, and was stopped".into())));
+            }
+            let found = compared?;
+            if found.is_none() && status.code().is_none() {
+                return Ok(Some(self.ended(format!("all lines, but ended with {status}"))));
+            }
+            Ok(found)
+        })
+    }
+
+    fn ended(&self, got: String) -> Difference {
+        Difference { line: 0, tick: String::new(), expected: "an ordinary end".into(), got }
+    }
+
+    /// Compares as the output comes in; neither side is held in memory.
+    fn read(
+        &self,
+        stdout: &mut impl Read,
+        journal: &[u8],
+        observer: &mut impl Observer,
+        alive: impl Fn() -> bool,
+    ) -> io::Result<Option<Difference>> {
+        let mut answer = Answer::new(self.program, journal);
+        let mut expected = Vec::new();
+        let mut at = 0;
+        let mut equal = 0;
+        let mut buffer = vec![0; 1 << 16];
+        loop {
+            let n = stdout.read(&mut buffer)?;
+            alive();
+            let mut got = &buffer[..n];
+            loop {
+                while at == expected.len() {
+                    expected.clear();
+                    at = 0;
+                    if !answer.step(&mut expected, observer) {
+                        break;
+                    }
+                }
+                if got.is_empty() {
+                    break;
+                }
+                let common = got.len().min(expected.len() - at);
+                if common == 0 || got[..common] != expected[at..at + common] {
+                    let same = (0..common).take_while(|i| got[*i] == expected[at + i]).count();
+                    return Ok(Some(self.locate(journal, equal + same, &got[same..])));
+                }
+                got = &got[common..];
+                at += common;
+                equal += common;
+            }
+            if n == 0 {
+                let all = at == expected.len();
+                return Ok(if all { None } else { Some(self.locate(journal, equal, b"")) });
+            }
+        }
+    }
+
+    /// The line at so many bytes into the reference's answer; `got` is what came instead of the rest.
+    fn locate(&self, journal: &[u8], equal: usize, got: &[u8]) -> Difference {
+        let mut text = Vec::new();
+        let mut answer = Answer::new(self.program, journal);
+        let mut dropped = 0;
+        let mut lines = 0;
+        while text.len() + dropped <= equal {
+            // Keep what one record prints: the line is in the last one.
+            dropped += text.len();
+            lines += text.iter().filter(|b| **b == b'\n').count();
+            text.clear();
+            if !answer.step(&mut text, &mut Unobserved) {
+                break;
+            }
+        }
+        let offset = equal - dropped;
+        let start = text[..offset].iter().rposition(|b| *b == b'\n').map_or(0, |i| i + 1);
+        let end = text[offset..].iter().position(|b| *b == b'\n').map_or(text.len(), |i| offset + i);
+        let got_end = got.iter().position(|b| *b == b'\n').unwrap_or(got.len());
+        let show = |bytes: &[u8]| bytes.escape_ascii().to_string();
+        let first = text.split(|b| *b == b'\n').next().unwrap_or(b"");
+        Difference {
+            line: lines + text[..start].iter().filter(|b| **b == b'\n').count() + 1,
+            tick: if first.starts_with(b"tick") { show(first) } else { String::new() },
+            expected: if end > start { show(&text[start..end]) } else { "nothing more".into() },
+            got: if got.is_empty() {
+                "nothing more".into()
+            } else {
+                show(&[&text[start..offset], &got[..got_end]].concat())
+            },
+        }
+    }
+}
+
+/// Writes the journal in parts of uneven length; a program that stops reading is left alone.
+fn feed(mut stdin: impl Write, journal: &[u8]) {
+    let part = if journal.len() < 1 << 16 { 997 } else { 1 << 16 };
+    for bytes in journal.chunks(part) {
+        if stdin.write_all(bytes).is_err() {
+            return;
+        }
+    }
+}
