@@ -9,10 +9,12 @@ use borrow.Author.Tests.{lt-ltb, le-ltb, leb-true}
 use lib.ListN.{length, take, length-take, getD}
 use lib.Seq.{take-append-le, take-take}
 use lib.Dec.{leb}
+use Rattle.bytes_le.specs.Little.{byteAt}
+use Rattle.lictor_core.specs.declared.fuse.TickInput.{TickInput}
 use Rattle.records.specs.declared.Record.{Record}
 use Rattle.records.specs.declared.Record.the-variants.{Settings, Reset, Ack, Head, Value, Outcome, Tick}
 use Rattle.records.specs.Kinds.{journalKinds, bodyLen}
-use Rattle.records.specs.Body.{recordOf}
+use Rattle.records.specs.Body.{recordOf, settingsOf}
 use Rattle.judge.specs.declared.Refusal.{Refusal}
 use Rattle.judge.specs.declared.Refusal.the-variants.{UnknownKind, CutBody}
 use Rattle.judge.specs.declared.Judged.{Judged}
@@ -23,9 +25,11 @@ use Rattle.judge.specs.Table.{isCut, judgedOf}
 use Rattle.judge.proofs.Exactly.{cut-only}
 use Rattle.judge.proofs.Framing.{judged-unknown, judged-cut, accepted-whole, whole-not-cut}
 use Rattle.reader.specs.declared.Look.the-variants as L
-use Rattle.reader.specs.Stream.{Next, wait, halt, takes, size, Machine, End, waiting, halted, settled}
-use Rattle.reader.specs.State.{State}
-use Rattle.reader.specs.Reading.{Instruction, lookAs, lookOf, onRecord, onLook, nextOf}
+use Rattle.reader.specs.Stream.{Next, wait, halt, tell, takes, size, Machine, End, waiting, halted, settled}
+use Rattle.reader.specs.declared.What.{What}
+use Rattle.reader.specs.declared.What.the-variants as W
+use Rattle.reader.specs.State.{State, settingsCame, emptied, inputOf}
+use Rattle.reader.specs.Reading.{Instruction, begin, restart, tick, lookAs, lookOf, callOf, withReader, onRecord, bodyOf, onLook, nextOf, whatOf}
 use Rattle.reader.proofs.Stream.{settled-still}
 
 abbrev Move : Type 0
@@ -240,3 +244,91 @@ module _ (st : State) (k : ℕ) (u : List ℕ) where
   -- and one that waits has a record that is cut
   pub waiting-judged : nextOf st (k ∷ u) ≡ wait → judged st k u ≡ Refused CutBody
   waiting-judged h = waiting-by (judged st k u) refl h
+
+-- ---- what an instruction is, by what the reader says of it
+
+record-begins : (st : State) (b : List ℕ) (n : ℕ) (x : Record) → whatOf (onRecord st b n x) ≡ W.Begins
+    → onRecord st b n x ≡ tell (withReader st (settingsCame (st .reader))) n (begin (settingsOf b))
+unfolding onRecord
+record-begins st b n Settings e = refl
+record-begins st b n Reset e = absurd (let z : _≡_ {A = ℕ} 0 1 = cc in omega arith)
+record-begins st b n (Ack a) e = absurd (let z : _≡_ {A = ℕ} 0 1 = cc in omega arith)
+record-begins st b n (Head h) e = absurd (let z : _≡_ {A = ℕ} 0 1 = cc in omega arith)
+record-begins st b n (Value c v) e = absurd (let z : _≡_ {A = ℕ} 0 1 = cc in omega arith)
+record-begins st b n Outcome e = absurd (let z : _≡_ {A = ℕ} 0 1 = cc in omega arith)
+record-begins st b n (Tick t) e = absurd (let z : _≡_ {A = ℕ} 0 1 = cc in omega arith)
+
+record-resets : (st : State) (b : List ℕ) (n : ℕ) (x : Record) → whatOf (onRecord st b n x) ≡ W.Resets
+    → onRecord st b n x ≡ tell (withReader st (emptied (st .reader))) n restart
+unfolding onRecord
+record-resets st b n Settings e = absurd (let z : _≡_ {A = ℕ} 0 1 = cc in omega arith)
+record-resets st b n Reset e = refl
+record-resets st b n (Ack a) e = absurd (let z : _≡_ {A = ℕ} 0 1 = cc in omega arith)
+record-resets st b n (Head h) e = absurd (let z : _≡_ {A = ℕ} 0 1 = cc in omega arith)
+record-resets st b n (Value c v) e = absurd (let z : _≡_ {A = ℕ} 0 1 = cc in omega arith)
+record-resets st b n Outcome e = absurd (let z : _≡_ {A = ℕ} 0 1 = cc in omega arith)
+record-resets st b n (Tick t) e = absurd (let z : _≡_ {A = ℕ} 0 1 = cc in omega arith)
+
+record-ticks : (st : State) (b : List ℕ) (n : ℕ) (x : Record) (i : TickInput) → whatOf (onRecord st b n x) ≡ W.Ticks i
+    → onRecord st b n x ≡ tell (withReader st (emptied (st .reader))) n (tick (callOf st i))
+unfolding onRecord callOf
+record-ticks st b n Settings i e = absurd (let z : _≡_ {A = ℕ} 0 1 = cc in omega arith)
+record-ticks st b n Reset i e = absurd (let z : _≡_ {A = ℕ} 0 1 = cc in omega arith)
+record-ticks st b n (Ack a) i e = absurd (let z : _≡_ {A = ℕ} 0 1 = cc in omega arith)
+record-ticks st b n (Head h) i e = absurd (let z : _≡_ {A = ℕ} 0 1 = cc in omega arith)
+record-ticks st b n (Value c v) i e = absurd (let z : _≡_ {A = ℕ} 0 1 = cc in omega arith)
+record-ticks st b n Outcome i e = absurd (let z : _≡_ {A = ℕ} 0 1 = cc in omega arith)
+record-ticks st b n (Tick t) i e =
+    let q : inputOf (st .reader .waiting) t ≡ i = cc in
+    ap (λ (x : TickInput). tell (withReader st (emptied (st .reader))) n (tick (callOf st x))) q
+
+-- these come from records that were accepted
+instructs : What → Bool
+instructs W.Waits = false
+instructs (W.Refuses r) = false
+instructs W.Begins = true
+instructs W.Resets = true
+instructs (W.Ticks i) = true
+
+refused-instructs : (r : Refusal) (t : Bool) → instructs (whatOf (cond t wait (halt r))) ≡ false
+unfolding instructs
+refused-instructs r true = refl
+refused-instructs r false = refl
+
+accepted-by : (st : State) (k : ℕ) (u : List ℕ) (x : Judged) → judged st k u ≡ x → instructs (whatOf (nextOf st (k ∷ u))) ≡ true → judged st k u ≡ Accepted
+accepted-by st k u Accepted e y = e
+accepted-by st k u (Refused r) e y =
+    absurd (let z : _≡_ {A = Bool} true false = sym y ∙ ap (λ (n : Move). instructs (whatOf n)) (next-refused st k u r e) ∙ refused-instructs r (isCut r) in no z)
+  where
+    no : true ≡ false → ⊥
+    no z = let f : _≡_ {A = ℕ} 0 1 = cc in omega arith
+
+-- the record at the front of u, with its body
+abbrev at-front : State → List ℕ → Move
+at-front st u =
+    let n = bodyLen journalKinds (byteAt u 0) in
+    onRecord st (bodyOf n u) (suc n) (recordOf (byteAt u 0) (bodyOf n u))
+
+instructs-by : (st : State) (u : List ℕ) → instructs (whatOf (nextOf st u)) ≡ true → nextOf st u ≡ at-front st u
+unfolding nextOf lookOf onLook instructs
+instructs-by st [] y = absurd (let z : _≡_ {A = ℕ} 0 1 = cc in omega arith)
+instructs-by st (k ∷ u) y = next-accepted st k u (accepted-by st k u (judged st k u) refl y)
+
+module _ (st : State) (u : List ℕ) where
+  abbrev front-body : List ℕ
+  front-body = bodyOf (bodyLen journalKinds (byteAt u 0)) u
+
+  abbrev front-size : ℕ
+  front-size = suc (bodyLen journalKinds (byteAt u 0))
+
+  pub begins-is : whatOf (nextOf st u) ≡ W.Begins → nextOf st u ≡ tell (withReader st (settingsCame (st .reader))) front-size (begin (settingsOf front-body))
+  unfolding instructs
+  begins-is e = let q = instructs-by st u (ap instructs e) in q ∙ record-begins st front-body front-size _ (ap whatOf (sym q) ∙ e)
+
+  pub resets-is : whatOf (nextOf st u) ≡ W.Resets → nextOf st u ≡ tell (withReader st (emptied (st .reader))) front-size restart
+  unfolding instructs
+  resets-is e = let q = instructs-by st u (ap instructs e) in q ∙ record-resets st front-body front-size _ (ap whatOf (sym q) ∙ e)
+
+  pub ticks-is : (i : TickInput) → whatOf (nextOf st u) ≡ W.Ticks i → nextOf st u ≡ tell (withReader st (emptied (st .reader))) front-size (tick (callOf st i))
+  unfolding instructs
+  ticks-is i e = let q = instructs-by st u (ap instructs e) in q ∙ record-ticks st front-body front-size _ i (ap whatOf (sym q) ∙ e)

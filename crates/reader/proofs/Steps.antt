@@ -42,14 +42,18 @@ use Rattle.reader.specs.Steps.{stateOf, Room, isSmall, looksSmall, Added
 use Rattle.reader.proofs.Stream.{goes, reached-none, reached-one, reached-on}
 use Rattle.reader.proofs.Reading.{machine}
 
--- a value's place lies in the lent memory
+-- each list lies in the lent memory
+pub list-fits : (c : ℕ) → c < 5 → getD bases c 0 + getD capacities c 0 ≤ 576
+list-fits zero p = omega arith
+list-fits (suc zero) p = omega arith
+list-fits (suc (suc zero)) p = omega arith
+list-fits (suc (suc (suc zero))) p = omega arith
+list-fits (suc (suc (suc (suc zero)))) p = omega arith
+list-fits (suc (suc (suc (suc (suc c))))) p = absurd (omega arith)
+
+-- so does the place of a value that has room
 pub room-fits : (c n : ℕ) → c < 5 → n < getD capacities c 0 → getD bases c 0 + n < 576
-room-fits zero n p q = omega arith
-room-fits (suc zero) n p q = omega arith
-room-fits (suc (suc zero)) n p q = omega arith
-room-fits (suc (suc (suc zero))) n p q = omega arith
-room-fits (suc (suc (suc (suc zero)))) n p q = omega arith
-room-fits (suc (suc (suc (suc (suc c))))) n p q = absurd (omega arith)
+room-fits c n p q = omega (arith, list-fits c p)
 
 -- ---- the record at a place
 

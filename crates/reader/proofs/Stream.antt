@@ -289,24 +289,25 @@ module _ {R E H : Type 0} (next : R → List ℕ → Next R E H) (m : Machine ne
   pub record Ahead (r : R) (s : List ℕ) (a : Advanced R E H) : Type 0 where
     pub rest : settled next r s ≡ settled next (a .state) (drop (a .used) s)
     pub then : next (a .state) (drop (a .used) s) ≡ a .next
+    pub stops : goesOn (a .next) ≡ false
     pub within : a .used ≤ length s
 
   ahead-past : (r r' : R) (s : List ℕ) (n : ℕ) (a : Advanced R E H) → n ≤ length s → settled next r s ≡ settled next r' (drop n s) → Ahead r' (drop n s) a → Ahead r s (past n a)
-  ahead-past r r' s n a l e h = record {
-    rest = rw (drop-drop (a .used) n s) at (e ∙ h .rest);
-    then = rw (drop-drop (a .used) n s) at (h .then);
-    within = omega (arith, h .within, length-drop n s);
-  }
+  ahead-past r r' s n a l e h = record
+    { rest = rw (drop-drop (a .used) n s) at (e ∙ h .rest)
+    ; then = rw (drop-drop (a .used) n s) at (h .then)
+    ; stops = h .stops
+    ; within = omega (arith, h .within, length-drop n s) }
 
   ahead-by : (f : ℕ) → ((r : R) (s : List ℕ) → length s < f → Ahead r s (advance next f r s))
       → (r : R) (s : List ℕ) → length s ≤ f → (x : Next R E H) → next r s ≡ x → Ahead r s (advance next (suc f) r s)
-  ahead-by f ih r s p wait e = rw (turn-is f r s wait e) (record { rest = refl; then = e; within = omega arith })
-  ahead-by f ih r s p (halt h) e = rw (turn-is f r s (halt h) e) (record { rest = refl; then = e; within = omega arith })
+  ahead-by f ih r s p wait e = rw (turn-is f r s wait e) (record { rest = refl; then = e; stops = refl; within = omega arith })
+  ahead-by f ih r s p (halt h) e = rw (turn-is f r s (halt h) e) (record { rest = refl; then = e; stops = refl; within = omega arith })
   ahead-by f ih r s p (go r' n) e =
       let b = goes r s r' n e in
       rw (turn-is f r s (go r' n) e)
       (ahead-past r r' s n (advance next f r' (drop n s)) (b .1) (settled-go r s r' n e) (ih r' (drop n s) (omega (arith, length-drop n s))))
-  ahead-by f ih r s p (tell r' n t) e = rw (turn-is f r s (tell r' n t) e) (record { rest = refl; then = e; within = omega arith })
+  ahead-by f ih r s p (tell r' n t) e = rw (turn-is f r s (tell r' n t) e) (record { rest = refl; then = e; stops = refl; within = omega arith })
 
   ahead-at : (f : ℕ) (r : R) (s : List ℕ) → length s < f → Ahead r s (advance next f r s)
   ahead-at zero r s p = absurd (omega arith)
@@ -321,10 +322,10 @@ module _ {R E H : Type 0} (next : R → List ℕ → Next R E H) (m : Machine ne
   abbrev with-used : Advanced R E H → ℕ → Advanced R E H
   with-used a u = record { state = a .state; used = u; next = a .next }
 
-  past-none : (k : ℕ) (a : Advanced R E H) → k ≡ 0 → a ≡ past k a
+  pub past-none : (k : ℕ) (a : Advanced R E H) → k ≡ 0 → a ≡ past k a
   past-none k a e = ap (with-used a) (let f : a .used ≡ k + a .used = omega arith in f)
 
-  past-past : (n k l : ℕ) (a : Advanced R E H) → n + k ≡ l → past n (past k a) ≡ past l a
+  pub past-past : (n k l : ℕ) (a : Advanced R E H) → n + k ≡ l → past n (past k a) ≡ past l a
   past-past n k l a e = ap (with-used a) (let f : n + (k + a .used) ≡ l + a .used = omega arith in f)
 
   -- no way at all

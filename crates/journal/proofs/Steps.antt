@@ -1,0 +1,222 @@
+-- One instruction of a journal, from what the reader came to.
+use Prim.Native.Nat.{ℕ, zero, suc, _+_, _-_, _≤_, _<_}
+use mathlib.Core.Path.{_≡_, refl, sym, ap, ap₂, _∙_}
+use mathlib.Core.List.{List, [], _∷_}
+use mathlib.Core.Bool.{Bool, true, false, cond}
+use native.Mathlib.Omega.{arith}
+use lib.ListN.{length, take, drop, length-drop, getD}
+use lib.Seq.{take-all, drop-drop, getD-drop}
+use lib.Ieee.{Float}
+use Rattle.bytes_le.specs.Little.{byteAt}
+use Rattle.lictor_core.specs.declared.fuse.TickInput.{TickInput}
+use Rattle.lictor_fuse.specs.declared.tick.Decided.{Decided}
+use Rattle.records.specs.Kinds.{journalKinds, bodyLen}
+use Rattle.records.specs.Body.{settingsOf}
+use Rattle.judge.specs.declared.Refusal.{Refusal}
+use Rattle.reader.specs.declared.Reader.{Reader}
+use Rattle.reader.specs.declared.Progress.{Progress}
+use Rattle.reader.specs.declared.What.the-variants as W
+use Rattle.reader.specs.Stream.{Next, wait, halt, go, tell, Advanced, past, advanced, Reached, goesOn}
+use Rattle.reader.specs.State.{State}
+use Rattle.reader.specs.Reading.{Instruction, begin, restart, tick, bodyOf, nextOf, whatOf, readOf, listsAfter}
+use Rattle.reader.proofs.Stream.{goes, tells-on, advanced-go, advanced-wait, advanced-halt, advanced-tell, Ahead, ahead, past-none, past-past, reached-one, reached-on}
+use Rattle.reader.proofs.Reading.{machine, begins-is, resets-is}
+use Rattle.journal.specs.declared.Run.{Run}
+use Rattle.journal.specs.declared.How.{How}
+use Rattle.journal.specs.declared.How.the-variants.{Waits, Refuses, Ticks}
+use Rattle.journal.specs.declared.Step.{Step}
+use Rattle.journal.specs.Journal.{Whole, obey, obeyed, replayOf, howOf, wholeOf, begunAt, resetAt, Stepped}
+use Rattle.journal.proofs.Replay.{replay-is, replay}
+
+-- ---- what the reader takes, the journal takes
+
+-- as far as the reader goes by itself, the journal goes
+abbrev Lifts : Run → State → List ℕ → Advanced State Instruction Refusal → Type 0
+Lifts run st s a =
+    advanced replayOf (record { state = st; run = run }) s ≡ past (a .used) (advanced replayOf (record { state = a .state; run = run }) (drop (a .used) s))
+
+lifts-here : (run : Run) (st : State) (s : List ℕ) (x : Next State Instruction Refusal) → Lifts run st s (record { state = st; used = 0; next = x })
+lifts-here run st s x = past-none replayOf replay 0 (advanced replayOf (record { state = st; run = run }) s) refl
+
+lifts-by : (f : ℕ) (run : Run) → ((st : State) (s : List ℕ) → length s < f → Lifts run st s (advanced nextOf st s))
+    → (st : State) (s : List ℕ) → length s ≤ f → (x : Next State Instruction Refusal) → nextOf st s ≡ x → Lifts run st s (advanced nextOf st s)
+unfolding obeyed
+lifts-by f run ih st s p wait e = rw (advanced-wait nextOf machine st s e) (lifts-here run st s wait)
+lifts-by f run ih st s p (halt r) e = rw (advanced-halt nextOf machine st s r e) (lifts-here run st s (halt r))
+lifts-by f run ih st s p (tell st' n i) e = rw (advanced-tell nextOf machine st s st' n i e) (lifts-here run st s (tell st' n i))
+lifts-by f run ih st s p (go st' n) e =
+    let b = goes nextOf machine st s st' n e in
+    let a = advanced nextOf st' (drop n s) in
+    rw (advanced-go nextOf machine st s st' n e)
+    (advanced-go replayOf replay (record { state = st; run = run }) s (record { state = st'; run = run }) n (replay-is (record { state = st; run = run }) s (go st' n) e)
+    ∙ ap (past n) (ih st' (drop n s) (omega (arith, length-drop n s, b .0, b .1)))
+    ∙ past-past replayOf replay n (a .used) (n + a .used) (advanced replayOf (record { state = a .state; run = run }) (drop (a .used) (drop n s))) refl
+    ∙ ap (λ (u : List ℕ). past (n + a .used) (advanced replayOf (record { state = a .state; run = run }) u)) (drop-drop (a .used) n s))
+
+lifts : (f : ℕ) (run : Run) (st : State) (s : List ℕ) → length s < f → Lifts run st s (advanced nextOf st s)
+lifts zero run st s p = absurd (omega arith)
+lifts (suc f) run st s p = lifts-by f run (λ st' u q. lifts f run st' u q) st s (omega arith) (nextOf st s) refl
+
+-- ---- what the reader says, and what the journal does then
+
+module _ (w : Whole) where
+  what-waits : (y : Next State Instruction Refusal) → goesOn y ≡ false → whatOf y ≡ W.Waits → (goesOn (obeyed w y) ≡ false) × (Waits ≡ howOf y)
+  unfolding obeyed
+  what-waits wait g e = (refl, refl)
+  what-waits (halt r) g e = absurd (let z : _≡_ {A = ℕ} 0 1 = cc in omega arith)
+  what-waits (go st n) g e = absurd (let z : _≡_ {A = ℕ} 0 1 = cc in omega arith)
+  what-waits (tell st n (begin s)) g e = absurd (let z : _≡_ {A = ℕ} 0 1 = cc in omega arith)
+  what-waits (tell st n restart) g e = absurd (let z : _≡_ {A = ℕ} 0 1 = cc in omega arith)
+  what-waits (tell st n (tick c)) g e = absurd (let z : _≡_ {A = ℕ} 0 1 = cc in omega arith)
+
+  what-refuses : (y : Next State Instruction Refusal) (r : Refusal) → whatOf y ≡ W.Refuses r → (goesOn (obeyed w y) ≡ false) × (Refuses r ≡ howOf y)
+  unfolding obeyed
+  what-refuses wait r e = absurd (let z : _≡_ {A = ℕ} 0 1 = cc in omega arith)
+  what-refuses (halt r') r e = let q : r ≡ r' = cc in (refl, ap Refuses q)
+  what-refuses (go st n) r e = absurd (let z : _≡_ {A = ℕ} 0 1 = cc in omega arith)
+  what-refuses (tell st n (begin s)) r e = absurd (let z : _≡_ {A = ℕ} 0 1 = cc in omega arith)
+  what-refuses (tell st n restart) r e = absurd (let z : _≡_ {A = ℕ} 0 1 = cc in omega arith)
+  what-refuses (tell st n (tick c)) r e = absurd (let z : _≡_ {A = ℕ} 0 1 = cc in omega arith)
+
+  what-ticks : (y : Next State Instruction Refusal) (i : TickInput) → whatOf y ≡ W.Ticks i → (goesOn (obeyed w y) ≡ false) × (Ticks i ≡ howOf y)
+  unfolding obeyed obey
+  what-ticks wait i e = absurd (let z : _≡_ {A = ℕ} 0 1 = cc in omega arith)
+  what-ticks (halt r') i e = absurd (let z : _≡_ {A = ℕ} 0 1 = cc in omega arith)
+  what-ticks (go st n) i e = absurd (let z : _≡_ {A = ℕ} 0 1 = cc in omega arith)
+  what-ticks (tell st n (begin s)) i e = absurd (let z : _≡_ {A = ℕ} 0 1 = cc in omega arith)
+  what-ticks (tell st n restart) i e = absurd (let z : _≡_ {A = ℕ} 0 1 = cc in omega arith)
+  what-ticks (tell st n (tick c)) i e = let q : i ≡ c .input = cc in (refl, ap Ticks q)
+
+-- the part from a place on
+pub part-from : (s : List ℕ) (at : ℕ) → take (length s - at) (drop at s) ≡ drop at s
+part-from s at = take-all (length s - at) (drop at s) (omega (arith, length-drop at s))
+
+module _ (rd : Reader) (run : Run) (l : List Float) (s : List ℕ) (at : ℕ) (h : at ≤ length s) where
+  abbrev read : Advanced State Instruction Refusal
+  read = advanced nextOf (record { reader = rd; lists = l }) (drop at s)
+
+  abbrev came : Whole
+  came = record { state = read .state; run = run }
+
+  there : Ahead nextOf machine (record { reader = rd; lists = l }) (drop at s) read
+  there = ahead nextOf machine (record { reader = rd; lists = l }) (drop at s)
+
+  reached-there : Reached replayOf (wholeOf rd run l) s at came (at + read .used)
+  reached-there =
+      let e : at + read .used - at ≡ read .used = omega arith in
+      record
+        { from = omega arith
+        ; within = omega (arith, there .within, length-drop at s)
+        ; ahead =
+            lifts (suc (length (drop at s))) run (record { reader = rd; lists = l }) (drop at s) (omega arith)
+            ∙ rw (e, drop-drop (read .used) at s) refl }
+
+  next-there : nextOf (read .state) (drop (at + read .used) s) ≡ read .next
+  next-there = rw (drop-drop (read .used) at s) at (there .then)
+
+  stopped : (v : How) → (goesOn (obeyed came (read .next)) ≡ false) × (v ≡ howOf (read .next))
+      → Stepped (wholeOf rd run l) s at (record { reader = read .state .reader; run = run; at = at + read .used; how = v; more = false }) (read .state .lists)
+  stopped v q = record
+    { reached = reached-there
+    ; further = λ y. absurd (no y)
+    ; stops = λ y. ap goesOn (replay-is came (drop (at + read .used) s) (read .next) next-there) ∙ q .0
+    ; how = λ y. q .1 ∙ ap howOf (sym next-there) }
+    where
+      no : false ≡ true → ⊥
+      no y = let f : _≡_ {A = ℕ} 0 1 = cc in omega arith
+
+  module _ (p : Progress) (l' : List Float) (e : p ≡ readOf (record { reader = rd; lists = l }) (drop at s)) (f : l' ≡ listsAfter (record { reader = rd; lists = l }) (drop at s)) where
+    pub read-within : at + p .used ≤ length s
+    unfolding readOf
+    read-within = omega (arith, reached-there .within, ap (λ (x : Progress). x .used) e)
+
+    pub stepped-waits : p .what ≡ W.Waits → Stepped (wholeOf rd run l) s at (record { reader = p .reader; run = run; at = at + p .used; how = Waits; more = false }) l'
+    unfolding readOf listsAfter
+    stepped-waits y = rw (e, f) (stopped Waits (what-waits came (read .next) (there .stops) (sym (ap (λ (x : Progress). x .what) e) ∙ y)))
+
+    pub stepped-refuses : (r : Refusal) → p .what ≡ W.Refuses r
+        → Stepped (wholeOf rd run l) s at (record { reader = p .reader; run = run; at = at + p .used; how = Refuses r; more = false }) l'
+    unfolding readOf listsAfter
+    stepped-refuses r y = rw (e, f) (stopped (Refuses r) (what-refuses came (read .next) r (sym (ap (λ (x : Progress). x .what) e) ∙ y)))
+
+    pub stepped-ticks : (i : TickInput) → p .what ≡ W.Ticks i
+        → Stepped (wholeOf rd run l) s at (record { reader = p .reader; run = run; at = at + p .used; how = Ticks i; more = false }) l'
+    unfolding readOf listsAfter
+    stepped-ticks i y = rw (e, f) (stopped (Ticks i) (what-ticks came (read .next) i (sym (ap (λ (x : Progress). x .what) e) ∙ y)))
+
+-- the record at place i: its kind byte and its body
+byte-there : (s : List ℕ) (i : ℕ) → byteAt (drop i s) 0 ≡ byteAt s i
+byte-there s i = let e : i + 0 ≡ i = omega arith in getD-drop i s 0 0 ∙ ap (byteAt s) e
+
+body-there : (s : List ℕ) (i n : ℕ) → bodyOf n (drop i s) ≡ take n (drop (i + 1) s)
+body-there s i n = ap (take n) (drop-drop 1 i s)
+
+-- an instruction that was obeyed
+module _ (w : Whole) (s : List ℕ) (at : ℕ) (v : Whole) (i : ℕ) (t : Reached replayOf w s at v i) (r : Step) (l' : List Float) where
+  obeyed-on : r .at ≡ i + 1 + bodyLen journalKinds (byteAt s i)
+      → replayOf v (drop i s) ≡ go (wholeOf (r .reader) (r .run) l') (suc (bodyLen journalKinds (byteAt s i))) → r .more ≡ true → Stepped w s at r l'
+  obeyed-on p q y =
+      let d : r .at - i ≡ suc (bodyLen journalKinds (byteAt s i)) = omega arith in
+      let o : Reached replayOf v s i (wholeOf (r .reader) (r .run) l') (r .at) = reached-one replayOf replay v s i (wholeOf (r .reader) (r .run) l') (r .at) (t .within) (omega arith) (rw d q) in
+      record
+        { reached = reached-on replayOf replay t o
+        ; further = λ z. omega (arith, t .from)
+        ; stops = λ z. absurd (no (sym y ∙ z))
+        ; how = λ z. absurd (no (sym y ∙ z)) }
+    where
+      no : true ≡ false → ⊥
+      no z = let f : _≡_ {A = ℕ} 0 1 = cc in omega arith
+
+module _ (rd : Reader) (run : Run) (l : List Float) (s : List ℕ) (at : ℕ) (h : at ≤ length s)
+    (p : Progress) (l' : List Float) (e : p ≡ readOf (record { reader = rd; lists = l }) (drop at s)) (f : l' ≡ listsAfter (record { reader = rd; lists = l }) (drop at s)) where
+  abbrev st' : State
+  st' = record { reader = p .reader; lists = l' }
+
+  what-there : whatOf (nextOf st' (drop (at + p .used) s)) ≡ p .what
+  unfolding readOf listsAfter
+  what-there = rw (e, f) (ap whatOf (next-there rd run l s at h))
+
+  reached-read : Reached replayOf (wholeOf rd run l) s at (wholeOf (p .reader) run l') (at + p .used)
+  unfolding readOf listsAfter
+  reached-read = rw (e, f) (reached-there rd run l s at h)
+
+  -- the record that comes next is there whole
+  instruction-fits : {st'' : State} {i : Instruction}
+      → nextOf st' (drop (at + p .used) s) ≡ tell st'' (suc (bodyLen journalKinds (byteAt (drop (at + p .used) s) 0))) i
+      → at + p .used + bodyLen journalKinds (byteAt s (at + p .used)) < length s
+  instruction-fits {st'' = st''} {i = i} q =
+      let b = tells-on nextOf machine st' (drop (at + p .used) s) st'' _ i q in
+      omega (arith, b .1, length-drop (at + p .used) s, ap (bodyLen journalKinds) (byte-there s (at + p .used)))
+
+  pub begins-fits : p .what ≡ W.Begins → at + p .used + bodyLen journalKinds (byteAt s (at + p .used)) < length s
+  begins-fits y = instruction-fits (begins-is st' (drop (at + p .used) s) (what-there ∙ y))
+
+  pub resets-fits : p .what ≡ W.Resets → at + p .used + bodyLen journalKinds (byteAt s (at + p .used)) < length s
+  resets-fits y = instruction-fits (resets-is st' (drop (at + p .used) s) (what-there ∙ y))
+
+  pub stepped-begins : p .what ≡ W.Begins → Stepped (wholeOf rd run l) s at (begunAt (p .reader) s (at + p .used)) l'
+  unfolding begunAt obeyed obey
+  stepped-begins y =
+      let i = at + p .used in
+      let q = begins-is st' (drop i s) (what-there ∙ y) in
+      obeyed-on (wholeOf rd run l) s at (wholeOf (p .reader) run l') i reached-read (begunAt (p .reader) s i) l' refl
+      (replay-is (wholeOf (p .reader) run l') (drop i s) _ q ∙ rw (byte-there s i, body-there s i (bodyLen journalKinds (byteAt s i))) refl) refl
+
+  pub stepped-resets : p .what ≡ W.Resets → Stepped (wholeOf rd run l) s at (resetAt (p .reader) run s (at + p .used)) l'
+  unfolding resetAt obeyed obey
+  stepped-resets y =
+      let i = at + p .used in
+      let q = resets-is st' (drop i s) (what-there ∙ y) in
+      obeyed-on (wholeOf rd run l) s at (wholeOf (p .reader) run l') i reached-read (resetAt (p .reader) run s i) l' refl
+      (replay-is (wholeOf (p .reader) run l') (drop i s) _ q ∙ rw (byte-there s i) refl) refl
+
+-- ---- turn by turn
+
+-- there are fewer bytes left, or no more turns
+less-by : (w : Whole) (s : List ℕ) (at : ℕ) (r : Step) (l' : List Float) → Stepped w s at r l' → (m : Bool) → r .more ≡ m
+    → length s - r .at + cond (r .more) 1 0 < length s - at + 1
+less-by w s at r l' t true y = rw y (omega (arith, t .further y, t .reached .within))
+less-by w s at r l' t false y = rw y (omega (arith, t .reached .from))
+
+pub step-less : (w : Whole) (s : List ℕ) (at : ℕ) (r : Step) (l' : List Float) → Stepped w s at r l' → length s - r .at + cond (r .more) 1 0 < length s - at + 1
+step-less w s at r l' t = less-by w s at r l' t (r .more) refl

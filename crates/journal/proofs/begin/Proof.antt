@@ -1,0 +1,17 @@
+use Rattle.journal.specs.Journal.{begunOf}
+use borrow.Author.Needs.{needs}
+use Rattle.journal.proofs.begin.Statement.{statement}
+use Rattle.journal.proofs.begin.Tie as tie
+
+config-requires : tie.Need-config-requires
+config-requires c κs = search needs
+
+new-requires : tie.Need-new-requires
+new-requires c κs = search needs
+
+returns : tie.Need-returns
+unfolding begunOf
+returns c = cc
+
+pub begin-spec : {M : Type 1} → statement M
+begin-spec = tie.close (tie.spec config-requires new-requires returns)

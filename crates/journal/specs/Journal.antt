@@ -1,0 +1,147 @@
+-- A journal on the fuse (01-scope.md, Journal): what its instructions do to the run state, and the meaning of a whole list of bytes.
+use mathlib.Core.Bool.{true, false}
+use mathlib.Core.List.{List, [], _∷_}
+use mathlib.Core.Path.{_≡_}
+use Prim.Native.Nat.{ℕ, _+_, _-_, _<_}
+use lib.Ieee.{Float}
+use lib.ListN.{length, take, drop}
+use Rattle.lictor_core.specs.declared.envelope.Settings.{Settings}
+use Rattle.lictor_core.specs.declared.fuse.TickInput.{TickInput}
+use Rattle.lictor_core.specs.Initial.{zeros, newOf, resetOf}
+use Rattle.lictor_core.specs.Settings.{configOf}
+use Rattle.lictor_fuse.specs.declared.tick.Decided.{Decided}
+use Rattle.lictor_fuse.specs.Tick.{decideOf}
+use Rattle.bytes_le.specs.Little.{byteAt}
+use Rattle.records.specs.Kinds.{journalKinds, bodyLen}
+use Rattle.records.specs.Body.{settingsOf}
+use Rattle.judge.specs.declared.Refusal.{Refusal}
+use Rattle.judge.specs.declared.Refusal.the-variants.{CutBody}
+use Rattle.reader.specs.Stream.{Next, wait, halt, go, tell, End, waiting, halted, settled, advanced, Reached, goesOn}
+use Rattle.reader.specs.declared.Reader.{Reader}
+use Rattle.reader.specs.State.{State, settingsCame, emptied, startReader}
+use Rattle.reader.specs.Reading.{Call, Instruction, begin, restart, tick, callOf, nextOf}
+use Rattle.journal.specs.declared.Run.{Run}
+use Rattle.journal.specs.declared.How.{How}
+use Rattle.journal.specs.declared.How.the-variants.{Waits, Refuses, Ticks}
+use Rattle.journal.specs.declared.Advanced.{Advanced}
+use Rattle.journal.specs.declared.Ticked.{Ticked}
+use Rattle.journal.specs.declared.Step.{Step}
+
+-- ---- what an instruction does
+
+-- settings give the run state of `new`
+unfoldable pub begunOf : Settings → Run
+begunOf s = record { config = configOf s; rt = newOf }
+
+unfoldable pub restartedOf : Run → Run
+restartedOf r = record { config = r .config; rt = resetOf (r .rt) }
+
+unfoldable pub decidedOf : Run → Call → Decided
+decidedOf r c = decideOf (r .config) (r .rt) (c .input) (c .outcome) (c .pos) (c .vel) (c .aux) (c .ext) (c .chunk)
+
+unfoldable pub tickedOf : Run → Decided → Run
+tickedOf r d = record { config = r .config; rt = d .rt }
+
+-- ---- one record
+
+-- all that a journal works on: the reader with the lent lists, and the fuse
+pub record Whole : Type 0 where
+  pub state : State
+  pub run : Run
+
+-- settings and a reset say nothing; a tick gives its verdict, with the run state that it leaves
+unfoldable pub obey : Whole → State → ℕ → Instruction → Next Whole Decided Refusal
+obey w st n (begin s) = go (record { state = st; run = begunOf s }) n
+obey w st n restart = go (record { state = st; run = restartedOf (w .run) }) n
+obey w st n (tick c) = tell (record { state = st; run = tickedOf (w .run) (decidedOf (w .run) c) }) n (decidedOf (w .run) c)
+
+unfoldable pub obeyed : Whole → Next State Instruction Refusal → Next Whole Decided Refusal
+obeyed w wait = wait
+obeyed w (halt r) = halt r
+obeyed w (go st n) = go (record { state = st; run = w .run }) n
+obeyed w (tell st n i) = obey w st n i
+
+unfoldable pub replayOf : Whole → List ℕ → Next Whole Decided Refusal
+replayOf w s = obeyed w (nextOf (w .state) s)
+
+-- ---- a whole journal
+
+-- before the first byte. There is no configuration yet, and no tick before the settings: zeros stand in its place.
+unfoldable pub startRun : Run
+startRun = begunOf (settingsOf [])
+
+unfoldable pub startWhole : Whole
+startWhole = record { state = record { reader = startReader; lists = zeros 576 }; run = startRun }
+
+-- how a journal ends: at the end of the input, or with a refusal, at the place of its record's kind byte
+pub data Ending : Type 0 where
+  ended : Ending
+  refused : Refusal → ℕ → Ending
+
+-- the meaning of a journal: its ticks' verdicts, how it ends, and what is left: run state, collected records and lists
+pub record Meaning : Type 0 where
+  pub events : List Decided
+  pub ending : Ending
+  pub left : Whole
+
+-- at place p, with these bytes left: a record whose body the end cuts is refused too
+abbrev pub endingOf : ℕ → List ℕ → End Refusal → Ending
+endingOf p [] waiting = ended
+endingOf p (k ∷ s) waiting = refused CutBody p
+endingOf p s (halted r) = refused r p
+
+unfoldable pub journalOf : List ℕ → Meaning
+journalOf s =
+    let a = settled replayOf startWhole s in
+    record { events = a .told; ending = endingOf (length s - length (a .rest)) (a .rest) (a .end); left = a .state }
+
+-- ---- what the code answers
+
+-- what comes next, where the journal goes no further by itself: the end of the bytes, a refusal, or a tick
+abbrev pub howOf : Next State Instruction Refusal → How
+howOf wait = Waits
+howOf (halt r) = Refuses r
+howOf (go st n) = Waits
+howOf (tell st n (begin s)) = Waits
+howOf (tell st n restart) = Waits
+howOf (tell st n (tick c)) = Ticks (c .input)
+
+-- all records up to the next tick: reader and fuse there, the bytes up to there, and what comes next
+unfoldable pub advancedOf : Whole → List ℕ → Advanced
+advancedOf w s =
+    let a = advanced replayOf w s in
+    record
+      { reader = a .state .state .reader
+      ; run = a .state .run
+      ; used = a .used
+      ; how = howOf (nextOf (a .state .state) (drop (a .used) s)) }
+
+unfoldable pub listsAfter : Whole → List ℕ → List Float
+listsAfter w s = advanced replayOf w s .state .state .lists
+
+-- a tick: its verdict, the fuse after it, and the reader with nothing that waits
+unfoldable pub tickOf : Whole → TickInput → Ticked
+tickOf w input =
+    let d = decidedOf (w .run) (callOf (w .state) input) in
+    record { reader = emptied (w .state .reader); run = tickedOf (w .run) d; verdict = d .verdict }
+
+-- ---- what its own functions promise each other
+
+abbrev pub wholeOf : Reader → Run → List Float → Whole
+wholeOf rd run l = record { state = record { reader = rd; lists = l }; run = run }
+
+-- settings, or a reset, of which the kind byte stands at place `at` of s
+unfoldable pub begunAt : Reader → List ℕ → ℕ → Step
+begunAt rd s at =
+    let n = bodyLen journalKinds (byteAt s at) in
+    record { reader = settingsCame rd; run = begunOf (settingsOf (take n (drop (at + 1) s))); at = at + 1 + n; how = Waits; more = true }
+
+unfoldable pub resetAt : Reader → Run → List ℕ → ℕ → Step
+resetAt rd run s at = record { reader = emptied rd; run = restartedOf run; at = at + 1 + bodyLen journalKinds (byteAt s at); how = Waits; more = true }
+
+-- one instruction, from place `at` of s on: it was obeyed, or the journal comes to something else
+pub record Stepped (w : Whole) (s : List ℕ) (at : ℕ) (r : Step) (l' : List Float) : Type 0 where
+  pub reached : Reached replayOf w s at (wholeOf (r .reader) (r .run) l') (r .at)
+  pub further : r .more ≡ true → at < r .at
+  pub stops : r .more ≡ false → goesOn (replayOf (wholeOf (r .reader) (r .run) l') (drop (r .at) s)) ≡ false
+  pub how : r .more ≡ false → r .how ≡ howOf (nextOf (record { reader = r .reader; lists = l' }) (drop (r .at) s))

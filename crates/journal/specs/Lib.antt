@@ -1,0 +1,3 @@
+-- Definitions that the contracts of this crate, and of those above it, cite.
+pub mod Journal
+pub mod Ends

@@ -1,0 +1,195 @@
+// A journal on the fuse: its settings, resets and ticks, one after the other, from bytes that come in parts of any sizes.
+ghost use mathlib.Core.Path.{_≡_};
+ghost use Prim.Native.Nat.{_+_, _<_, _≤_, min};
+ghost use lib.ListN.{length};
+ghost use Rattle.bytes_le.specs.Little.{byteAt};
+ghost use Rattle.records.specs.Kinds.{journalKinds, bodyLen};
+ghost use Rattle.reader.specs.Reading.{callOf};
+ghost use Rattle.reader.specs.State.{valuesOf};
+ghost use Rattle.journal.specs.Journal.{begunOf, restartedOf, decidedOf, startRun, wholeOf, advancedOf, listsAfter, tickOf, begunAt, resetAt, Stepped};
+use judge::{Refusal, Seen};
+use lictor_core::envelope::{FuseConfig, Settings};
+use lictor_core::fuse::{FuseRt, TickInput};
+use lictor_core::verdict::SafetyVerdict;
+use lictor_fuse::tick::{Decided, decide};
+use reader::{Reader, What};
+
+// The fuse: its configuration and its run state.
+pub struct Run {
+    pub config: FuseConfig,
+    pub rt: FuseRt,
+}
+
+// What a journal comes to: the end of the bytes, a refusal, or a tick.
+pub enum How {
+    Waits,
+    Refuses(Refusal),
+    Ticks(TickInput),
+}
+
+pub struct Advanced {
+    pub reader: Reader,
+    pub run: Run,
+    // the bytes up to there
+    pub used: usize,
+    pub how: How,
+}
+
+pub struct Ticked {
+    pub reader: Reader,
+    pub run: Run,
+    pub verdict: SafetyVerdict,
+}
+
+// ---- instructions
+
+fn begin(s: Settings) -> Run
+    ensures { λ r. ⌜ r ≡ begunOf s ⌝ }
+{
+    let config = lictor_core::settings::config(s);
+    let rt = lictor_fuse::episode::new();
+    Run { config, rt }
+}
+
+fn restart(run: Run) -> Run
+    ensures { λ r. ⌜ r ≡ restartedOf run ⌝ }
+{
+    let config = run.config;
+    let old = run.rt;
+    let rt = lictor_fuse::episode::reset(old);
+    Run { config, rt }
+}
+
+// Where each list begins in the lent memory, and how many values it can hold.
+const BASE: [usize; 5] = [0, 512, 528, 544, 560];
+const CAPACITY: [usize; 5] = [512, 16, 16, 16, 16];
+
+fn least(a: usize, b: usize) -> usize
+    ensures { λ r. ⌜ r ≡ min a b ⌝ }
+{
+    if a < b { a } else { b }
+}
+
+// The values of a list.
+fn values(seen: Seen, lists: &[f64], c: usize) -> &[f64]
+    requires { ⌜ (c < 5) × (length (now lists) ≡ 576) ⌝ }
+    ensures { λ r. ⌜ now r ≡ valuesOf seen (now (lists .entry)) c ⌝ }
+{
+    let counts = seen.counts;
+    let n = least(counts[c], CAPACITY[c]);
+    let a = BASE[c];
+    let e = a + n;
+    &lists[a..e]
+}
+
+fn decide_on(rd: Reader, run: Run, lists: &[f64; 576], inp: TickInput) -> Decided
+    ensures { λ r. ⌜ r ≡ decidedOf run (callOf (record { reader = rd; lists = now (lists .entry) }) inp) ⌝ }
+{
+    let w = rd.waiting;
+    let seen = w.seen;
+    let out = rd.outcome;
+    let config = run.config;
+    let rt = run.rt;
+    let t = &lists[..];
+    decide(config, rt, inp, out, values(seen, t, 1), values(seen, t, 2), values(seen, t, 3), values(seen, t, 4), values(seen, t, 0))
+}
+
+// The tick that comes next, on all that was collected.
+pub fn tick(rd: Reader, run: Run, lists: &[f64; 576], inp: TickInput) -> Ticked
+    ensures { λ r. ⌜ r ≡ tickOf (wholeOf rd run (now (lists .entry))) inp ⌝ }
+{
+    let d = decide_on(rd, run, lists, inp);
+    let config = run.config;
+    let rt = d.rt;
+    let verdict = d.verdict;
+    let after = Run { config, rt };
+    let reader = reader::emptied(rd);
+    Ticked { reader, run: after, verdict }
+}
+
+// ---- from tick to tick
+
+struct Step {
+    reader: Reader,
+    run: Run,
+    at: usize,
+    how: How,
+    more: bool,
+}
+
+// Settings at a place: the fuse begins anew.
+fn begin_at(rd: Reader, s: &[u8], at: usize) -> Step
+    requires { ⌜ at + bodyLen journalKinds (byteAt (now s) at) < length (now s) ⌝ }
+    ensures { λ r. ⌜ r ≡ begunAt rd (now (s .entry)) at ⌝ }
+{
+    let k = s[at];
+    let a = at + 1;
+    let e = a + records::body_len(k);
+    let settings = records::read_settings(&s[a..e]);
+    Step {
+        reader: reader::begun(rd),
+        run: begin(settings),
+        at: e,
+        how: How::Waits,
+        more: true,
+    }
+}
+
+// A reset at a place.
+fn reset_at(rd: Reader, run: Run, s: &[u8], at: usize) -> Step
+    requires { ⌜ at + bodyLen journalKinds (byteAt (now s) at) < length (now s) ⌝ }
+    ensures { λ r. ⌜ r ≡ resetAt rd run (now (s .entry)) at ⌝ }
+{
+    let k = s[at];
+    let a = at + 1;
+    let e = a + records::body_len(k);
+    Step {
+        reader: reader::emptied(rd),
+        run: restart(run),
+        at: e,
+        how: How::Waits,
+        more: true,
+    }
+}
+
+// All records from a place on up to the next instruction, and that one, unless it is a tick.
+fn take_step(rd: Reader, run: Run, lists: &mut [f64; 576], s: &[u8], at: usize) -> Step
+    requires { ⌜ at ≤ length (now s) ⌝ }
+    ensures { λ r. ⌜ Stepped (wholeOf rd run (now (lists .entry))) (now (s .entry)) at r (now (lists .exit)) ⌝ }
+{
+    let p = reader::read(rd, lists, &s[at..]);
+    let q = p.reader;
+    let i = at + p.used;
+    let what = p.what;
+    match what {
+        What::Waits => Step { reader: q, run, at: i, how: How::Waits, more: false },
+        What::Refuses(r) => Step { reader: q, run, at: i, how: How::Refuses(r), more: false },
+        What::Ticks(x) => Step { reader: q, run, at: i, how: How::Ticks(x), more: false },
+        What::Begins => begin_at(q, s, i),
+        What::Resets => reset_at(q, run, s, i),
+    }
+}
+
+// The fuse before the first byte.
+pub fn start() -> Run
+    ensures { λ r. ⌜ r ≡ startRun ⌝ }
+{
+    begin(records::read_settings(b""))
+}
+
+// Takes all records up to the next tick, to one that is turned away or to one that is not there whole, and says which comes there.
+pub fn advance(rd: Reader, run: Run, lists: &mut [f64; 576], s: &[u8]) -> Advanced
+    ensures { λ r. ⌜ (r ≡ advancedOf (wholeOf rd run (now (lists .entry))) (now (s .entry))) × (now (lists .exit) ≡ listsAfter (wholeOf rd run (now (lists .entry))) (now (s .entry))) ⌝ }
+{
+    let mut t = take_step(rd, run, lists, s, 0);
+    while t.more {
+        let r = t.reader;
+        let q = t.run;
+        let i = t.at;
+        t = take_step(r, q, lists, s, i);
+    }
+    let reader = t.reader;
+    let after = t.run;
+    let how = t.how;
+    Advanced { reader, run: after, used: t.at, how }
+}
