@@ -50,7 +50,7 @@ halts-as w (halt r') r e = let q : r' ≡ r = cc in ap halt q
 halts-as w (go st n) r e = absurd (let z : _≡_ {A = ℕ} 0 1 = cc in omega arith)
 halts-as w (tell st n i) r e = absurd (obey-moves w st n i (obey w st n i) refl .1 r e)
 
-waits-as : (w : Whole) (x : Reads) → obeyed w x ≡ wait → x ≡ wait
+pub waits-as : (w : Whole) (x : Reads) → obeyed w x ≡ wait → x ≡ wait
 unfolding obeyed
 waits-as w wait e = refl
 waits-as w (halt r') e = absurd (let z : _≡_ {A = ℕ} 0 1 = cc in omega arith)
@@ -96,16 +96,18 @@ module _ (s : List ℕ) (a : Settled Whole Decided Refusal) (f : Front replayOf 
   place-is = omega (arith, ap length (f .rest-is), length-drop (f .place) s, f .within)
 
   refused-before : settled replayOf startWhole s ≡ a → (r : Refusal) → LeftAsBefore s r (f .place)
-  refused-before e r = record
-    { number = numbers r
-    ; events = ap (λ (m : Meaning). m .events) (meaning-is s a e ∙ sym (meaning-is s a e)) ∙ ap (λ (m : Meaning). m .events) (meaning-is s a e) ∙ sym (ap (λ (m : Meaning). m .events) before-is)
-    ; left = ap (λ (m : Meaning). m .left) (meaning-is s a e) ∙ sym (ap (λ (m : Meaning). m .left) before-is) }
+  refused-before e r = record {
+    number = numbers r;
+    events = ap (λ (m : Meaning). m .events) (meaning-is s a e ∙ sym (meaning-is s a e)) ∙ ap (λ (m : Meaning). m .events) (meaning-is s a e) ∙ sym (ap (λ (m : Meaning). m .events) before-is);
+    left = ap (λ (m : Meaning). m .left) (meaning-is s a e) ∙ sym (ap (λ (m : Meaning). m .left) before-is);
+  }
 
   turned-before : (r : Refusal) → f .place < length s → judgedAt (a .state) s (f .place) ≡ Refused r → TurnedAway s r (f .place)
-  turned-before r h c = record
-    { inside = h
-    ; before = ap (λ (m : Meaning). m .ending) before-is
-    ; cause = rw before-is c }
+  turned-before r h c = record {
+    inside = h;
+    before = ap (λ (m : Meaning). m .ending) before-is;
+    cause = rw before-is c;
+  }
 
 -- ---- refused: where, why, and what is left
 

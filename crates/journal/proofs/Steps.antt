@@ -104,23 +104,25 @@ module _ (rd : Reader) (run : Run) (l : List Float) (s : List ℕ) (at : ℕ) (h
   reached-there : Reached replayOf (wholeOf rd run l) s at came (at + read .used)
   reached-there =
       let e : at + read .used - at ≡ read .used = omega arith in
-      record
-        { from = omega arith
-        ; within = omega (arith, there .within, length-drop at s)
-        ; ahead =
+      record {
+        from = omega arith;
+        within = omega (arith, there .within, length-drop at s);
+        ahead =
             lifts (suc (length (drop at s))) run (record { reader = rd; lists = l }) (drop at s) (omega arith)
-            ∙ rw (e, drop-drop (read .used) at s) refl }
+            ∙ rw (e, drop-drop (read .used) at s) refl;
+      }
 
   next-there : nextOf (read .state) (drop (at + read .used) s) ≡ read .next
   next-there = rw (drop-drop (read .used) at s) at (there .then)
 
   stopped : (v : How) → (goesOn (obeyed came (read .next)) ≡ false) × (v ≡ howOf (read .next))
       → Stepped (wholeOf rd run l) s at (record { reader = read .state .reader; run = run; at = at + read .used; how = v; more = false }) (read .state .lists)
-  stopped v q = record
-    { reached = reached-there
-    ; further = λ y. absurd (no y)
-    ; stops = λ y. ap goesOn (replay-is came (drop (at + read .used) s) (read .next) next-there) ∙ q .0
-    ; how = λ y. q .1 ∙ ap howOf (sym next-there) }
+  stopped v q = record {
+    reached = reached-there;
+    further = λ y. absurd (no y);
+    stops = λ y. ap goesOn (replay-is came (drop (at + read .used) s) (read .next) next-there) ∙ q .0;
+    how = λ y. q .1 ∙ ap howOf (sym next-there);
+  }
     where
       no : false ≡ true → ⊥
       no y = let f : _≡_ {A = ℕ} 0 1 = cc in omega arith
@@ -158,11 +160,12 @@ module _ (w : Whole) (s : List ℕ) (at : ℕ) (v : Whole) (i : ℕ) (t : Reache
   obeyed-on p q y =
       let d : r .at - i ≡ suc (bodyLen journalKinds (byteAt s i)) = omega arith in
       let o : Reached replayOf v s i (wholeOf (r .reader) (r .run) l') (r .at) = reached-one replayOf replay v s i (wholeOf (r .reader) (r .run) l') (r .at) (t .within) (omega arith) (rw d q) in
-      record
-        { reached = reached-on replayOf replay t o
-        ; further = λ z. omega (arith, t .from)
-        ; stops = λ z. absurd (no (sym y ∙ z))
-        ; how = λ z. absurd (no (sym y ∙ z)) }
+      record {
+        reached = reached-on replayOf replay t o;
+        further = λ z. omega (arith, t .from);
+        stops = λ z. absurd (no (sym y ∙ z));
+        how = λ z. absurd (no (sym y ∙ z));
+      }
     where
       no : true ≡ false → ⊥
       no z = let f : _≡_ {A = ℕ} 0 1 = cc in omega arith

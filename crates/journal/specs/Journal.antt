@@ -110,11 +110,12 @@ howOf (tell st n (tick c)) = Ticks (c .input)
 unfoldable pub advancedOf : Whole → List ℕ → Advanced
 advancedOf w s =
     let a = advanced replayOf w s in
-    record
-      { reader = a .state .state .reader
-      ; run = a .state .run
-      ; used = a .used
-      ; how = howOf (nextOf (a .state .state) (drop (a .used) s)) }
+    record {
+      reader = a .state .state .reader;
+      run = a .state .run;
+      used = a .used;
+      how = howOf (nextOf (a .state .state) (drop (a .used) s));
+    }
 
 unfoldable pub listsAfter : Whole → List ℕ → List Float
 listsAfter w s = advanced replayOf w s .state .state .lists

@@ -7,12 +7,17 @@ ghost use Rattle.records.specs.Kinds.{journalKinds, bodyLen};
 ghost use Rattle.reader.specs.Reading.{callOf};
 ghost use Rattle.reader.specs.State.{valuesOf};
 ghost use Rattle.journal.specs.Journal.{begunOf, restartedOf, decidedOf, startRun, wholeOf, advancedOf, listsAfter, tickOf, begunAt, resetAt, Stepped};
-use judge::{Refusal, Seen};
-use lictor_core::envelope::{FuseConfig, Settings};
-use lictor_core::fuse::{FuseRt, TickInput};
+use judge::Refusal;
+use judge::Seen;
+use lictor_core::envelope::FuseConfig;
+use lictor_core::envelope::Settings;
+use lictor_core::fuse::FuseRt;
+use lictor_core::fuse::TickInput;
 use lictor_core::verdict::SafetyVerdict;
-use lictor_fuse::tick::{Decided, decide};
-use reader::{Reader, What};
+use lictor_fuse::tick::Decided;
+use lictor_fuse::tick::decide;
+use reader::Reader;
+use reader::What;
 
 // The fuse: its configuration and its run state.
 pub struct Run {
@@ -62,6 +67,7 @@ fn restart(run: Run) -> Run
 
 // Where each list begins in the lent memory, and how many values it can hold.
 const BASE: [usize; 5] = [0, 512, 528, 544, 560];
+
 const CAPACITY: [usize; 5] = [512, 16, 16, 16, 16];
 
 fn least(a: usize, b: usize) -> usize
@@ -91,7 +97,17 @@ fn decide_on(rd: Reader, run: Run, lists: &[f64; 576], inp: TickInput) -> Decide
     let config = run.config;
     let rt = run.rt;
     let t = &lists[..];
-    decide(config, rt, inp, out, values(seen, t, 1), values(seen, t, 2), values(seen, t, 3), values(seen, t, 4), values(seen, t, 0))
+    decide(
+        config,
+        rt,
+        inp,
+        out,
+        values(seen, t, 1),
+        values(seen, t, 2),
+        values(seen, t, 3),
+        values(seen, t, 4),
+        values(seen, t, 0),
+    )
 }
 
 // The tick that comes next, on all that was collected.
@@ -104,7 +120,11 @@ pub fn tick(rd: Reader, run: Run, lists: &[f64; 576], inp: TickInput) -> Ticked
     let verdict = d.verdict;
     let after = Run { config, rt };
     let reader = reader::emptied(rd);
-    Ticked { reader, run: after, verdict }
+    Ticked {
+        reader,
+        run: after,
+        verdict,
+    }
 }
 
 // ---- from tick to tick
@@ -162,9 +182,27 @@ fn take_step(rd: Reader, run: Run, lists: &mut [f64; 576], s: &[u8], at: usize) 
     let i = at + p.used;
     let what = p.what;
     match what {
-        What::Waits => Step { reader: q, run, at: i, how: How::Waits, more: false },
-        What::Refuses(r) => Step { reader: q, run, at: i, how: How::Refuses(r), more: false },
-        What::Ticks(x) => Step { reader: q, run, at: i, how: How::Ticks(x), more: false },
+        What::Waits => Step {
+            reader: q,
+            run,
+            at: i,
+            how: How::Waits,
+            more: false,
+        },
+        What::Refuses(r) => Step {
+            reader: q,
+            run,
+            at: i,
+            how: How::Refuses(r),
+            more: false,
+        },
+        What::Ticks(x) => Step {
+            reader: q,
+            run,
+            at: i,
+            how: How::Ticks(x),
+            more: false,
+        },
         What::Begins => begin_at(q, s, i),
         What::Resets => reset_at(q, run, s, i),
     }
@@ -191,5 +229,10 @@ pub fn advance(rd: Reader, run: Run, lists: &mut [f64; 576], s: &[u8]) -> Advanc
     let reader = t.reader;
     let after = t.run;
     let how = t.how;
-    Advanced { reader, run: after, used: t.at, how }
+    Advanced {
+        reader,
+        run: after,
+        used: t.at,
+        how,
+    }
 }

@@ -293,11 +293,12 @@ module _ {R E H : Type 0} (next : R → List ℕ → Next R E H) (m : Machine ne
     pub within : a .used ≤ length s
 
   ahead-past : (r r' : R) (s : List ℕ) (n : ℕ) (a : Advanced R E H) → n ≤ length s → settled next r s ≡ settled next r' (drop n s) → Ahead r' (drop n s) a → Ahead r s (past n a)
-  ahead-past r r' s n a l e h = record
-    { rest = rw (drop-drop (a .used) n s) at (e ∙ h .rest)
-    ; then = rw (drop-drop (a .used) n s) at (h .then)
-    ; stops = h .stops
-    ; within = omega (arith, h .within, length-drop n s) }
+  ahead-past r r' s n a l e h = record {
+    rest = rw (drop-drop (a .used) n s) at (e ∙ h .rest);
+    then = rw (drop-drop (a .used) n s) at (h .then);
+    stops = h .stops;
+    within = omega (arith, h .within, length-drop n s);
+  }
 
   ahead-by : (f : ℕ) → ((r : R) (s : List ℕ) → length s < f → Ahead r s (advance next f r s))
       → (r : R) (s : List ℕ) → length s ≤ f → (x : Next R E H) → next r s ≡ x → Ahead r s (advance next (suc f) r s)

@@ -39,9 +39,10 @@ finished : (w : Whole) (s : List ℕ) (t₀ : Step) (l₀ : List Float) → Step
     → (_≡_ {A = J.Advanced} (record { reader = t .reader; run = t .run; used = t .at; how = t .how }) (advancedOf w s)) × (l ≡ listsAfter w s)
 unfolding advancedOf listsAfter
 finished w s t₀ l₀ n l t k y =
-    let e = reached-end replayOf replay w s (at-step t l) (t .at) (reached-on replayOf replay (n .reached) (k .reached)) (k .stops y) in
-    ( rw (e, k .how y)
-    , ap (λ (a : Advanced Whole Decided Refusal). a .state .state .lists) (sym e))
+    let e = reached-end replayOf replay w s (at-step t l) (t .at) (reached-on replayOf replay (n .reached) (k .reached)) (k .stops y) in (
+      rw (e, k .how y),
+      ap (λ (a : Advanced Whole Decided Refusal). a .state .state .lists) (sym e),
+    )
 
 abbrev Inv-loop : tie.InvT-loop
 Inv-loop l₀ s t₀ l t = Kept l₀ s t₀ l t

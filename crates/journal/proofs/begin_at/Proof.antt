@@ -47,7 +47,7 @@ returns c =
     let k = byteAt s (a .at) in
     let n : c .before .before .before .before .body-len .result ≡ bodyLen journalKinds k = c .before .before .before .before .body-len .ensures in
     let b : take (a .at + 1 + c .before .before .before .before .body-len .result - (a .at + 1)) (drop (a .at + 1) s) ≡ take (bodyLen journalKinds k) (drop (a .at + 1) s)
-        = ap (λ (m : ℕ). take m (drop (a .at + 1) s)) (add-sub-cancel-left (a .at + 1) _ ∙ n) in
+    = ap (λ (m : ℕ). take m (drop (a .at + 1) s)) (add-sub-cancel-left (a .at + 1) _ ∙ n) in
     rw (c .before .begun .ensures, c .begin .ensures, c .before .before .read-settings .ensures, b, n)
 
 pub begin-at-spec : {M : Type 1} → statement M

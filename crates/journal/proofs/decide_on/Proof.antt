@@ -1,4 +1,3 @@
-
 use borrow.Author.Needs.{needs}
 use Rattle.reader.specs.Reading.{callOf}
 use Rattle.journal.specs.Journal.{decidedOf}

@@ -1,4 +1,3 @@
-
 use borrow.Author.Needs.{needs}
 use Rattle.journal.specs.Journal.{tickedOf, tickOf}
 use Rattle.journal.proofs.tick.Statement.{statement}

@@ -1,4 +1,3 @@
-
 use borrow.Author.Needs.{needs}
 use Prim.Native.Nat.{ℕ, _+_, _-_, min}
 use mathlib.Core.Path.{ap, _∙_}

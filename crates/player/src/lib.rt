@@ -1,0 +1,365 @@
+// Plays a journal from standard input to its end or its first refusal, in constant memory, and writes the text of its ticks and its last line.
+ghost use mathlib.Core.Path.{_≡_};
+ghost use mathlib.Core.Bool.{true};
+ghost use Prim.Native.Nat.{_+_, _-_, _*_, _^_, _<_, _≤_};
+ghost use lib.ListN.{length, take, drop};
+ghost use Rattle.lictor_core.specs.Initial.{zeros};
+ghost use Rattle.bytes_le.specs.Little.{byteAt};
+ghost use Rattle.records.specs.Kinds.{journalKinds, bodyLen};
+ghost use Rattle.text.specs.Line.{lineOf};
+ghost use Rattle.journal.specs.Journal.{wholeOf, tickOf};
+ghost use Rattle.player.specs.Play.{tickedOf, Turned, Taken, Came, Rounded, endedOf, Ran, lastOf};
+use journal::How;
+use journal::Run;
+use judge::Refusal;
+use libc::STDIN_FILENO;
+use libc::STDOUT_FILENO;
+use lictor_core::fuse::TickInput;
+use reader::Reader;
+use text::Line;
+
+// ---- from tick to tick
+
+struct Turn {
+    reader: Reader,
+    run: Run,
+    // the bytes that were taken, and those of text
+    at: usize,
+    n: usize,
+    // a tick was played; else no more is to be had of these bytes
+    ticked: bool,
+    // the number of a refusal, or 0
+    refused: u8,
+}
+
+// The tick whose record ends before place `at`, and its text behind n bytes.
+fn play_tick(
+    code: u8,
+    rd: Reader,
+    run: Run,
+    lists: &[f64; 576],
+    inp: TickInput,
+    at: usize,
+    out: &mut [u8],
+    n: usize,
+) -> Turn
+    requires { ⌜ n + 38400 ≤ length (now out) ⌝ }
+    ensures { λ r. ⌜ tickedOf code (tickOf (wholeOf rd run (now (lists .entry))) inp) at (now (out .entry)) n r (now (out .exit)) ⌝ }
+{
+    let t = journal::tick(rd, run, lists, inp);
+    let reader = t.reader;
+    let after = t.run;
+    let verdict = t.verdict;
+    let rt = after.rt;
+    let m = render::tick_text(code, verdict, rt, out, n);
+    Turn {
+        reader,
+        run: after,
+        at,
+        n: m,
+        ticked: true,
+        refused: 0,
+    }
+}
+
+// All records from a place on up to the next tick, and the tick.
+fn play_turn(
+    code: u8,
+    rd: Reader,
+    run: Run,
+    lists: &mut [f64; 576],
+    s: &[u8],
+    at: usize,
+    out: &mut [u8],
+    n: usize,
+) -> Turn
+    requires { ⌜ (at ≤ length (now s)) × (n + 38400 ≤ length (now out)) ⌝ }
+    ensures { λ r. ⌜ (Turned code (wholeOf rd run (now (lists .entry))) (now (s .entry)) at (now (out .entry)) n r (now (lists .exit)) (now (out .exit))) × (r .ticked ≡ true → at < r .at) ⌝ }
+{
+    let a = journal::advance(rd, run, lists, &s[at..]);
+    let reader = a.reader;
+    let after = a.run;
+    let i = at + a.used;
+    let how = a.how;
+    match how {
+        How::Waits => Turn {
+            reader,
+            run: after,
+            at: i,
+            n,
+            ticked: false,
+            refused: 0,
+        },
+        How::Refuses(r) => Turn {
+            reader,
+            run: after,
+            at: i,
+            n,
+            ticked: false,
+            refused: judge::number(r),
+        },
+        How::Ticks(inp) => {
+            let k = s[i];
+            let e = i + 1 + records::body_len(k);
+            play_tick(code, reader, after, lists, inp, e, out, n)
+        }
+    }
+}
+
+// Whether there is more to do, and room for its text.
+fn goes_on(ticked: bool, n: usize, room: usize) -> bool
+    ensures { λ r. ⌜ (r ≡ true → (ticked ≡ true) × (n + 38400 ≤ room)) ⌝ }
+{
+    if room < render::ROOM {
+        return false;
+    }
+    if room - render::ROOM < n {
+        return false;
+    }
+    ticked
+}
+
+// All records of s, as long as there is room for the text of one more tick.
+fn feed(code: u8, rd: Reader, run: Run, lists: &mut [f64; 576], s: &[u8], out: &mut [u8]) -> Turn
+    requires { ⌜ 38400 ≤ length (now out) ⌝ }
+    ensures { λ r. ⌜ Turned code (wholeOf rd run (now (lists .entry))) (now (s .entry)) 0 (now (out .entry)) 0 r (now (lists .exit)) (now (out .exit)) ⌝ }
+{
+    let mut t = play_turn(code, rd, run, lists, s, 0, out, 0);
+    let mut more = goes_on(t.ticked, t.n, out.len());
+    while more {
+        let q = t.reader;
+        let u = t.run;
+        t = play_turn(code, q, u, lists, s, t.at, out, t.n);
+        more = goes_on(t.ticked, t.n, out.len());
+    }
+    t
+}
+
+// ---- part by part
+
+// Moves the bytes from `at` to `have` down to the front.
+fn move_down(buf: &mut [u8], at: usize, have: usize)
+    requires { ⌜ (at ≤ have) × (have ≤ length (now buf)) ⌝ }
+    ensures { λ _. ⌜ take (have - at) (now (buf .exit)) ≡ take (have - at) (drop at (now (buf .entry))) ⌝ }
+{
+    let n = have - at;
+    let mut i: usize = 0;
+    while i < n {
+        buf[i] = buf[at + i];
+        i += 1;
+    }
+}
+
+fn write_part(out: &[u8], n: usize)
+    requires { ⌜ n ≤ length (now out) ⌝ }
+{
+    io::write_all(STDOUT_FILENO, &out[..n]);
+}
+
+// Plays what is to be had of the first `have` bytes, writes its text, and moves the rest to the front.
+fn take_in(
+    code: u8,
+    rd: Reader,
+    run: Run,
+    lists: &mut [f64; 576],
+    buf: &mut [u8],
+    have: usize,
+    out: &mut [u8],
+) -> Turn
+    requires { ⌜ (have ≤ length (now buf)) × (38400 ≤ length (now out)) ⌝ }
+    ensures { λ r. ⌜ Taken code (wholeOf rd run (now (lists .entry))) (take have (now (buf .entry))) (now (out .entry)) r (now (lists .exit)) (now (buf .exit)) (now (out .exit)) ⌝ }
+{
+    let t = feed(code, rd, run, lists, &buf[..have], out);
+    write_part(out, t.n);
+    move_down(buf, t.at, have);
+    t
+}
+
+// Reads once behind the first `have` bytes, and answers how many are there then.
+fn read_more(buf: &mut [u8], have: usize) -> usize
+    requires { ⌜ have < length (now buf) ⌝ }
+    ensures { λ r. ⌜ Came (take have (now (buf .entry))) r (now (buf .exit)) ⌝ }
+{
+    let got = libc::read(STDIN_FILENO, &mut buf[have..]);
+    have + io::count(got, &buf[have..])
+}
+
+struct Round {
+    reader: Reader,
+    run: Run,
+    // the bytes that were taken, those that wait at the front, and those of text
+    taken: usize,
+    have: usize,
+    n: usize,
+    // the number of a refusal, or 0
+    refused: u8,
+    // there may be more: neither the end of the input nor a refusal was met
+    more: bool,
+}
+
+// Plays what is there, and reads once where that was all.
+fn play_round(
+    code: u8,
+    rd: Reader,
+    run: Run,
+    lists: &mut [f64; 576],
+    buf: &mut [u8],
+    have: usize,
+    out: &mut [u8],
+) -> Round
+    requires { ⌜ (have ≤ length (now buf)) × (65536 ≡ length (now buf)) × (38400 ≤ length (now out)) ⌝ }
+    ensures { λ r. ⌜ Rounded code (wholeOf rd run (now (lists .entry))) (take have (now (buf .entry))) r (now (lists .exit)) (now (buf .exit)) (now (out .exit)) ⌝ }
+{
+    let t = take_in(code, rd, run, lists, buf, have, out);
+    let reader = t.reader;
+    let after = t.run;
+    let taken = t.at;
+    let n = t.n;
+    let refused = t.refused;
+    let left = have - taken;
+    if t.ticked {
+        return Round {
+            reader,
+            run: after,
+            taken,
+            have: left,
+            n,
+            refused: 0,
+            more: true,
+        };
+    }
+    if refused != 0 {
+        return Round {
+            reader,
+            run: after,
+            taken,
+            have: left,
+            n,
+            refused,
+            more: false,
+        };
+    }
+    let e = read_more(buf, left);
+    Round {
+        reader,
+        run: after,
+        taken,
+        have: e,
+        n,
+        refused,
+        more: left < e,
+    }
+}
+
+// ---- the whole
+
+// How a journal ended.
+pub struct Ended {
+    pub run: Run,
+    // the number of its refusal, or 0
+    pub refused: u8,
+    // the place of the record that was refused, or the number of bytes
+    pub place: u64,
+    // it was given up after 2^47 rounds, and all else here says nothing
+    pub gave_up: bool,
+}
+
+// The end, with so many bytes left over: these are a record that the end of the input cut.
+fn finish(run: Run, refused: u8, have: usize, place: u64) -> Ended
+    ensures { λ r. ⌜ r ≡ endedOf run refused have place ⌝ }
+{
+    if refused != 0 {
+        return Ended {
+            run,
+            refused,
+            place,
+            gave_up: false,
+        };
+    }
+    if have != 0 {
+        return Ended {
+            run,
+            refused: judge::number(Refusal::CutBody),
+            place,
+            gave_up: false,
+        };
+    }
+    Ended {
+        run,
+        refused: 0,
+        place,
+        gave_up: false,
+    }
+}
+
+// Round by round to the end of the input or to the first refusal.
+fn run_rounds(code: u8, lists: &mut [f64; 576], buf: &mut [u8], out: &mut [u8]) -> Ended
+    requires { ⌜ (now lists ≡ zeros 576) × (65536 ≡ length (now buf)) × (38400 ≤ length (now out)) ⌝ }
+    ensures { λ r. ⌜ Ran r ⌝ }
+{
+    let mut rd = reader::start();
+    let mut run = journal::start();
+    let mut have: usize = 0;
+    let mut place: u64 = 0;
+    let mut rounds: u64 = 140737488355328;
+    while rounds > 0 {
+        rounds -= 1;
+        let r = play_round(code, rd, run, lists, buf, have, out);
+        rd = r.reader;
+        run = r.run;
+        have = r.have;
+        place += r.taken as u64;
+        let more = r.more;
+        if !more {
+            return finish(run, r.refused, have, place);
+        }
+    }
+    Ended {
+        run,
+        refused: 0,
+        place,
+        gave_up: true,
+    }
+}
+
+// The last line of a journal.
+fn last_line(e: Ended) -> Line
+    ensures { λ r. ⌜ r ≡ lineOf (lastOf e) ⌝ }
+{
+    let refused = e.refused;
+    if refused != 0 {
+        return report::lines::refused_line(refused, e.place);
+    }
+    let run = e.run;
+    let rt = run.rt;
+    let tally = rt.tally;
+    report::lines::end_line(tally)
+}
+
+fn write_line(l: Line) {
+    let text = l.text;
+    let t: &[u8] = &text;
+    if l.n <= t.len() {
+        write_part(t, l.n);
+    }
+}
+
+fn no_lists() -> [f64; 576]
+    ensures { λ r. ⌜ r ≡ zeros 576 ⌝ }
+{
+    [0.0; 576]
+}
+
+// Plays the journal on standard input; what is written of a tick is chosen by the code (LINES or TRACE of `render`).
+pub fn play(code: u8) -> Ended
+    ensures { λ r. ⌜ Ran r ⌝ }
+{
+    let mut lists = no_lists();
+    let mut buf = io::large_buffer();
+    let mut out = io::large_buffer();
+    let e = run_rounds(code, &mut lists, &mut buf, &mut out);
+    if !e.gave_up {
+        write_line(last_line(e));
+    }
+    e
+}
