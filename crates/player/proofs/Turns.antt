@@ -227,10 +227,10 @@ turn-less long at at' h k more m e y = rw e (less-by long at at' h k m y)
 pub record Since (code : ℕ) (l₀ : List Float) (s : List ℕ) (out₀ : List ℕ) (t₀ : Turn) (l : List Float) (out : List ℕ) (t : Turn) (more : Bool) : Type 0 where
   pub turned : Turned code (wholeOf (t₀ .reader) (t₀ .run) l₀) s (t₀ .at) out₀ (t₀ .n) t l out
   pub long : length out ≡ length out₀
-  pub room : more ≡ true → (t .ticked ≡ true) × (t .n + 38400 ≤ length out)
+  pub room : more ≡ true → (t .ticked ≡ true) × (t .n + 19200 ≤ length out)
 
 pub since-first : (code : ℕ) (w : Whole) (s : List ℕ) (at : ℕ) (o : List ℕ) (n : ℕ) (t : Turn) (l : List Float) (out : List ℕ) (more : Bool)
-    → Turned code w s at o n t l out → (more ≡ true → (t .ticked ≡ true) × (t .n + 38400 ≤ length out)) → Since code l s out t l out t more
+    → Turned code w s at o n t l out → (more ≡ true → (t .ticked ≡ true) × (t .n + 19200 ≤ length out)) → Since code l s out t l out t more
 unfolding eventsText
 since-first code w s at o n t l out more p y = record {
   turned = record { told = []; within = p .within; from = omega arith; goes = refl; text = put-none out (t .n); fits = p .fits; stops = p .stops };
@@ -240,7 +240,7 @@ since-first code w s at o n t l out more p y = record {
 
 pub since-more : (code : ℕ) (l₀ : List Float) (s : List ℕ) (out₀ : List ℕ) (t₀ : Turn) (l : List Float) (out : List ℕ) (t : Turn) (more : Bool) (r : Turn) (l' : List Float)
     (out' : List ℕ) (more' : Bool) → t₀ .n ≤ length out₀ → length out' ≡ length out → Since code l₀ s out₀ t₀ l out t more
-    → Turned code (wholeOf (t .reader) (t .run) l) s (t .at) out (t .n) r l' out' → (more' ≡ true → (r .ticked ≡ true) × (r .n + 38400 ≤ length out'))
+    → Turned code (wholeOf (t .reader) (t .run) l) s (t .at) out (t .n) r l' out' → (more' ≡ true → (r .ticked ≡ true) × (r .n + 19200 ≤ length out'))
     → Since code l₀ s out₀ t₀ l' out' r more'
 since-more code l₀ s out₀ t₀ l out t more r l' out' more' h k i q y = record {
   turned = turned-on code _ s (t₀ .at) out₀ (t₀ .n) t l out r l' out' h (i .turned) q;

@@ -43,7 +43,7 @@ fn play_tick(
     out: &mut [u8],
     n: usize,
 ) -> Turn
-    requires { ⌜ n + 38400 ≤ length (now out) ⌝ }
+    requires { ⌜ n + 19200 ≤ length (now out) ⌝ }
     ensures { λ r. ⌜ tickedOf code (tickOf (wholeOf rd run (now (lists .entry))) inp) at (now (out .entry)) n r (now (out .exit)) ⌝ }
 {
     let t = journal::tick(rd, run, lists, inp);
@@ -73,7 +73,7 @@ fn play_turn(
     out: &mut [u8],
     n: usize,
 ) -> Turn
-    requires { ⌜ (at ≤ length (now s)) × (n + 38400 ≤ length (now out)) ⌝ }
+    requires { ⌜ (at ≤ length (now s)) × (n + 19200 ≤ length (now out)) ⌝ }
     ensures { λ r. ⌜ (Turned code (wholeOf rd run (now (lists .entry))) (now (s .entry)) at (now (out .entry)) n r (now (lists .exit)) (now (out .exit))) × (r .ticked ≡ true → at < r .at) ⌝ }
 {
     let a = journal::advance(rd, run, lists, &s[at..]);
@@ -108,7 +108,7 @@ fn play_turn(
 
 // Whether there is more to do, and room for its text.
 fn goes_on(ticked: bool, n: usize, room: usize) -> bool
-    ensures { λ r. ⌜ (r ≡ true → (ticked ≡ true) × (n + 38400 ≤ room)) ⌝ }
+    ensures { λ r. ⌜ (r ≡ true → (ticked ≡ true) × (n + 19200 ≤ room)) ⌝ }
 {
     if room < render::ROOM {
         return false;
@@ -121,7 +121,7 @@ fn goes_on(ticked: bool, n: usize, room: usize) -> bool
 
 // All records of s, as long as there is room for the text of one more tick.
 fn feed(code: u8, rd: Reader, run: Run, lists: &mut [f64; 576], s: &[u8], out: &mut [u8]) -> Turn
-    requires { ⌜ 38400 ≤ length (now out) ⌝ }
+    requires { ⌜ 19200 ≤ length (now out) ⌝ }
     ensures { λ r. ⌜ Turned code (wholeOf rd run (now (lists .entry))) (now (s .entry)) 0 (now (out .entry)) 0 r (now (lists .exit)) (now (out .exit)) ⌝ }
 {
     let mut t = play_turn(code, rd, run, lists, s, 0, out, 0);
@@ -166,7 +166,7 @@ fn take_in(
     have: usize,
     out: &mut [u8],
 ) -> Turn
-    requires { ⌜ (have ≤ length (now buf)) × (38400 ≤ length (now out)) ⌝ }
+    requires { ⌜ (have ≤ length (now buf)) × (19200 ≤ length (now out)) ⌝ }
     ensures { λ r. ⌜ Taken code (wholeOf rd run (now (lists .entry))) (take have (now (buf .entry))) (now (out .entry)) r (now (lists .exit)) (now (buf .exit)) (now (out .exit)) ⌝ }
 {
     let t = feed(code, rd, run, lists, &buf[..have], out);
@@ -207,7 +207,7 @@ fn play_round(
     have: usize,
     out: &mut [u8],
 ) -> Round
-    requires { ⌜ (have ≤ length (now buf)) × (65536 ≡ length (now buf)) × (38400 ≤ length (now out)) ⌝ }
+    requires { ⌜ (have ≤ length (now buf)) × (65536 ≡ length (now buf)) × (19200 ≤ length (now out)) ⌝ }
     ensures { λ r. ⌜ Rounded code (wholeOf rd run (now (lists .entry))) (take have (now (buf .entry))) r (now (lists .exit)) (now (buf .exit)) (now (out .exit)) ⌝ }
 {
     let t = take_in(code, rd, run, lists, buf, have, out);
@@ -294,7 +294,7 @@ fn finish(run: Run, refused: u8, have: usize, place: u64) -> Ended
 
 // Round by round to the end of the input or to the first refusal.
 fn run_rounds(code: u8, lists: &mut [f64; 576], buf: &mut [u8], out: &mut [u8]) -> Ended
-    requires { ⌜ (now lists ≡ zeros 576) × (65536 ≡ length (now buf)) × (38400 ≤ length (now out)) ⌝ }
+    requires { ⌜ (now lists ≡ zeros 576) × (65536 ≡ length (now buf)) × (19200 ≤ length (now out)) ⌝ }
     ensures { λ r. ⌜ Ran r ⌝ }
 {
     let mut rd = reader::start();

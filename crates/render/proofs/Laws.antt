@@ -57,20 +57,20 @@ put-within out n s r out' h p e =
 
 -- ---- lines
 
--- what a line shows of a text: its first 512 bytes
-pub line-most : (s : List ℕ) → lineOf s .n ≤ 512
+-- what a line shows of a text: its first 256 bytes
+pub line-most : (s : List ℕ) → lineOf s .n ≤ 256
 unfolding lineOf
 line-most s = omega arith
 
-pub line-shows : (s : List ℕ) → take (lineOf s .n) (lineOf s .text) ≡ take 512 s
+pub line-shows : (s : List ℕ) → take (lineOf s .n) (lineOf s .text) ≡ take 256 s
 unfolding lineOf
-line-shows s = take-at (take 512 s) (replicate (512 - length s) 0) (min (length s) 512) (omega (arith, length-take 512 s))
+line-shows s = take-at (take 256 s) (replicate (256 - length s) 0) (min (length s) 256) (omega (arith, length-take 256 s))
 
 -- the first k lines of the trace are there
 pub record Traced (v : SafetyVerdict) (rt : FuseRt) (out₀ : List ℕ) (n : ℕ) (out : List ℕ) (at k : ℕ) : Type 0 where
   pub short : k ≤ 74
   pub long : length out ≡ length out₀
-  pub few : at ≤ n + k * 512
+  pub few : at ≤ n + k * 256
   pub so-far : Put out₀ n (traceUpTo k v rt) at out
 
 pub traced-none : (v : SafetyVerdict) (rt : FuseRt) (out₀ : List ℕ) (n : ℕ) → Traced v rt out₀ n out₀ n 0
@@ -82,13 +82,13 @@ pub traced-more : (v : SafetyVerdict) (rt : FuseRt) (out₀ : List ℕ) (n : ℕ
     → Traced v rt out₀ n out' at' (k + 1)
 unfolding traceUpTo
 traced-more v rt out₀ n out at k l at' out' h w z e q p =
-    let g : take (l .n) (l .text) ≡ take 512 (traceText k v rt) = ap (λ (x : Line). take (x .n) (x .text)) e ∙ line-shows (traceText k v rt) in
-    let q' : Put out at (take 512 (traceText k v rt)) at' out' = rw g at q in
+    let g : take (l .n) (l .text) ≡ take 256 (traceText k v rt) = ap (λ (x : Line). take (x .n) (x .text)) e ∙ line-shows (traceText k v rt) in
+    let q' : Put out at (take 256 (traceText k v rt)) at' out' = rw g at q in
     record {
       short = omega arith;
       long = z ∙ p .long;
-      few = omega (arith, p .few, q' .ends, length-take 512 (traceText k v rt));
-      so-far = rw (add-one k) (put-on out₀ n (traceUpTo k v rt) at out (take 512 (traceText k v rt)) at' out' w (p .so-far) q');
+      few = omega (arith, p .few, q' .ends, length-take 256 (traceText k v rt));
+      so-far = rw (add-one k) (put-on out₀ n (traceUpTo k v rt) at out (take 256 (traceText k v rt)) at' out' w (p .so-far) q');
     }
 
 -- ---- a tick
@@ -97,7 +97,7 @@ pub put-tick : (out : List ℕ) (n : ℕ) (v : SafetyVerdict) (l : Line) (r : �
     → Put out n (tickText v) r out'
 put-tick out n v l r out' e p = rw (ap (λ (x : Line). take (x .n) (x .text)) e ∙ tick-whole v) at p
 
-pub tick-end : (out : List ℕ) (n : ℕ) (v : SafetyVerdict) (r : ℕ) (out' : List ℕ) → Put out n (tickText v) r out' → r ≤ n + 512
+pub tick-end : (out : List ℕ) (n : ℕ) (v : SafetyVerdict) (r : ℕ) (out' : List ℕ) → Put out n (tickText v) r out' → r ≤ n + 256
 tick-end out n v r out' p = omega (arith, p .ends, tick-fits v)
 
 module _ (code : ℕ) (v : SafetyVerdict) (rt : FuseRt) (out : List ℕ) (n : ℕ) (m : ℕ) (out' : List ℕ) (p : Put out n (tickText v) m out') where
@@ -111,15 +111,15 @@ module _ (code : ℕ) (v : SafetyVerdict) (rt : FuseRt) (out : List ℕ) (n : �
 
 -- where the room is there, and where it is not
 module _ (out : List ℕ) (n : ℕ) (s : List ℕ) where
-  pub no-room : length out < n + 38400 → (n ≡ placeAfter (length out) n s) × (out ≡ memoryAfter out n s)
+  pub no-room : length out < n + 19200 → (n ≡ placeAfter (length out) n s) × (out ≡ memoryAfter out n s)
   unfolding placeAfter memoryAfter
-  no-room h = rw (lt-leb (n + 38400) (length out) h) (refl, refl)
+  no-room h = rw (lt-leb (n + 19200) (length out) h) (refl, refl)
 
-  pub with-room : n + 38400 ≤ length out → (r : ℕ) (out' : List ℕ) → Put out n s r out' → (r ≡ placeAfter (length out) n s) × (out' ≡ memoryAfter out n s)
+  pub with-room : n + 19200 ≤ length out → (r : ℕ) (out' : List ℕ) → Put out n s r out' → (r ≡ placeAfter (length out) n s) × (out' ≡ memoryAfter out n s)
   unfolding placeAfter memoryAfter
-  with-room h r out' p = rw (le-leb (n + 38400) (length out) h) (p .ends, p .memory)
+  with-room h r out' p = rw (le-leb (n + 19200) (length out) h) (p .ends, p .memory)
 
   -- what a caller learns who saw to the room
-  pub put-is : n + 38400 ≤ length out → (r : ℕ) (out' : List ℕ) → r ≡ placeAfter (length out) n s → out' ≡ memoryAfter out n s → Put out n s r out'
+  pub put-is : n + 19200 ≤ length out → (r : ℕ) (out' : List ℕ) → r ≡ placeAfter (length out) n s → out' ≡ memoryAfter out n s → Put out n s r out'
   unfolding placeAfter memoryAfter
-  put-is h r out' p q = let y = le-leb (n + 38400) (length out) h in record { ends = rw y at p; memory = rw y at q }
+  put-is h r out' p q = let y = le-leb (n + 19200) (length out) h in record { ends = rw y at p; memory = rw y at q }

@@ -11,10 +11,10 @@ use Rattle.lictor_core.specs.declared.verdict.SafetyVerdict.{SafetyVerdict}
 use Rattle.report.specs.Lines.{tickText}
 use Rattle.trace_lines.specs.Trace.{traceText}
 
--- the first k lines of the trace. A line has room for 512 bytes; the longest, twelve floats, has 216.
+-- the first k lines of the trace. A line has room for 256 bytes; the longest, twelve floats, has 216.
 unfoldable pub traceUpTo : ℕ → SafetyVerdict → FuseRt → List ℕ
 traceUpTo zero v rt = []
-traceUpTo (suc k) v rt = traceUpTo k v rt ++ take 512 (traceText k v rt)
+traceUpTo (suc k) v rt = traceUpTo k v rt ++ take 256 (traceText k v rt)
 
 -- code 1 is the trace: the tick's line, and its 74 lines behind it; any other code is the tick's line alone
 unfoldable pub eventText : ℕ → SafetyVerdict → FuseRt → List ℕ
@@ -27,7 +27,7 @@ pub record Put (out : List ℕ) (n : ℕ) (s : List ℕ) (r : ℕ) (out' : List 
 
 -- the same, where the room for a tick is there behind place n; nothing, where it is not
 unfoldable pub placeAfter : ℕ → ℕ → List ℕ → ℕ
-placeAfter room n s = cond (leb (n + 38400) room) (n + length s) n
+placeAfter room n s = cond (leb (n + 19200) room) (n + length s) n
 
 unfoldable pub memoryAfter : List ℕ → ℕ → List ℕ → List ℕ
-memoryAfter out n s = cond (leb (n + 38400) (length out)) (paste out n s (length s)) out
+memoryAfter out n s = cond (leb (n + 19200) (length out)) (paste out n s (length s)) out

@@ -15,8 +15,8 @@ pub const LINES: u8 = 0;
 // The line of the tick, and then every field of the verdict, the run state and the tally.
 pub const TRACE: u8 = 1;
 
-// The bytes that the text of a tick can have at most: 75 lines of 512.
-pub const ROOM: usize = 38400;
+// The bytes that the text of a tick can have at most: 75 lines of 256.
+pub const ROOM: usize = 19200;
 
 // Copies the first k bytes of text to place n.
 fn copy(out: &mut [u8], n: usize, text: &[u8], k: usize)
@@ -32,7 +32,7 @@ fn copy(out: &mut [u8], n: usize, text: &[u8], k: usize)
 
 // Puts a line behind the first n bytes.
 fn put_line(out: &mut [u8], n: usize, l: Line) -> usize
-    requires { ⌜ (n + 512 ≤ length (now out)) × (l .n ≤ 512) ⌝ }
+    requires { ⌜ (n + 256 ≤ length (now out)) × (l .n ≤ 256) ⌝ }
     ensures { λ r. ⌜ Put (now (out .entry)) n (take (l .n) (l .text)) r (now (out .exit)) ⌝ }
 {
     let text = l.text;
@@ -43,7 +43,7 @@ fn put_line(out: &mut [u8], n: usize, l: Line) -> usize
 
 // All lines of the trace.
 fn put_trace(v: SafetyVerdict, rt: FuseRt, out: &mut [u8], n: usize) -> usize
-    requires { ⌜ n + 37888 ≤ length (now out) ⌝ }
+    requires { ⌜ n + 18944 ≤ length (now out) ⌝ }
     ensures { λ r. ⌜ Put (now (out .entry)) n (traceUpTo 74 v rt) r (now (out .exit)) ⌝ }
 {
     let mut at = n;
@@ -56,7 +56,7 @@ fn put_trace(v: SafetyVerdict, rt: FuseRt, out: &mut [u8], n: usize) -> usize
 }
 
 fn put_event(code: u8, v: SafetyVerdict, rt: FuseRt, out: &mut [u8], n: usize) -> usize
-    requires { ⌜ n + 38400 ≤ length (now out) ⌝ }
+    requires { ⌜ n + 19200 ≤ length (now out) ⌝ }
     ensures { λ r. ⌜ Put (now (out .entry)) n (eventText code v rt) r (now (out .exit)) ⌝ }
 {
     let m = put_line(out, n, report::lines::tick_line(v));

@@ -1,4 +1,4 @@
--- No line of `fuse` is cut: each fits into the 512 bytes of a line, so that the first n bytes are its whole text.
+-- No line of `fuse` is cut: each fits into the 256 bytes of a line, so that the first n bytes are its whole text.
 use Prim.Native.Nat.{ℕ, _≤_}
 use mathlib.Core.Path.{_≡_}
 use native.Mathlib.Omega.{arith}
@@ -21,7 +21,7 @@ margin-21 PlusFar = omega arith
 margin-21 MinusFar = omega arith
 margin-21 (Millis z) = signed-21 z
 
-pub tick-fits : (v : SafetyVerdict) → length (tickText v) ≤ 512
+pub tick-fits : (v : SafetyVerdict) → length (tickText v) ≤ 256
 unfolding tickText
 tick-fits v =
     simp length-append
@@ -36,11 +36,11 @@ tick-fits v =
       margin-21 (marginOf (v .«brake_margin»)),
     ))
 
-pub end-fits : (t : Tally) → length (endText t) ≤ 512
+pub end-fits : (t : Tally) → length (endText t) ≤ 256
 unfolding endText
 end-fits t = simp length-append (omega (arith, decimal-20 (t .ticks), decimal-20 (stoppedOf t)))
 
-pub refused-fits : (number place : ℕ) → length (refusedText number place) ≤ 512
+pub refused-fits : (number place : ℕ) → length (refusedText number place) ≤ 256
 unfolding refusedText
 refused-fits number place = simp length-append (omega (arith, decimal-20 number, decimal-20 place))
 

@@ -20,35 +20,35 @@ line-is : (x y : Line) → x .text ≡ y .text → x .n ≡ y .n → x ≡ y
 line-is x y p q = λ i. record { text = p i; n = q i }
 
 -- room for one more: it takes the place of the first zero
-put-room : (s : List ℕ) (b : ℕ) → length s < 512 → putOf (lineOf s) b ≡ lineOf (s ++ (b ∷ []))
+put-room : (s : List ℕ) (b : ℕ) → length s < 256 → putOf (lineOf s) b ≡ lineOf (s ++ (b ∷ []))
 unfolding lineOf putOf
 put-room s b h =
     let e : length (s ++ (b ∷ [])) ≡ length s + 1 = length-append s (b ∷ []) in
-    let m : min (length s) 512 ≡ length s = omega arith in
-    let z : 512 - length s ≡ suc (512 - (length s + 1)) = omega arith in
-    rw (m, lt-ltb (length s) 512 h)
+    let m : min (length s) 256 ≡ length s = omega arith in
+    let z : 256 - length s ≡ suc (256 - (length s + 1)) = omega arith in
+    rw (m, lt-ltb (length s) 256 h)
     (line-is _ _
-    (rw (take-all 512 s (omega arith), take-all 512 (s ++ (b ∷ [])) (omega arith), z, e)
-    (set-append-seam s 0 (replicate (512 - (length s + 1)) 0) b ∙ sym (append-assoc s (b ∷ []) (replicate (512 - (length s + 1)) 0))))
+    (rw (take-all 256 s (omega arith), take-all 256 (s ++ (b ∷ [])) (omega arith), z, e)
+    (set-append-seam s 0 (replicate (256 - (length s + 1)) 0) b ∙ sym (append-assoc s (b ∷ []) (replicate (256 - (length s + 1)) 0))))
     (rw e (omega arith)))
 
-put-full : (s : List ℕ) (b : ℕ) → 512 ≤ length s → putOf (lineOf s) b ≡ lineOf (s ++ (b ∷ []))
+put-full : (s : List ℕ) (b : ℕ) → 256 ≤ length s → putOf (lineOf s) b ≡ lineOf (s ++ (b ∷ []))
 unfolding lineOf putOf
 put-full s b h =
     let e : length (s ++ (b ∷ [])) ≡ length s + 1 = length-append s (b ∷ []) in
-    let m : min (length s) 512 ≡ 512 = omega arith in
-    let z : 512 - length s ≡ 512 - (length s + 1) = omega arith in
+    let m : min (length s) 256 ≡ 256 = omega arith in
+    let z : 256 - length s ≡ 256 - (length s + 1) = omega arith in
     rw (m)
     (line-is _ _
-    (rw (take-append-le 512 s (b ∷ []) h, e, z) refl)
+    (rw (take-append-le 256 s (b ∷ []) h, e, z) refl)
     (rw e (omega arith)))
 
-put-by : (s : List ℕ) (b : ℕ) → Dec (512 ≤ length s) → putOf (lineOf s) b ≡ lineOf (s ++ (b ∷ []))
+put-by : (s : List ℕ) (b : ℕ) → Dec (256 ≤ length s) → putOf (lineOf s) b ≡ lineOf (s ++ (b ∷ []))
 put-by s b (yes h) = put-full s b h
 put-by s b (no h) = put-room s b (omega arith)
 
 pub put-line : (s : List ℕ) (b : ℕ) → putOf (lineOf s) b ≡ lineOf (s ++ (b ∷ []))
-put-line s b = put-by s b (decLe 512 (length s))
+put-line s b = put-by s b (decLe 256 (length s))
 
 pub push-line : (s t : List ℕ) → pushOf (lineOf s) t ≡ lineOf (s ++ t)
 unfolding pushOf
@@ -56,8 +56,8 @@ push-line s [] = ap lineOf (sym (append-nil s))
 push-line s (b ∷ t) = ap (λ (l : Line). pushOf l t) (put-line s b) ∙ push-line (s ++ (b ∷ [])) t ∙ ap lineOf (append-assoc s (b ∷ []) t)
 
 -- the bytes that a writer of the first n bytes writes
-pub line-text : (s : List ℕ) → length s ≤ 512 → take (lineOf s .n) (lineOf s .text) ≡ s
+pub line-text : (s : List ℕ) → length s ≤ 256 → take (lineOf s .n) (lineOf s .text) ≡ s
 unfolding lineOf
 line-text s h =
-    let m : min (length s) 512 ≡ length s = omega arith in
-    rw (m, take-all 512 s h) (take-append-seam s (replicate (512 - length s) 0))
+    let m : min (length s) 256 ≡ length s = omega arith in
+    rw (m, take-all 256 s h) (take-append-seam s (replicate (256 - length s) 0))

@@ -1,4 +1,4 @@
-// Lines of text, built by value: every function takes a line and returns the line with more behind it. A line holds 512 bytes; what comes after is dropped.
+// Lines of text, built by value: every function takes a line and returns the line with more behind it. A line holds 256 bytes; what comes after is dropped.
 ghost use mathlib.Core.Path.{_≡_};
 ghost use mathlib.Core.List.{[]};
 ghost use lib.IntN.{natAbs};
@@ -8,14 +8,14 @@ ghost use Rattle.text.specs.Commas.{commaAt, numbersText, floatsText};
 
 // The first n bytes are the line's, the others are zero.
 pub struct Line {
-    pub text: [u8; 512],
+    pub text: [u8; 256],
     pub n: usize,
 }
 
 pub fn empty() -> Line
     ensures { λ r. ⌜ r ≡ lineOf [] ⌝ }
 {
-    let text = [0; 512];
+    let text = [0; 256];
     Line { text, n: 0 }
 }
 
@@ -26,7 +26,7 @@ pub fn push(mut l: Line, b: &[u8]) -> Line
     let mut i: usize = 0;
     while i < b.len() {
         let n = l.n;
-        if n < 512 {
+        if n < 256 {
             l.text[n] = b[i];
             l.n = n + 1;
         }

@@ -13,7 +13,7 @@ slice-aggregate-copy c = search needs
 copy-requires : tie.Need-copy-requires
 copy-requires c κs =
     let l = c .before .before .before .before .args .l in
-    let e : length (l .text) ≡ 512 = search needs in
+    let e : length (l .text) ≡ 256 = search needs in
     (search needs, omega (arith, e))
 
 add-result : tie.Need-add-result
@@ -25,7 +25,7 @@ same-length c = search needs
 returns : tie.Need-returns
 returns c =
     let l = c .before .before .before .before .before .before .before .args .l in
-    let e : length (l .text) ≡ 512 = search needs in
+    let e : length (l .text) ≡ 256 = search needs in
     put-part _ _ _ _ _ (omega (arith, e)) (c .before .before .copy .ensures)
 
 pub put-line-spec : {M : Type 1} → statement M
