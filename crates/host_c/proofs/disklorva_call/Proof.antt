@@ -21,7 +21,7 @@ packed-requires : tie.Need-packed-requires
 packed-requires c κs = search needs
 
 returns : tie.Need-returns
-returns c = cc
+returns c = rw (c .packed .ensures, c .before .tick .ensures, c .before .before .outcome-in .ensures, c .before .before .before .input-in .ensures, c .before .before .before .before .state-in .ensures, c .before .before .before .before .before .settings-in .ensures)
 
 pub disklorva-call-spec : {M : Type 1} → statement M
 disklorva-call-spec =

@@ -14,7 +14,7 @@ state-out-requires c κs = search needs
 
 returns : tie.Need-returns
 unfolding resetRun
-returns c = cc
+returns c = rw (c .state-out .ensures, c .before .reset .ensures, c .before .before .state-in .ensures)
 
 pub restarted-spec : {M : Type 1} → statement M
 restarted-spec = tie.close (tie.spec state-in-requires reset-requires state-out-requires returns)
