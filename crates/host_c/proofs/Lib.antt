@@ -1,0 +1,4 @@
+pub mod Keys
+pub mod Refused
+pub mod Stored
+pub mod Types

@@ -1,0 +1,27 @@
+-- A call whose settings are refused.
+use mathlib.Core.Path.{_≡_, refl, _∙_, ap}
+use mathlib.Core.Bool.{Bool, false, cond}
+use mathlib.Core.List.{List}
+use Prim.Native.Nat.{ℕ}
+use lib.Ieee.{Float}
+use Rattle.lictor_core.specs.declared.envelope.Settings.{Settings}
+use Rattle.lictor_core.specs.declared.fuse.FuseRt.{FuseRt}
+use Rattle.lictor_core.specs.declared.fuse.TickInput.{TickInput}
+use Rattle.lictor_core.specs.declared.outcome.Outcome.{Outcome}
+use Rattle.lictor_core.specs.Settings.{checkOf, checkNumber}
+use Rattle.lictor_fuse.specs.declared.tick.Ticked.{Ticked}
+use Rattle.lictor_fuse.specs.Tick.{isAccepted, noVerdict, tickOf}
+use Rattle.host.proofs.Refused.{refused-call}
+use Rattle.host_c.specs.declared.state.RunState.{RunState}
+use Rattle.host_c.specs.Call.{keptOf, callOf}
+use Rattle.host_c.specs.State.{stateOut}
+use Rattle.host_c.specs.Verdict.{verdictOut}
+
+-- the number of the cause, no verdict, and every field of the run state
+pub refused-fields : (before : RunState) (s : Settings) (rt : FuseRt) (inp : TickInput) (out : Outcome) (pos vel aux ext chunk : List Float) → isAccepted (checkOf s) ≡ false
+    → let c = callOf before (tickOf s rt inp out pos vel aux ext chunk) in (c .number ≡ checkNumber (checkOf s)) × (c .verdict ≡ verdictOut noVerdict) × (c .rt ≡ before)
+unfolding callOf keptOf
+refused-fields before s rt inp out pos vel aux ext chunk bad =
+    let e = refused-call s rt inp out pos vel aux ext chunk bad in
+    let t = tickOf s rt inp out pos vel aux ext chunk in
+    (e .0, ap verdictOut (e .1), ap (λ (n : ℕ). keptOf n before (stateOut (t .rt))) (e .0) ∙ ap (λ (b : Bool). cond b (stateOut (t .rt)) before) bad)

@@ -1,0 +1,60 @@
+-- The library's types as a walk takes them (the crate `host`, `Data.antt`), and how the by-value call's result and the answer lie.
+--     S, G, I, O   the run state, the settings, a tick's numbers, the outcome.        R, Z     the result of `disklorva_call`, and the answer of `disklorva_tick`
+-- Assumes nothing.
+use mathlib.Core.Path.{refl}
+use mir.Syntax.{w8, tyInt}
+use mir.Val.{vint}
+use denote.Struct.Laws as LL
+use Rattle.host.proofs.Call.{Parts}
+use Rattle.host.proofs.Data.{Data, struct, vals}
+use Rattle.host_c.specs.Call.{answerOf}
+use Rattle.host_c.proofs.state.RunState as St
+use Rattle.host_c.proofs.state.RunState.Laws as St′
+use Rattle.host_c.proofs.input.Settings as Se
+use Rattle.host_c.proofs.input.Settings.Laws as Se′
+use Rattle.host_c.proofs.input.Input as In
+use Rattle.host_c.proofs.input.Input.Laws as In′
+use Rattle.host_c.proofs.input.Outcome as Oc
+use Rattle.host_c.proofs.input.Outcome.Laws as Oc′
+use Rattle.host_c.proofs.verdict.Verdict as Ve
+use Rattle.host_c.proofs.verdict.Verdict.Laws as Ve′
+use Rattle.host_c.proofs.Called as Ca
+use Rattle.host_c.proofs.Called.Laws as Ca′
+use Rattle.host_c.proofs.Answer as An
+use Rattle.host_c.proofs.Answer.Laws as An′
+
+abbrev pub S : Data
+S = struct St.the-type St′.the-laws St′.the-plain
+
+abbrev pub G : Data
+G = struct Se.the-type Se′.the-laws Se′.the-plain
+
+abbrev pub I : Data
+I = struct In.the-type In′.the-laws In′.the-plain
+
+abbrev pub O : Data
+O = struct Oc.the-type Oc′.the-laws Oc′.the-plain
+
+abbrev pub R : Data
+R = struct Ca.the-type Ca′.the-laws Ca′.the-plain
+
+abbrev pub Z : Data
+Z = struct An.the-type An′.the-laws An′.the-plain
+
+abbrev pub parts : Parts S R Z
+parts = record {
+  τc = tyInt w8;
+  τv = Ve′.mir;
+  νR = Ca.the-type .name;
+  νZ = An.the-type .name;
+  cv = λ r. vint w8 (r .number);
+  vv = λ r. LL.val Ve.the-type Ve′.the-laws (r .verdict);
+  st = λ r. r .rt;
+  an = answerOf;
+  R-ty = refl;
+  Z-ty = refl;
+  R-val = λ r. refl;
+  Z-val = λ r. refl;
+  st-of = λ r is. LL.owed Ca.the-type Ca′.the-laws r (vals R r) is .1 .0;
+  an-of = λ r is. LL.owes An.the-type An′.the-laws (answerOf r) (LL.owed Ca.the-type Ca′.the-laws r (vals R r) is .0, (LL.owed Ca.the-type Ca′.the-laws r (vals R r) is .1 .1 .0, tt));
+}

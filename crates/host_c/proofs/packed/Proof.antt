@@ -1,0 +1,25 @@
+use Rattle.host_c.specs.Call.{callOf}
+use borrow.Author.Needs.{needs}
+use Rattle.host_c.proofs.packed.Statement.{statement}
+use Rattle.host_c.proofs.packed.Tie as tie
+
+check-number-requires : tie.Need-check-number-requires
+check-number-requires c κs = search needs
+
+state-out-requires : tie.Need-state-out-requires
+state-out-requires c κs = search needs
+
+kept-requires : tie.Need-kept-requires
+kept-requires c κs = search needs
+
+verdict-out-requires : tie.Need-verdict-out-requires
+verdict-out-requires c κs = search needs
+
+returns : tie.Need-returns
+unfolding callOf
+returns c = cc
+
+pub packed-spec : {M : Type 1} → statement M
+packed-spec =
+    tie.close
+    (tie.spec check-number-requires state-out-requires kept-requires verdict-out-requires returns)

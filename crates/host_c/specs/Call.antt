@@ -1,0 +1,28 @@
+-- One call of the library.
+use mathlib.Core.Bool.{cond}
+use Prim.Native.Nat.{ℕ}
+use lib.Dec.{eqb}
+use Rattle.lictor_core.specs.Initial.{resetOf}
+use Rattle.lictor_core.specs.Settings.{checkNumber}
+use Rattle.lictor_fuse.specs.declared.tick.Ticked.{Ticked}
+use Rattle.host_c.specs.declared.Answer.{Answer}
+use Rattle.host_c.specs.declared.Called.{Called}
+use Rattle.host_c.specs.declared.state.RunState.{RunState}
+use Rattle.host_c.specs.State.{stateIn, stateOut}
+use Rattle.host_c.specs.Verdict.{verdictOut}
+
+-- a refused call keeps every field of the run state, as it was lent
+unfoldable pub keptOf : ℕ → RunState → RunState → RunState
+keptOf number before after = cond (eqb number 0) after before
+
+-- what a call on the run state `before` gives, of what the fuse gives
+unfoldable pub callOf : RunState → Ticked → Called
+callOf before t = record { number = checkNumber (t .check); rt = keptOf (checkNumber (t .check)) before (stateOut (t .rt)); verdict = verdictOut (t .verdict) }
+
+-- all of it but the run state, which is stored where the host lent it
+abbrev pub answerOf : Called → Answer
+answerOf c = record { number = c .number; verdict = c .verdict }
+
+-- the run state at the start of an episode
+unfoldable pub resetRun : RunState → RunState
+resetRun rt = stateOut (resetOf (stateIn rt))

@@ -1,0 +1,5 @@
+pub mod Call
+pub mod Flags
+pub mod Input
+pub mod State
+pub mod Verdict

@@ -1,0 +1,154 @@
+// The fuse as a static library: what a controller in C or Rust calls. The host lends its run state, and each call changes it where it lies.
+// Every type here is numbers in the layout of C, and every pattern of their bytes has a meaning, so that a call asks nothing of its caller but memory.
+ghost use mathlib.Core.Path.{_≡_};
+ghost use mathlib.Core.Bool.{false};
+ghost use Rattle.fmath.specs.Root.{rootOf};
+ghost use Rattle.lictor_core.specs.Initial.{newOf};
+ghost use Rattle.lictor_core.specs.Settings.{checkOf, checkNumber};
+ghost use Rattle.lictor_fuse.specs.Tick.{tickOf, isAccepted, noVerdict};
+ghost use Rattle.host_c.specs.Call.{keptOf, callOf, answerOf, resetRun};
+ghost use Rattle.host_c.specs.Input.{settingsIn, inputIn, outcomeIn};
+ghost use Rattle.host_c.specs.State.{stateIn, stateOut};
+ghost use Rattle.host_c.specs.Verdict.{verdictOut};
+use crate::input::Input;
+use crate::input::Outcome;
+use crate::input::Settings;
+use crate::input::input_in;
+use crate::input::outcome_in;
+use crate::input::settings_in;
+use crate::state::RunState;
+use crate::state::state_in;
+use crate::state::state_out;
+use crate::verdict::Verdict;
+use crate::verdict::verdict_out;
+use lictor_core::settings::check_number;
+use lictor_fuse::tick::Ticked;
+
+pub mod input; // what a tick is given
+pub mod state; // the run state
+pub mod verdict; // what a tick gives
+
+// What a call answers: 0 and the verdict, or the number of a refusal of the settings.
+#[repr(C)]
+pub struct Answer {
+    pub number: u8,
+    pub verdict: Verdict,
+}
+
+// The same, with the run state.
+#[repr(C)]
+pub struct Called {
+    pub number: u8,
+    pub rt: RunState,
+    pub verdict: Verdict,
+}
+
+// The run state after a call: a refused one leaves every field as it was.
+fn kept(number: u8, before: RunState, after: RunState) -> RunState
+    ensures { λ r. ⌜ r ≡ keptOf number before after ⌝ }
+{
+    if number == 0 {
+        return after;
+    }
+    before
+}
+
+fn packed(before: RunState, t: Ticked) -> Called
+    ensures { λ r. ⌜ r ≡ callOf before t ⌝ }
+{
+    let c = t.check;
+    let number = check_number(c);
+    let z = t.rt;
+    let after = state_out(z);
+    let rt = kept(number, before, after);
+    let v = t.verdict;
+    let verdict = verdict_out(v);
+    Called {
+        number,
+        rt,
+        verdict,
+    }
+}
+
+fn restarted(rt: RunState) -> RunState
+    ensures { λ r. ⌜ r ≡ resetRun rt ⌝ }
+{
+    let z = state_in(rt);
+    let n = lictor_fuse::episode::reset(z);
+    state_out(n)
+}
+
+// ---- what is exported
+
+// A run state for which no episode has begun.
+#[no_mangle]
+pub extern "C" fn disklorva_new() -> RunState
+    ensures { λ r. ⌜ r ≡ stateOut newOf ⌝ }
+{
+    let z = lictor_fuse::episode::new();
+    state_out(z)
+}
+
+// Starts an episode in the lent run state.
+#[no_mangle]
+pub extern "C" fn disklorva_reset(rt: &mut RunState)
+    ensures { λ _. ⌜ now (rt .exit) ≡ resetRun (now (rt .entry)) ⌝ }
+{
+    *rt = restarted(*rt);
+}
+
+// One tick by value: the run state goes in and comes back, and nothing that is lent is changed.
+#[no_mangle]
+pub extern "C" fn disklorva_call(
+    s: Settings,
+    rt: RunState,
+    inp: Input,
+    out: Outcome,
+    pos: &[f64],
+    vel: &[f64],
+    aux: &[f64],
+    ext: &[f64],
+    chunk: &[f64],
+) -> Called
+    ensures { λ r. ⌜ r ≡ callOf rt (tickOf (settingsIn s) (stateIn rt) (inputIn inp) (outcomeIn out) (now (pos .entry)) (now (vel .entry)) (now (aux .entry)) (now (ext .entry)) (now (chunk .entry))) ⌝ }
+{
+    let g = settings_in(s);
+    let z = state_in(rt);
+    let i = input_in(inp);
+    let u = outcome_in(out);
+    let t = lictor_fuse::tick::tick(g, z, i, u, pos, vel, aux, ext, chunk);
+    packed(rt, t)
+}
+
+// One tick of the lent run state. Where the settings are refused, the answer has the number of the cause and no verdict, and every field of the run state is as it was.
+#[no_mangle]
+pub extern "C" fn disklorva_tick(
+    rt: &mut RunState,
+    s: Settings,
+    inp: Input,
+    out: Outcome,
+    pos: &[f64],
+    vel: &[f64],
+    aux: &[f64],
+    ext: &[f64],
+    chunk: &[f64],
+) -> Answer
+    ensures { λ r. ⌜ (r ≡ answerOf (callOf (now (rt .entry)) (tickOf (settingsIn s) (stateIn (now (rt .entry))) (inputIn inp) (outcomeIn out) (now (pos .entry)) (now (vel .entry)) (now (aux .entry)) (now (ext .entry)) (now (chunk .entry)))))
+        × (now (rt .exit) ≡ callOf (now (rt .entry)) (tickOf (settingsIn s) (stateIn (now (rt .entry))) (inputIn inp) (outcomeIn out) (now (pos .entry)) (now (vel .entry)) (now (aux .entry)) (now (ext .entry)) (now (chunk .entry))) .rt)
+        × (isAccepted (checkOf (settingsIn s)) ≡ false → (r .number ≡ checkNumber (checkOf (settingsIn s))) × (r .verdict ≡ verdictOut noVerdict) × (now (rt .exit) ≡ now (rt .entry))) ⌝ }
+{
+    let t = disklorva_call(s, *rt, inp, out, pos, vel, aux, ext, chunk);
+    *rt = t.rt;
+    Answer {
+        number: t.number,
+        verdict: t.verdict,
+    }
+}
+
+// The square root that the tick uses, the double nearest the exact root: for those who measure or compare it alone.
+#[no_mangle]
+pub extern "C" fn disklorva_sqrt(x: f64) -> f64
+    ensures { λ r. ⌜ r ≡ rootOf x ⌝ }
+{
+    fmath::sqrt(x)
+}

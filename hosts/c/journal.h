@@ -1,0 +1,25 @@
+/* A journal's records, for the example host: the reader of the bytes, and the causes by which a record is refused. */
+#ifndef JOURNAL_H
+#define JOURNAL_H
+
+#include "../disklorva.h"
+
+enum { CHUNK, POS, VEL, AUX, EXT, LISTS, ROOM = 512 };
+
+/* What was collected for the next tick, and the host's own parts: one settings record and the run state that is lent. */
+typedef struct {
+    disklorva_settings settings;
+    disklorva_run_state rt;
+    int has_settings;
+    disklorva_input input;
+    disklorva_outcome outcome;
+    int has_outcome;
+    double list[LISTS][ROOM];
+    size_t count[LISTS];
+} host;
+
+/* Takes the record that starts at bytes, of which n are left. Gives 0, or the number of a refusal; *used is the record's length, *ticked says whether
+ * *verdict was made. */
+int host_record(host *h, const uint8_t *bytes, size_t n, size_t *used, int *ticked, disklorva_verdict *verdict);
+
+#endif
