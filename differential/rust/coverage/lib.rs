@@ -141,6 +141,16 @@ impl Coverage {
         self.groups().iter().flat_map(|group| &group.points).map(|point| point.reached > 0).collect()
     }
 
+    /// What each of these points is worth to a sample: states and reasons most, then the rows of fsm.rs.
+    pub fn worth(&self) -> Vec<usize> {
+        let of = |group: &&Group| match group.title {
+            title if title == self.states.group.title || title == self.reasons.group.title => 30,
+            title if title == self.rows.group.title => 6,
+            _ => 1,
+        };
+        self.groups().iter().flat_map(|group| vec![of(group); group.points.len()]).collect()
+    }
+
     /// How many causes of refusal, and pairs of them, were reached.
     pub fn refusals_reached(&self) -> usize {
         self.numbers.group.points.iter().chain(&self.pairs.group.points).filter(|point| point.reached > 0).count()
