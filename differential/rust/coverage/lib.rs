@@ -156,6 +156,13 @@ impl Coverage {
         self.numbers.group.points.iter().chain(&self.pairs.group.points).filter(|point| point.reached > 0).count()
     }
 
+    /// How many points were reached, of those that can be.
+    pub fn counted(&self) -> (usize, usize) {
+        let groups = self.groups();
+        let points = groups.iter().flat_map(|group| &group.points).filter(|point| point.never.is_none());
+        points.fold((0, 0), |(reached, of), point| (reached + usize::from(point.reached > 0), of + 1))
+    }
+
     /// The points that were not reached though they can be, as `group: point`.
     pub fn missing(&self) -> Vec<String> {
         let mut missing = Vec::new();

@@ -220,7 +220,7 @@ fn make(folder: &Path, bytes: usize, trace: usize) -> io::Result<()> {
     all.print(&mut io::stdout().lock(), false)?;
     refusals(folder)?;
     fs::write(folder.join("speed.journal"), speed(2000))?;
-    let bytes = journal(&enforce(), &Rng::new("trace", 1), Most { bytes, trace });
+    let bytes = journal(&enforce(), &Rng::new("trace", 1), Most { bytes: usize::MAX, trace });
     store(folder, "trace", &bytes)?;
     match unreached(&enforce(), &bytes).join(", ") {
         lacks if lacks.is_empty() => Ok(()),
