@@ -96,7 +96,7 @@ def noticed_by(mutant: Mutant, good: build.Builder, folder: pathlib.Path, sample
     name = differs(good, program, [str(samples / "trace.journal")])
     if name:
         return STORED, name
-    name = differs(good, program, ["--each", "--seeds", "2"])
+    name = differs(good, program, ["--each", "--seeds", "5"])
     if name:
         return SHORT, name
     program = build_mutant(mutant, good, folder, 2)
