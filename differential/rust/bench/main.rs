@@ -2,8 +2,9 @@
 //!
 //!     bench JOURNAL [ROUNDS]
 //!
-//! The ticks of the journal are laid out for both sides beforehand. A round runs all of them on each side, in turns, and
-//! the median of the rounds, in processor time, is printed with the ratio. Before that every verdict is compared.
+//! The ticks of the journal are laid out for both sides beforehand. A round runs all of them on each side, in turns (a short
+//! journal several times, so that reading the clock does not count). The median of the rounds, in processor time, is printed
+//! with the ratio. Before that every verdict is compared.
 
 use std::{fs, hint::black_box, process::ExitCode};
 
@@ -41,10 +42,12 @@ fn main() -> ExitCode {
     let ours = Ours { settings: settings_of(&settings) };
     ours.agrees(&rust, &calls);
     println!("{} ticks, {rounds} rounds; nanoseconds, the Rust, ratio", calls.len());
-    let ticks = calls.len() as f64;
-    let base = median(rounds, ticks, || rust.all(&calls), || ours.lent(&calls));
-    print("host tick (lent run state)", base);
-    print("tick by value", median(rounds, ticks, || rust.all(&calls), || ours.by_value(&calls)));
+    let times = 5000usize.div_ceil(calls.len());
+    let ticks = (times * calls.len()) as f64;
+    let repeated = |run: &dyn Fn()| (0..times).for_each(|_| run());
+    let theirs = || repeated(&|| rust.all(&calls));
+    print("host tick (lent run state)", median(rounds, ticks, theirs, || repeated(&|| ours.lent(&calls))));
+    print("tick by value", median(rounds, ticks, theirs, || repeated(&|| ours.by_value(&calls))));
     let xs = doubles();
     let count = xs.len() as f64;
     let independent = median(rounds, count, || each(&xs, f64::sqrt), || each(&xs, disklorva::sqrt));
