@@ -3,8 +3,9 @@
 
     mutate.py [--src DIR] [--only N ..] [--seeds N] [--from N]
 
-Prints one line for each mutant. The exit status is 0 if every mutant was noticed but those that change nothing a journal
-can show, and none of these was.
+Prints one line for each mutant: whether the stored sample notices it (the journal that the tests replay with no Rust), else
+the short run (differential/run --short), else a longer one. Then a table by files. The exit status is 0 if every mutant was
+noticed but those that change nothing a journal can show, and none of these was.
 """
 
 import argparse
@@ -84,15 +85,37 @@ def differs(good: build.Builder, program: pathlib.Path, options: list):
     return None
 
 
-def noticed_by(mutant: Mutant, good: build.Builder, folder: pathlib.Path, samples: list, seeds: int):
-    """The samples first, then short journals; where that is not enough the profiles that are run once, and more seeds,
-    with a program that is slower to build and faster to run."""
+# Who notices a mutant: each is asked where the one before does not.
+STORED, SHORT, LONGER, NOBODY = "stored sample", "short run", "longer run", "nobody"
+
+
+def noticed_by(mutant: Mutant, good: build.Builder, folder: pathlib.Path, samples: pathlib.Path, seeds: int):
+    """Who notices it, and by which journal. The longer run has the other samples, the profiles that are run once and more
+    seeds, with a program that is slower to build and faster to run."""
     program = build_mutant(mutant, good, folder, 0)
-    name = differs(good, program, samples) or differs(good, program, ["--each", "--seeds", "1"])
+    name = differs(good, program, [str(samples / "trace.journal")])
     if name:
-        return name
+        return STORED, name
+    name = differs(good, program, ["--each", "--seeds", "5"])
+    if name:
+        return SHORT, name
     program = build_mutant(mutant, good, folder, 2)
-    return differs(good, program, ["--once"]) or differs(good, program, ["--each", "--seeds", str(seeds)])
+    others = sorted(str(path) for path in samples.glob("*.journal") if path.stem not in ("trace", "speed"))
+    for options in (others, ["--once"], ["--each", "--seeds", str(seeds)]):
+        name = differs(good, program, options)
+        if name:
+            return LONGER, name
+    return NOBODY, None
+
+
+def table(counts: dict) -> None:
+    """How many mutants of each file were noticed by whom; those that change nothing are noticed by nobody."""
+    columns = [STORED, SHORT, LONGER, NOBODY]
+    print(f"{'':14}" + "".join(f"{column:>15}" for column in columns))
+    for file in sorted(counts):
+        print(f"{file:14}" + "".join(f"{counts[file].get(column, 0):15}" for column in columns))
+    total = [sum(own.get(column, 0) for own in counts.values()) for column in columns]
+    print(f"{'all':14}" + "".join(f"{n:15}" for n in total))
 
 
 def main() -> int:
@@ -110,34 +133,29 @@ def main() -> int:
     folder = build.DEFAULT_OUT / "mutant"
     stored = build.DEFAULT_OUT / "samples"
     subprocess.run([str(good.out / "sample"), str(stored)], stdout=subprocess.DEVNULL, check=True)
-    samples = sorted(str(path) for path in stored.glob("*.journal"))
-    wrong = 0
-    counts = {"noticed": 0, "by the samples": 0, "same": 0}
+    wrong, counts = 0, {}
     started = time.time()
     for mutant in read_mutants(build.HERE / "mutants.txt"):
         if given.only and mutant.number not in given.only or mutant.number < given.start:
             continue
         try:
-            name = noticed_by(mutant, good, folder, samples, given.seeds)
+            who, name = noticed_by(mutant, good, folder, stored, given.seeds)
         except (build.BuildError, edits.EditError) as what:
             print(f"BROKEN   {mutant.title()}\n{what}", flush=True)
             wrong += 1
             continue
+        own = counts.setdefault(pathlib.PurePath(mutant.file).name, {})
+        own[who] = own.get(who, 0) + 1
         if name and not mutant.same:
-            counts["noticed"] += 1
-            counts["by the samples"] += (stored / f"{name}.journal").exists()
-            print(f"noticed  {mutant.title()}  [{name}]", flush=True)
+            print(f"noticed  {mutant.title()}  [{who}: {name}]", flush=True)
         elif not name and mutant.same:
-            counts["same"] += 1
             print(f"same     {mutant.title()}  [{mutant.same}]", flush=True)
         else:
             wrong += 1
             print(f"{'NOT SAME' if name else 'MISSED  '} {mutant.title()}  [{name}]", flush=True)
     shutil.rmtree(folder, ignore_errors=True)
-    print(
-        f"{counts['noticed']} noticed ({counts['by the samples']} by the samples alone), {counts['same']} change nothing, "
-        f"{wrong} wrong, {time.time() - started:.0f} s"
-    )
+    table(counts)
+    print(f"{wrong} wrong, {time.time() - started:.0f} s")
     return 1 if wrong else 0
 
 

@@ -1,6 +1,9 @@
 //! The cases of 01-scope.md on the Rust: whether it does what the paper says of them.
 //!
-//! Prints one line for each case; the exit status is 1 if the Rust answers otherwise than the paper.
+//!     cases [unstarred]
+//!
+//! Prints one line for each case; the exit status is 1 if the Rust answers otherwise than the paper. `cases unstarred`
+//! prints what the program `cases` of the repository prints: it is stored there, and replayed by the tests.
 
 use std::process::ExitCode;
 
@@ -80,6 +83,10 @@ fn text(journal: &[u8]) -> String {
 }
 
 fn main() -> ExitCode {
+    if std::env::args().nth(1).is_some_and(|what| what == "unstarred") {
+        print!("{}", unstarred());
+        return ExitCode::SUCCESS;
+    }
     let mut wrong = 0;
     for case in [acknowledgements(), stops(), clamps(), faults(), clock(), numbers()].into_iter().flatten() {
         println!("{}: {}", case.name, case.rust.trim_end().replace('\n', " / "));
@@ -203,6 +210,38 @@ fn clock() -> Vec<Case> {
     }
     answers.dedup();
     vec![case("last t 4294967295, any t", "7 18 256 3", answers.join(", "))]
+}
+
+/// The tick behind one at `last`, which nothing is wrong with but its t: the line that `fuse` prints for it.
+fn behind(last: u32, missed: u8, t: u32) -> String {
+    let mut story = Story::new(Settings { watchdog: 255, ..roomy() });
+    story.tick(|p| {
+        p.head = None;
+        p.chunk.clear();
+        p.tick.t = last;
+    });
+    assert_eq!(story.draft.rt().last_t, last);
+    story.tick(|p| {
+        p.tick = Tick { t, idx: 0, missed, schema: 0, velocity: 0 };
+        p.head.as_mut().expect("none was filled").t_emit = t;
+        p.outcome.margin = 0.0;
+    });
+    let text = text(&story.draft.bytes);
+    text.lines().nth(1).expect("two ticks came").to_string()
+}
+
+/// The case without a star, line by line as the program `cases` has it.
+fn unstarred() -> String {
+    let end = u32::MAX;
+    let times = [0, 1, 2, 255, (1 << 31) - 1, 1 << 31, end - 1, end];
+    let mut cases: Vec<(u32, u8, u32)> = Vec::new();
+    for missed in [0, 1, 255] {
+        cases.extend(times.map(|t| (end, missed, t)));
+    }
+    cases.extend([(end - 1, 0, end), (end - 1, 0, 0), (end - 1, 1, 0)]);
+    cases.extend([(end - 255, 254, end), (end - 255, 255, 0), (0, 0, 1)]);
+    let line = |(last, missed, t)| format!("last t {last}, missed {missed}, t {t}: {}\n", behind(last, missed, t));
+    cases.into_iter().map(line).collect()
 }
 
 fn numbers() -> Vec<Case> {

@@ -11,6 +11,8 @@
 //!     --failures D   folder for journals that show a difference (target/differential/failures)
 //!     --quick        stop at the first difference, do not shrink
 //!     --all          print every point of the coverage
+//!     --brief        print no points of the coverage, only how many were reached
+//!     --prefixes     compare every prefix of the files
 //!     --write D      write the journals to a folder instead of comparing
 //!     --show         print the files in words instead of comparing
 //!     --list         list the profiles
@@ -41,6 +43,8 @@ struct Options {
     failures: PathBuf,
     quick: bool,
     all: bool,
+    brief: bool,
+    prefixes: bool,
     write: Option<PathBuf>,
     show: bool,
     files: Vec<PathBuf>,
@@ -57,6 +61,8 @@ fn options() -> Result<Options, String> {
         failures: PathBuf::from("target/differential/failures"),
         quick: false,
         all: false,
+        brief: false,
+        prefixes: false,
         write: None,
         show: false,
         files: Vec::new(),
@@ -79,6 +85,8 @@ fn options() -> Result<Options, String> {
             "--failures" => given.failures = value()?.into(),
             "--quick" => given.quick = true,
             "--all" => given.all = true,
+            "--brief" => given.brief = true,
+            "--prefixes" => given.prefixes = true,
             "--write" => given.write = Some(value()?.into()),
             "--show" => given.show = true,
             "--list" => {
@@ -142,7 +150,12 @@ impl Run {
         }
         for file in std::mem::take(&mut self.given.files) {
             let name = file.file_stem().unwrap_or_default().to_string_lossy().into_owned();
-            self.journal(&name, &fs::read(&file)?)?;
+            let whole = fs::read(&file)?;
+            let first = if self.given.prefixes { 0 } else { whole.len() };
+            for n in first..=whole.len() {
+                let name = if n == whole.len() { name.clone() } else { format!("{name}-{n}") };
+                self.journal(&name, &whole[..n])?;
+            }
         }
         if self.given.write.is_none() {
             self.report()?;
@@ -223,8 +236,13 @@ impl Run {
 
     fn report(&self) -> io::Result<()> {
         let seconds = self.started.elapsed().as_secs_f64();
-        self.coverage.print(&mut io::stdout().lock(), self.given.all)?;
-        self.coverage.missing().iter().for_each(|what| println!("missing: {what}"));
+        if self.given.brief {
+            let (reached, of) = self.coverage.counted();
+            println!("{reached} of {of} points of the coverage were reached");
+        } else {
+            self.coverage.print(&mut io::stdout().lock(), self.given.all)?;
+            self.coverage.missing().iter().for_each(|what| println!("missing: {what}"));
+        }
         println!(
             "{} ticks in {} journals of {} bytes, {} programs, {seconds:.1} s ({:.0} ticks/s), {} differences",
             self.coverage.ticks,

@@ -141,9 +141,26 @@ impl Coverage {
         self.groups().iter().flat_map(|group| &group.points).map(|point| point.reached > 0).collect()
     }
 
+    /// What each of these points is worth to a sample: states and reasons most, then the rows of fsm.rs.
+    pub fn worth(&self) -> Vec<usize> {
+        let of = |group: &&Group| match group.title {
+            title if title == self.states.group.title || title == self.reasons.group.title => 30,
+            title if title == self.rows.group.title => 6,
+            _ => 1,
+        };
+        self.groups().iter().flat_map(|group| vec![of(group); group.points.len()]).collect()
+    }
+
     /// How many causes of refusal, and pairs of them, were reached.
     pub fn refusals_reached(&self) -> usize {
         self.numbers.group.points.iter().chain(&self.pairs.group.points).filter(|point| point.reached > 0).count()
+    }
+
+    /// How many points were reached, of those that can be.
+    pub fn counted(&self) -> (usize, usize) {
+        let groups = self.groups();
+        let points = groups.iter().flat_map(|group| &group.points).filter(|point| point.never.is_none());
+        points.fold((0, 0), |(reached, of), point| (reached + usize::from(point.reached > 0), of + 1))
     }
 
     /// The points that were not reached though they can be, as `group: point`.

@@ -307,7 +307,7 @@ fn tick_lacks(tick: &Tick, j: &Journal) -> bool {
 }
 
 /// The Rust's configuration for accepted settings. What the settings do not give, no ported function reads.
-fn config(s: &Settings) -> FuseConfig {
+pub fn config(s: &Settings) -> FuseConfig {
     let mut calib = CalibrationC::DISARMED;
     calib.mask = s.calib_mask;
     calib.tau = s.tau;
@@ -378,7 +378,7 @@ fn config(s: &Settings) -> FuseConfig {
     }
 }
 
-fn detected(o: &Outcome) -> outcome::Outcome {
+pub fn detected(o: &Outcome) -> outcome::Outcome {
     outcome::Outcome {
         trips: o.trips,
         clamped_dims: o.clamped_dims,
@@ -393,7 +393,7 @@ fn detected(o: &Outcome) -> outcome::Outcome {
     }
 }
 
-fn verified(a: Ack) -> VerifiedAck {
+pub fn verified(a: Ack) -> VerifiedAck {
     VerifiedAck {
         decision: [AckDecision::Resume, AckDecision::Abort, AckDecision::Retune][a.decision as usize],
         operator_slot: a.slot,

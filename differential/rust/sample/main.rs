@@ -1,9 +1,11 @@
 //! Makes sample journals and the reference's answers to them, to be stored and replayed where there is no Rust.
 //!
-//!     sample DIR [BYTES]
+//!     sample DIR [BYTES [TRACE]]
 //!
-//! BYTES is the most that a sample journal may have (150000). Each sample runs under one settings record, since a journal takes no second one; so there is one for each of a few
-//! settings. From many random episodes those are taken that reach the most points of the coverage for their length.
+//! BYTES is the most that a sample journal may have (150000). Each sample runs under one settings record, since a journal
+//! takes no second one; so there is one for each of a few settings. From many random episodes those are taken that reach
+//! the most points of the coverage for their length. The sample `trace` is the one that the tests replay: its trace has at
+//! most TRACE bytes (280000), and it is an error if it misses a state or a reason. `speed` is an ordinary run to measure by.
 
 use std::{fs, io, path::Path, process::ExitCode};
 
@@ -16,7 +18,7 @@ use generate::{
     walk::{ack, walk, Mix, CALM},
 };
 use oracle::{
-    answer::{answer, Program},
+    answer::{answer, Answer, Program},
     journal::Unobserved,
     records::Settings,
 };
@@ -52,6 +54,28 @@ fn enforce() -> Settings {
     }
 }
 
+/// An ordinary arm: six joints, chunks of 16 rows of which 8 are carried out.
+fn ordinary() -> Settings {
+    Settings {
+        kind: JOINT_VELOCITY,
+        dim: 6,
+        pos_dim: 6,
+        k: 3,
+        clear: 5,
+        streak: 3,
+        confirm: 2,
+        max_rearms: 5,
+        horizon: 16,
+        exec: 8,
+        max_clamps: 60,
+        brake: 30,
+        rearm_hold: 10,
+        hold: 30,
+        handoff: 200,
+        ..roomy()
+    }
+}
+
 fn samples() -> Vec<(&'static str, Settings)> {
     let position = Settings { kind: 2, dim: 3, pos_dim: 2, ..enforce() };
     let observe = Settings { mode: OBSERVE, kind: EE_DELTA, dim: 1, pos_dim: 2, calib_mask: 0, brake: 3, ..enforce() };
@@ -59,10 +83,18 @@ fn samples() -> Vec<(&'static str, Settings)> {
     vec![("enforce", enforce()), ("position", position), ("observe", observe), ("ack-only", ack_only)]
 }
 
-/// An episode's bytes from its reset on, and the points that it reaches.
+/// An episode's bytes from its reset on, the length of its trace, and the points that it reaches.
 struct Episode {
     bytes: Vec<u8>,
+    trace: usize,
     reached: Vec<bool>,
+}
+
+/// The most that a sample may have.
+#[derive(Clone, Copy)]
+struct Most {
+    bytes: usize,
+    trace: usize,
 }
 
 /// Settings, and a tick before any reset: Idle comes but once in a journal.
@@ -81,7 +113,8 @@ fn covered(journal: &[u8]) -> Coverage {
     coverage
 }
 
-fn episode(settings: &Settings, rng: &Rng) -> Episode {
+/// The beginnings of a random episode, each reaching more than the one before.
+fn beginnings(settings: &Settings, rng: &Rng) -> Vec<Episode> {
     let mixes = [
         CALM,
         Mix { infeasible: 250, still: 950, ack: 500, ..CALM },
@@ -95,28 +128,64 @@ fn episode(settings: &Settings, rng: &Rng) -> Episode {
     let start = draft.bytes.len();
     draft.reset();
     let mix = Mix { reset_over: 0, reset_other: 0, ..rng.pick(&mixes) };
-    walk(&mut draft, rng, &mix, rng.range(1, 30));
-    Episode { reached: covered(&draft.bytes).reached(), bytes: draft.bytes[start..].to_vec() }
+    let mut ends = Vec::new();
+    for _ in 0..rng.range(1, 30) {
+        walk(&mut draft, rng, &mix, 1);
+        ends.push(draft.bytes.len());
+    }
+    let mut coverage = Coverage::new();
+    coverage.begin();
+    let mut answer = Answer::new(Program::Trace, &draft.bytes);
+    let (mut trace, mut found) = (Vec::new(), Vec::<Episode>::new());
+    for end in ends {
+        let before = trace.len();
+        while trace.len() == before {
+            answer.step(&mut trace, &mut coverage);
+        }
+        let reached = coverage.reached();
+        if found.last().is_none_or(|last| last.reached != reached) {
+            found.push(Episode { bytes: draft.bytes[start..end].to_vec(), trace: trace.len(), reached });
+        }
+    }
+    found
 }
 
-/// The best episodes by new points for their length, until none adds any or the journal is as long as allowed.
-fn journal(settings: &Settings, rng: &Rng, most: usize) -> Vec<u8> {
+fn traced(journal: &[u8]) -> Vec<u8> {
+    answer(Program::Trace, journal, &mut Unobserved)
+}
+
+/// The best beginnings by the worth of new points for the length of their trace, until none adds any or there is no room.
+fn journal(settings: &Settings, rng: &Rng, most: Most) -> Vec<u8> {
     let mut bytes = prelude(settings, rng);
-    let mut have = covered(&bytes).reached();
-    let episodes: Vec<Episode> = (0..6000).map(|_| episode(settings, rng)).collect();
+    let mut trace = traced(&bytes).len();
+    let coverage = covered(&bytes);
+    let (worth, mut have) = (coverage.worth(), coverage.reached());
+    let mut episodes: Vec<Episode> = (0..2000).flat_map(|_| beginnings(settings, rng)).collect();
     loop {
-        let gain = |e: &Episode| e.reached.iter().zip(&have).filter(|(r, h)| **r && !**h).count();
-        let best = episodes.iter().max_by_key(|e| gain(e) * 1_000_000 / e.bytes.len()).expect("there are episodes");
-        if gain(best) == 0 || bytes.len() + best.bytes.len() > most {
+        let new = |(i, reached): (usize, &bool)| if *reached && !have[i] { worth[i] } else { 0 };
+        let gain = |e: &Episode| e.reached.iter().enumerate().map(new).sum::<usize>();
+        let fits = |e: &Episode| bytes.len() + e.bytes.len() <= most.bytes && trace + e.trace <= most.trace;
+        episodes.retain(|e| fits(e) && gain(e) > 0);
+        let Some(best) = episodes.iter().max_by_key(|e| gain(e) * 1_000_000 / e.trace) else {
             return bytes;
-        }
+        };
         bytes.extend_from_slice(&best.bytes);
+        trace += best.trace;
         have.iter_mut().zip(&best.reached).for_each(|(h, r)| *h |= r);
     }
 }
 
+/// An ordinary run of so many ticks, from a reset on.
+fn speed(ticks: usize) -> Vec<u8> {
+    let mut draft = Draft::new(ordinary());
+    draft.reset();
+    let mix = Mix { chunk: 125, infeasible: 10, odd: 0, reset_over: 1000, reset_other: 0, ..CALM };
+    walk(&mut draft, &Rng::new("speed", 1), &mix, ticks);
+    draft.bytes
+}
+
 fn store(folder: &Path, name: &str, bytes: &[u8]) -> io::Result<()> {
-    let trace = answer(Program::Trace, bytes, &mut Unobserved);
+    let trace = traced(bytes);
     let coverage = covered(bytes);
     let points = coverage.reached().iter().filter(|reached| **reached).count();
     println!(
@@ -130,23 +199,33 @@ fn store(folder: &Path, name: &str, bytes: &[u8]) -> io::Result<()> {
     fs::write(folder.join(format!("{name}.trace")), trace)
 }
 
-fn make(folder: &Path, most: usize) -> io::Result<()> {
+/// The states and reasons that a sample does not reach though a journal in its mode can.
+fn unreached(settings: &Settings, bytes: &[u8]) -> Vec<String> {
+    let of_mode = [" in Observe", " in Enforce"][usize::from(settings.mode)];
+    let mut missing = covered(bytes).missing();
+    missing.retain(|m| (m.starts_with("reasons: ") || m.starts_with("end states: ")) && m.ends_with(of_mode));
+    missing
+}
+
+fn make(folder: &Path, bytes: usize, trace: usize) -> io::Result<()> {
     fs::create_dir_all(folder)?;
     let mut all = Coverage::new();
     for (name, settings) in samples() {
-        let bytes = journal(&settings, &Rng::new(name, 1), most);
+        let bytes = journal(&settings, &Rng::new(name, 1), Most { bytes, trace: usize::MAX });
         store(folder, name, &bytes)?;
-        let unreached: Vec<String> =
-            covered(&bytes).missing().into_iter().filter(|m| m.starts_with("reasons: ")).collect();
-        let of_mode = [" in Observe", " in Enforce"][usize::from(settings.mode)];
-        for what in unreached.iter().filter(|m| m.ends_with(of_mode)) {
-            println!("  not reached: {what}");
-        }
+        unreached(&settings, &bytes).iter().for_each(|what| println!("  not reached: {what}"));
         all.begin();
         answer(Program::Fuse, &bytes, &mut all);
     }
     all.print(&mut io::stdout().lock(), false)?;
-    refusals(folder)
+    refusals(folder)?;
+    fs::write(folder.join("speed.journal"), speed(2000))?;
+    let bytes = journal(&enforce(), &Rng::new("trace", 1), Most { bytes: usize::MAX, trace });
+    store(folder, "trace", &bytes)?;
+    match unreached(&enforce(), &bytes).join(", ") {
+        lacks if lacks.is_empty() => Ok(()),
+        lacks => Err(io::Error::other(format!("the sample trace does not reach {lacks}"))),
+    }
 }
 
 /// The shortest journal for each cause of refusal, and for each pair of causes.
@@ -171,11 +250,11 @@ fn refusals(folder: &Path) -> io::Result<()> {
 fn main() -> ExitCode {
     let mut args = std::env::args().skip(1);
     let Some(folder) = args.next() else {
-        eprintln!("usage: sample DIR [BYTES]");
+        eprintln!("usage: sample DIR [BYTES [TRACE]]");
         return ExitCode::from(2);
     };
-    let most = args.next().and_then(|text| text.parse().ok()).unwrap_or(150_000);
-    match make(Path::new(&folder), most) {
+    let mut number = |default| args.next().and_then(|text| text.parse().ok()).unwrap_or(default);
+    match make(Path::new(&folder), number(150_000), number(280_000)) {
         Ok(()) => ExitCode::SUCCESS,
         Err(what) => {
             eprintln!("sample: {what}");

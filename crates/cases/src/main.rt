@@ -1,0 +1,232 @@
+// Runs the case of 01-scope.md that has no star, and writes a line for each tick: its name, and the line of `fuse` for it.
+//
+//     Last t 4294967295: the tick after it has SCHEMA with every t it could bring.
+//
+// Each line starts anew: a reset, a tick that only sets the clock (it brings no chunk, and so is a fault tick), and a tick that nothing is wrong with but,
+// where there is no next t, its t. The lines that begin with another last t show that such a tick passes (trips 0).
+// What is expected, the file `stdout`, was written by the second program, the Rust: `differential/sample DIR --store` (differential/README.md).
+// The other case that is executed, roots against IEEE 754, is the program `roots`; `clock-ends` in `claims` says the case over all t.
+ghost use mathlib.Core.Path.{_≡_};
+ghost use Rattle.text.specs.Line.{lineOf};
+ghost use Rattle.lictor_core.specs.Initial.{zeros};
+ghost use Rattle.cases.specs.Cases.{nameText, limits as limitsOf, settings as settingsOf, outcome as outcomeOf, input as inputOf, firstOf, afterOf};
+use libc::STDOUT_FILENO;
+use lictor_core::ack::MaybeAck;
+use lictor_core::chunk::ChunkHead;
+use lictor_core::chunk::MaybeChunk;
+use lictor_core::envelope::Calibration;
+use lictor_core::envelope::Hysteresis;
+use lictor_core::envelope::Settings;
+use lictor_core::fuse::FuseRt;
+use lictor_core::fuse::TickInput;
+use lictor_core::outcome::Outcome;
+use lictor_core::scores::Scores;
+use lictor_core::verdict::SafetyVerdict;
+use lictor_core::zero::no_row;
+use text::Line;
+
+// ---- what a tick is given
+
+// No limit is in the way; any number of ticks may be missed.
+fn limits() -> Hysteresis
+    ensures { λ r. ⌜ r ≡ limitsOf ⌝ }
+{
+    Hysteresis {
+        k: 1,
+        warn_margin: 0.0,
+        clear_ticks: 1,
+        clamp_streak_to_brake: 255,
+        max_clamps_per_episode: 65535,
+        stop_confirm_ticks: 1,
+        v_stop_eps: 0.0,
+        brake_timeout_ticks: 65535,
+        rearm_hold: 65535,
+        max_rearms: 255,
+        escalate_after_hold_ticks: 65535,
+        handoff_timeout_ticks: 4294967295,
+        watchdog_ticks: 255,
+    }
+}
+
+// Enforce, EePosition, one component, chunks of one row.
+fn settings() -> Settings
+    ensures { λ r. ⌜ r ≡ settingsOf ⌝ }
+{
+    let hyst = limits();
+    let calib = Calibration { mask: 0, tau: 0.0 };
+    let box_lo = no_row();
+    let box_hi = no_row();
+    Settings {
+        mode: 1,
+        kind: 0,
+        clamp: 1,
+        rearm: 1,
+        dim: 1,
+        pos_dim: 1,
+        horizon: 1,
+        exec: 1,
+        dt: 0.0,
+        inv_dt: 0.0,
+        a_max: 0.0,
+        box_lo,
+        box_hi,
+        hyst,
+        window_mask: 1,
+        tier0_enabled: 127,
+        calib,
+    }
+}
+
+fn no_scores() -> [f64; 12]
+    ensures { λ r. ⌜ r ≡ zeros 12 ⌝ }
+{
+    [0.0; 12]
+}
+
+// Nothing trips.
+fn outcome() -> Outcome
+    ensures { λ r. ⌜ r ≡ outcomeOf ⌝ }
+{
+    let z = no_scores();
+    let scores = Scores {
+        z,
+        s: 0.0,
+        valid: 0,
+        fired: 0,
+    };
+    let policy = no_row();
+    let clamped = no_row();
+    Outcome {
+        trips: 0,
+        clamped_dims: 0,
+        feasible: true,
+        margin: 0.0,
+        scores,
+        policy,
+        clamped,
+    }
+}
+
+// A tick at t, with this chunk.
+fn input(t: u32, missed: u8, chunk: MaybeChunk) -> TickInput
+    ensures { λ r. ⌜ r ≡ inputOf t missed chunk ⌝ }
+{
+    let ack = MaybeAck::NoAck;
+    TickInput {
+        t,
+        idx: 0,
+        missed_ticks: missed,
+        schema_fault: false,
+        has_vel: false,
+        chunk,
+        ack,
+    }
+}
+
+// ---- two ticks
+
+// The run state after the tick that sets the clock.
+fn first(last: u32) -> FuseRt
+    ensures { λ r. ⌜ r ≡ firstOf last ⌝ }
+{
+    let nothing: [f64; 0] = [];
+    let rt = lictor_fuse::episode::reset(lictor_fuse::episode::new());
+    let inp = input(last, 0, MaybeChunk::NoChunk);
+    let d = lictor_fuse::tick::tick(
+        settings(),
+        rt,
+        inp,
+        outcome(),
+        &[0.0],
+        &nothing,
+        &nothing,
+        &nothing,
+        &nothing,
+    );
+    let after = d.rt;
+    after
+}
+
+// The verdict of the tick behind it, which brings a chunk that fits its t.
+fn after(last: u32, missed: u8, t: u32) -> SafetyVerdict
+    ensures { λ r. ⌜ r ≡ afterOf last missed t ⌝ }
+{
+    let nothing: [f64; 0] = [];
+    let head = ChunkHead {
+        seq: 0,
+        t_emit: t,
+        horizon: 1,
+        dim: 1,
+        exec_steps: 1,
+    };
+    let inp = input(t, missed, MaybeChunk::Delivered(head));
+    let d = lictor_fuse::tick::tick(
+        settings(),
+        first(last),
+        inp,
+        outcome(),
+        &[0.0],
+        &nothing,
+        &nothing,
+        &nothing,
+        &[0.0],
+    );
+    let v = d.verdict;
+    v
+}
+
+// ---- what is written
+
+fn named(last: u32, missed: u8, t: u32) -> Line
+    ensures { λ r. ⌜ r ≡ lineOf (nameText last missed t) ⌝ }
+{
+    let a = text::push_number(text::push(text::empty(), b"last t "), last as u64);
+    let b = text::push_number(text::push(a, b", missed "), missed as u64);
+    let c = text::push_number(text::push(b, b", t "), t as u64);
+    text::push(c, b": ")
+}
+
+fn write_part(text: &[u8], n: usize) {
+    if n <= text.len() {
+        io::write_all(STDOUT_FILENO, &text[..n]);
+    }
+}
+
+fn write(l: Line) {
+    let n = l.n;
+    let text = l.text;
+    write_part(&text, n);
+}
+
+fn run(last: u32, missed: u8, t: u32) {
+    write(named(last, missed, t));
+    write(report::lines::tick_line(after(last, missed, t)));
+}
+
+// Every t that could be thought of after the last one: the next ones if the clock wrapped, the middle, its end.
+const TIMES: [u32; 8] = [0, 1, 2, 255, 2147483647, 2147483648, 4294967294, 4294967295];
+
+fn at_end(missed: u8) {
+    let mut i: usize = 0;
+    while i < 8 {
+        run(4294967295, missed, TIMES[i]);
+        i += 1;
+    }
+}
+
+// The last t that there is, by missed ticks or without, and one past it.
+fn near_end() {
+    run(4294967294, 0, 4294967295);
+    run(4294967294, 0, 0);
+    run(4294967294, 1, 0);
+    run(4294967040, 254, 4294967295);
+    run(4294967040, 255, 0);
+    run(0, 0, 1);
+}
+
+fn main() {
+    at_end(0);
+    at_end(1);
+    at_end(255);
+    near_end();
+}
