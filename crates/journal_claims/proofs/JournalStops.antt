@@ -1,0 +1,146 @@
+-- Demand 3 of journals: an episode's ticks are calls of `tick` under the journal's settings, from a reset on (specs/JournalStops).
+use mathlib.Core.Path.{_≡_, refl, sym, ap, subst, _∙_}
+use mathlib.Core.List.{List, [], _∷_, _++_, map, append-assoc}
+use Prim.Native.Nat.{ℕ}
+use native.Mathlib.Omega.{arith}
+use lib.Dec.{T, T-not}
+use Rattle.lictor_core.specs.declared.envelope.FuseConfig.{FuseConfig}
+use Rattle.lictor_core.specs.declared.envelope.Settings.{Settings}
+use Rattle.lictor_core.specs.declared.fuse.FuseRt.{FuseRt}
+use Rattle.lictor_core.specs.declared.settings.SettingsCheck.the-variants.{Accepted}
+use Rattle.lictor_core.specs.Initial.{freshControl, newOf}
+use Rattle.lictor_core.specs.Settings.{checkOf, configOf}
+use Rattle.lictor_fuse.specs.declared.tick.Decided.{Decided}
+use Rattle.lictor_fuse.specs.Tick.{givenOf}
+use Rattle.claims.specs.Runs.{All, Step, andThen}
+use Rattle.claims.specs.Calls as C
+use Rattle.claims.specs.Calls.{Under, accepted, ticksFrom}
+use Rattle.claims.specs.Demand3.{Sized, Demand3}
+use Rattle.claims.proofs.Tick.{by-step}
+use Rattle.claims.proofs.Demand3.{stops-from, faults-from, rearms-from, acks-from, stops-close}
+use Rattle.reader.specs.Reading.{Call, Instruction, begin, restart, tick}
+use Rattle.journal.specs.declared.Run.{Run}
+use Rattle.journal.specs.Journal.{begunOf, restartedOf, decidedOf, tickedOf, startRun}
+use Rattle.journal_claims.specs.Instructions.{instructionsOf, leaves, leftBy, verdictsOf, played}
+use Rattle.journal_claims.specs.JournalStops.{NoSettings, SettledBy, Episode, Opens, In, opened, callUnder, callsOf, answerIn, answersFrom, EpisodeStops, EndsWith, StopsIn, with-settings, without, JournalStops}
+use Rattle.journal_claims.proofs.Instructions.{events-played}
+use Rattle.journal_claims.proofs.Order.{Ordered, nothing, under, ordered}
+use Rattle.journal_claims.proofs.Episodes.{behind-settings}
+
+-- ---- lists of instructions
+
+-- one list and then another
+played-on : (r : Run) (is js : List Instruction) → played r (is ++ js) ≡ played r is ++ played (leftBy r is) js
+played-on r [] js = refl
+played-on r (i ∷ is) js =
+    ap (λ (l : List Decided). verdictsOf r i ++ l) (played-on (leaves r i) is js) ∙ sym (append-assoc (verdictsOf r i) (played (leaves r i) is) (played (leftBy (leaves r i) is) js))
+
+-- an opening says nothing
+opens-silent : (r : Run) (i : Instruction) (is : List Instruction) → Opens i → played r (i ∷ is) ≡ played (leaves r i) is
+opens-silent r (begin s) is o = refl
+opens-silent r restart is o = refl
+opens-silent r (tick c) is o = absurd o
+
+-- ---- the settings: resets and ticks keep the configuration
+
+keeps-one : (r : Run) (i : Instruction) → NoSettings i → leaves r i .config ≡ r .config
+unfolding restartedOf tickedOf
+keeps-one r (begin s) n = absurd n
+keeps-one r restart n = refl
+keeps-one r (tick c) n = refl
+
+keeps : (is : List Instruction) (i : Instruction) (js : List Instruction) (r : Run) → All NoSettings (is ++ (i ∷ js)) → leaves (leftBy r is) i .config ≡ r .config
+keeps [] i js r n = keeps-one r i (n .0)
+keeps (j ∷ is) i js r n = keeps is i js (leaves r j) (n .1) ∙ keeps-one r j (n .0)
+
+-- so every one behind the settings has theirs
+configured : (is : List Instruction) (i : Instruction) (js : List Instruction) (r : Run) (w : Settings) (rest : List Instruction)
+    → is ++ (i ∷ js) ≡ begin w ∷ rest → All NoSettings rest → leaves (leftBy r is) i .config ≡ configOf w
+unfolding begunOf
+configured [] i js r w rest e n = let q : i ≡ begin w = cc in rw q refl
+configured (j ∷ is) i js r w rest e n =
+    let q : j ≡ begin w = cc in
+    let p : is ++ (i ∷ js) ≡ rest = cc in
+    keeps is i js (leaves r j) (subst (All NoSettings) (sym p) n) ∙ rw q refl
+
+-- ---- the ticks of an episode as calls of `tick`
+
+module _ (w : Settings) (k : checkOf w ≡ Accepted) where
+  passes : (c : Call) → T (accepted (callUnder w c))
+  passes c = rw k tt
+
+  abbrev runOf : FuseRt → Run
+  runOf r = record { config = configOf w; rt = r }
+
+  ticks-answered : (cs : List Call) (r : FuseRt) → played (runOf r) (map tick cs) ≡ answersFrom r (map (callUnder w) cs)
+  unfolding decidedOf tickedOf givenOf
+  ticks-answered [] r = refl
+  ticks-answered (c ∷ cs) r =
+      let d = decidedOf (runOf r) c in
+      by-step answerIn
+      (λ r′ (x : Step FuseRt Decided). played (runOf r) (map tick (c ∷ cs)) ≡ andThen x (λ (r″ : FuseRt). answersFrom r″ (map (callUnder w) cs))) r (callUnder w c)
+      (λ h. ap (λ (l : List Decided). d ∷ l) (ticks-answered cs (d .rt)))
+      (λ h. absurd (T-not (accepted (callUnder w c)) h (passes c)))
+
+  all-under : (cs : List Call) → All (Under w) (map (callUnder w) cs)
+  all-under [] = tt
+  all-under (c ∷ cs) = (λ h. refl, all-under cs)
+
+-- ---- demand 3 from an opening on: from a reset, and from `new` too
+
+opened-stops : (w : Settings) → Sized w → (r : Run) (i : Instruction) → Opens i → (cs : List C.Call) → All (Under w) cs → Demand3 w (ticksFrom (leaves r i .rt) cs)
+unfolding begunOf restartedOf newOf freshControl
+opened-stops w z r (begin s) o cs u =
+    record {
+      stops = stops-from w z newOf cs u;
+      faults = faults-from w z newOf cs u;
+      rearms = omega (arith, rearms-from w z newOf cs u);
+      acks = acks-from newOf refl cs;
+    }
+opened-stops w z r restart o cs u = stops-close w z (r .rt) cs u
+opened-stops w z r (tick c) o cs u = absurd o
+
+-- ---- the claim
+
+module _ (s : List ℕ) (w : Settings) (b : SettledBy w (instructionsOf s)) (e : Episode) (n : In (instructionsOf s) e) where
+  abbrev behind : List Instruction
+  behind = map tick (e .ticks) ++ e .later
+
+  config-is : opened e .config ≡ configOf w
+  config-is = configured (e .before) (e .opening) behind startRun w (b .rest) (sym (n .cut) ∙ b .first) (b .once)
+
+  answered : played (opened e) (map tick (e .ticks)) ≡ answersFrom (opened e .rt) (callsOf w e)
+  answered =
+      ap (λ (k : FuseConfig). played (record { config = k; rt = opened e .rt }) (map tick (e .ticks))) config-is
+      ∙ ticks-answered w (b .check) (e .ticks) (opened e .rt)
+
+  episode-stops : EpisodeStops s w e
+  episode-stops =
+      record {
+        verdicts =
+            events-played s
+            ∙ ap (played startRun) (n .cut)
+            ∙ played-on startRun (e .before) (e .opening ∷ behind)
+            ∙ ap (λ (l : List Decided). played startRun (e .before) ++ l)
+            (opens-silent (leftBy startRun (e .before)) (e .opening) behind (n .opens)
+            ∙ played-on (opened e) (map tick (e .ticks)) (e .later)
+            ∙ ap (λ (l : List Decided). l ++ played (leftBy (opened e) (map tick (e .ticks))) (e .later)) answered);
+        closes = opened-stops w (b .sized) (leftBy startRun (e .before)) (e .opening) (n .opens) (callsOf w e) (all-under w (b .check) (e .ticks));
+      }
+
+tick-inside : (is before : List Instruction) (c : Call) (later : List Instruction) (w : Settings) (rest : List Instruction)
+    → is ≡ before ++ (tick c ∷ later) → is ≡ begin w ∷ rest → EndsWith is c later
+tick-inside is before c later w rest e f =
+    subst (λ (l : List Instruction). EndsWith l c later) (sym e) (behind-settings c later before w rest (sym e ∙ f))
+
+by-order : (s : List ℕ) → Ordered (instructionsOf s) → StopsIn s
+by-order s (nothing n) = without n (events-played s ∙ ap (played startRun) n)
+by-order s (under w b) =
+    with-settings w (record {
+      settings = b;
+      every-tick = λ before c later e. tick-inside (instructionsOf s) before c later w (b .rest) e (b .first);
+      every-episode = λ e n. episode-stops s w b e n;
+    })
+
+pub journal-stops : JournalStops
+journal-stops s h = by-order s (ordered s h)

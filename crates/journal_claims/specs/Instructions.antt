@@ -1,0 +1,34 @@
+-- A journal as a list of instructions, and what these do to one run state, one after the other. That this is what the journal means is proved
+-- (proofs/Instructions, events-played, run-played).
+use mathlib.Core.List.{List, [], _∷_, _++_}
+use Prim.Native.Nat.{ℕ}
+use Rattle.lictor_fuse.specs.declared.tick.Decided.{Decided}
+use Rattle.reader.specs.Stream.{settled}
+use Rattle.reader.specs.Reading.{Instruction, begin, restart, tick, nextOf}
+use Rattle.journal.specs.declared.Run.{Run}
+use Rattle.journal.specs.Journal.{begunOf, restartedOf, decidedOf, tickedOf, startWhole}
+
+-- The instructions of a journal up to its end, or up to the record that is turned away. The run state has no part in them (reader, specs/Reading).
+unfoldable pub instructionsOf : List ℕ → List Instruction
+instructionsOf s = settled nextOf (startWhole .state) s .told
+
+-- the fuse after an instruction, and after a list of them
+abbrev pub leaves : Run → Instruction → Run
+leaves r (begin s) = begunOf s
+leaves r restart = restartedOf r
+leaves r (tick c) = tickedOf r (decidedOf r c)
+
+abbrev pub leftBy : Run → List Instruction → Run
+leftBy r [] = r
+leftBy r (i ∷ is) = leftBy (leaves r i) is
+
+-- the verdict of a tick, with the run state that it leaves; settings and a reset give none
+abbrev pub verdictsOf : Run → Instruction → List Decided
+verdictsOf r (begin s) = []
+verdictsOf r restart = []
+verdictsOf r (tick c) = decidedOf r c ∷ []
+
+-- those of a list of instructions
+abbrev pub played : Run → List Instruction → List Decided
+played r [] = []
+played r (i ∷ is) = verdictsOf r i ++ played (leaves r i) is

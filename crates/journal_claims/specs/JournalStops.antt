@@ -1,0 +1,121 @@
+-- Demand 3 of journals: in every journal the ticks from a reset to the next, or to the end, stop close, under the journal's one settings record. The claim stands at
+-- the end of this file, and is proved in proofs/JournalStops, `journal-stops`. Of other files it names: demand 3 of a list of calls of `tick` (claims,
+-- specs/Demand3, with Calls and Runs); the meaning of a journal (journal, specs/Journal, journalOf); its instructions (Instructions).
+use mathlib.Core.List.{List, [], _∷_, _++_, map}
+use mathlib.Core.Path.{_≡_}
+use Prim.Native.Nat.{ℕ, _<_}
+use Rattle.lictor_core.specs.declared.envelope.Settings.{Settings}
+use Rattle.lictor_core.specs.declared.fuse.FuseRt.{FuseRt}
+use Rattle.lictor_core.specs.declared.settings.SettingsCheck.the-variants.{Accepted}
+use Rattle.lictor_core.specs.Settings.{checkOf}
+use Rattle.lictor_fuse.specs.declared.tick.Decided.{Decided}
+use Rattle.lictor_fuse.specs.declared.tick.Ticked.{Ticked}
+use Rattle.claims.specs.Runs.{All, trace}
+use Rattle.claims.specs.Calls as C
+use Rattle.claims.specs.Calls.{stepOf, ticksFrom}
+use Rattle.claims.specs.Demand3.{Sized, Demand3}
+use Rattle.reader.specs.Reading.{Call, Instruction, begin, restart, tick}
+use Rattle.journal.specs.declared.Run.{Run}
+use Rattle.journal.specs.Journal.{startRun, journalOf}
+use Rattle.journal_claims.specs.Instructions.{instructionsOf, leaves, leftBy, played}
+
+-- a definition has whole numbers without bounds; the elements of a journal are bytes
+abbrev pub Bytes : List ℕ → Type 0
+Bytes s = All (λ b. b < 256) s
+
+-- ---- the settings of a journal
+
+abbrev pub NoSettings : Instruction → Type 0
+NoSettings (begin s) = ⊥
+NoSettings restart = Unit {0}
+NoSettings (tick c) = Unit {0}
+
+-- the instructions `is` stand under w: it comes first, it passed the check, and behind it come resets and ticks alone; each limit of w is a number that its field
+-- can hold
+pub record SettledBy (w : Settings) (is : List Instruction) : Type 0 where
+  pub rest : List Instruction
+  pub first : is ≡ begin w ∷ rest
+  pub once : All NoSettings rest
+  pub check : checkOf w ≡ Accepted
+  pub sized : Sized w
+
+-- ---- an episode
+
+-- what came before; the reset, or the settings, that it opens with; ticks, all up to the next reset or the first of them; what comes behind these
+pub record Episode : Type 0 where
+  pub before : List Instruction
+  pub opening : Instruction
+  pub ticks : List Call
+  pub later : List Instruction
+
+abbrev pub Opens : Instruction → Type 0
+Opens (begin s) = Unit {0}
+Opens restart = Unit {0}
+Opens (tick c) = ⊥
+
+-- e is an episode of `is`
+pub record In (is : List Instruction) (e : Episode) : Type 0 where
+  pub opens : Opens (e .opening)
+  pub cut : is ≡ e .before ++ (e .opening ∷ (map tick (e .ticks) ++ e .later))
+
+-- the fuse that its first tick gets: of the run state before, what `reset` leaves; after settings, that of `new` (Instructions, leaves)
+abbrev pub opened : Episode → Run
+opened e = leaves (leftBy startRun (e .before)) (e .opening)
+
+-- a tick of a journal as a call of `tick`, with the settings w
+abbrev pub callUnder : Settings → Call → C.Call
+callUnder w c =
+    record {
+      settings = w;
+      input = c .input;
+      outcome = c .outcome;
+      pos = c .pos;
+      vel = c .vel;
+      aux = c .aux;
+      ext = c .ext;
+      chunk = c .chunk;
+    }
+
+abbrev pub callsOf : Settings → Episode → List C.Call
+callsOf w e = map (callUnder w) (e .ticks)
+
+-- what `tick` answers to a list of calls: the verdicts, each with the run state that it leaves (ticksFrom has the same ticks by what is seen of each)
+abbrev pub answerIn : FuseRt → C.Call → Ticked → Decided
+answerIn r c a = record { rt = a .rt; verdict = a .verdict }
+
+abbrev pub answersFrom : FuseRt → List C.Call → List Decided
+answersFrom r cs = trace (stepOf answerIn) r cs
+
+pub record EpisodeStops (s : List ℕ) (w : Settings) (e : Episode) : Type 0 where
+  -- the journal's verdicts: in the episode's place stand the answers of `tick`
+  pub verdicts : journalOf s .events
+      ≡ played startRun (e .before)
+      ++ (answersFrom (opened e .rt) (callsOf w e)
+      ++ played (leftBy (opened e) (map tick (e .ticks))) (e .later))
+  -- and of these calls the four parts of demand 3 hold
+  pub closes : Demand3 w (ticksFrom (opened e .rt) (callsOf w e))
+
+-- an episode of `is` that ends with the tick c, behind which `later` comes
+pub record EndsWith (is : List Instruction) (c : Call) (later : List Instruction) : Type 0 where
+  pub before : List Instruction
+  pub opening : Instruction
+  pub ticks : List Call
+  pub episode : In is (record { before = before; opening = opening; ticks = ticks ++ (c ∷ []); later = later })
+
+-- ---- the claim
+
+-- of a journal that has settings: every tick stands in an episode, and every episode stops close
+pub record StopsUnder (s : List ℕ) (w : Settings) : Type 0 where
+  pub settings : SettledBy w (instructionsOf s)
+  pub every-tick : (before : List Instruction) (c : Call) (later : List Instruction) → instructionsOf s ≡ before ++ (tick c ∷ later)
+      → EndsWith (instructionsOf s) c later
+  pub every-episode : (e : Episode) → In (instructionsOf s) e → EpisodeStops s w e
+
+-- a journal has settings, or else no instruction and no verdict
+pub data StopsIn (s : List ℕ) : Type 0 where
+  with-settings : (w : Settings) → StopsUnder s w → StopsIn s
+  without : instructionsOf s ≡ [] → journalOf s .events ≡ [] → StopsIn s
+
+-- every list of bytes, whatever it holds and however it ends
+abbrev pub JournalStops : Type 0
+JournalStops = (s : List ℕ) → Bytes s → StopsIn s
