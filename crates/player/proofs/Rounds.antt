@@ -1,5 +1,5 @@
 -- Round by round: reading, playing, and what is left over.
-use Prim.Native.Nat.{ℕ, zero, suc, _+_, _-_, _≤_, _<_}
+use Prim.Native.Nat.{ℕ, zero, suc, _+_, _-_, _*_, _≤_, _<_}
 use mathlib.Core.Path.{_≡_, refl, sym, ap, ap₂, _∙_}
 use mathlib.Core.List.{List, [], _∷_, _++_, append-nil, append-assoc}
 use mathlib.Core.Bool.{Bool, true, false}
@@ -22,7 +22,7 @@ use Rattle.journal.proofs.Ends.{waits-as}
 use Rattle.render.specs.Text.{Put}
 use Rattle.player.specs.declared.Turn.{Turn}
 use Rattle.player.specs.declared.Round.{Round}
-use Rattle.player.specs.Play.{eventsText, numberAt, Rests, Turned, Taken, Came, Rounded}
+use Rattle.player.specs.Play.{eventsText, numberAt, Rests, Turned, Fed, Taken, Came, Rounded}
 use Rattle.player.proofs.Turns.{telling-telling}
 
 -- ---- memory
@@ -66,11 +66,11 @@ module _ (b : List ℕ) (have : ℕ) (h : have ≤ length b) (y : List ℕ) (l :
         bytes = t;
       }
 
-pub taken-is : (code : ℕ) (w : Whole) (b : List ℕ) (have : ℕ) (out : List ℕ) (r : Turn) (l' : List Float) (b' out' : List ℕ) → have ≤ length b
-    → Turned code w (take have b) 0 out 0 r l' out' → take (have - r .at) b' ≡ take (have - r .at) (drop (r .at) b) → Taken code w (take have b) out r l' b' out'
-taken-is code w b have out r l' b' out' h t m =
+pub taken-is : (code : ℕ) (w : Whole) (b : List ℕ) (have : ℕ) (out : List ℕ) (r : Turn) (l' : List Float) (b' out' : List ℕ) → have ≤ length b → 19200 ≤ length out
+    → Fed code w (take have b) out r l' out' → take (have - r .at) b' ≡ take (have - r .at) (drop (r .at) b) → Taken code w (take have b) out r l' b' out'
+taken-is code w b have out r l' b' out' h o t m =
     let k = length-take-le have b h in
-    record { turned = t; moved = rw k (m ∙ sym (drop-take (r .at) have b (omega (arith, t .within)) h)) }
+    record { turned = t .turned; further = t .further o; moved = rw k (m ∙ sym (drop-take (r .at) have b (omega (arith, t .turned .within)) h)) }
 
 -- ---- where a journal rests
 
@@ -114,32 +114,35 @@ module _ (code : ℕ) (w : Whole) (s : List ℕ) (out : List ℕ) (t : Turn) (l'
   left-is = rw k at (p .moved)
 
   -- nothing was read
-  still : (refused : ℕ) (more : Bool) → left ≤ length buf' → (more ≡ false → Rests v (drop (t .at) s) refused)
-      → Rounded code w s (record { reader = t .reader; run = t .run; taken = t .at; have = left; n = t .n; refused = refused; more = more }) l' buf' out'
-  still refused more h q = record {
+  still : (reads refused : ℕ) (more : Bool) → left ≤ length buf' → (more ≡ true → t .ticked ≡ true) → (more ≡ false → Rests v (drop (t .at) s) refused)
+      → Rounded code w s reads (record { reader = t .reader; run = t .run; taken = t .at; have = left; n = t .n; refused = refused; reads = reads; more = more }) l' buf' out'
+  still reads refused more h m q = record {
     told = p .turned .told;
     came = [];
     goes = ap (settled replayOf w) (append-nil s) ∙ p .turned .goes ∙ ap (λ (u : List ℕ). telling (p .turned .told) (settled replayOf v u)) (sym left-is);
     count = (let c : t .at + left ≡ length (s ++ []) = omega (arith, p .turned .within, length-append s []) in c);
     within = h;
     few = omega arith;
+    less = λ y. omega (arith, p .turned .within, p .further (m y));
     text = text-is;
     over = λ y. rw left-is (q y);
   }
 
-  pub round-full : left ≤ length buf' → Rounded code w s (record { reader = t .reader; run = t .run; taken = t .at; have = left; n = t .n; refused = 0; more = true }) l' buf' out'
-  round-full h = still 0 true h (λ y. absurd (let z : _≡_ {A = ℕ} 0 1 = cc in omega arith))
+  pub round-full : (reads : ℕ) → left ≤ length buf' → t .ticked ≡ true
+      → Rounded code w s reads (record { reader = t .reader; run = t .run; taken = t .at; have = left; n = t .n; refused = 0; reads = reads; more = true }) l' buf' out'
+  round-full reads h y = still reads 0 true h (λ z. y) (λ z. absurd (let o : _≡_ {A = ℕ} 0 1 = cc in omega arith))
 
-  pub round-refused : left ≤ length buf' → t .ticked ≡ false
-      → Rounded code w s (record { reader = t .reader; run = t .run; taken = t .at; have = left; n = t .n; refused = t .refused; more = false }) l' buf' out'
-  round-refused h y = still (t .refused) false h (λ z. p .turned .stops y)
+  -- it is over with a refusal, or since no read is left
+  pub round-over : (reads : ℕ) → left ≤ length buf' → t .ticked ≡ false
+      → Rounded code w s reads (record { reader = t .reader; run = t .run; taken = t .at; have = left; n = t .n; refused = t .refused; reads = reads; more = false }) l' buf' out'
+  round-over reads h y = still reads (t .refused) false h (λ z. absurd (let o : _≡_ {A = ℕ} 0 1 = cc in omega arith)) (λ z. p .turned .stops y)
 
   pub left-short : t .ticked ≡ false → t .refused ≡ 0 → left ≤ 257
   left-short y z = omega (arith, rests-short v (drop (t .at) s) (t .refused) z (p .turned .stops y), length-drop (t .at) s)
 
-  pub round-read : t .ticked ≡ false → (e : ℕ) (buf'' : List ℕ) → Came (take left buf') e buf'' → (more : Bool) → (more ≡ false → e ≤ left)
-      → Rounded code w s (record { reader = t .reader; run = t .run; taken = t .at; have = e; n = t .n; refused = t .refused; more = more }) l' buf'' out'
-  round-read y e buf'' c more m =
+  pub round-read : (reads : ℕ) → 0 < reads → t .ticked ≡ false → (e : ℕ) (buf'' : List ℕ) → length buf'' ≡ 65536 → Came (take left buf') e buf'' → (more : Bool) → (more ≡ false → e ≤ left)
+      → Rounded code w s reads (record { reader = t .reader; run = t .run; taken = t .at; have = e; n = t .n; refused = t .refused; reads = reads - 1; more = more }) l' buf'' out'
+  round-read reads o y e buf'' b c more m =
       let d : take left buf' ++ c .came ≡ drop (t .at) s ++ c .came = ap (λ (u : List ℕ). u ++ c .came) left-is in
       record {
         told = p .turned .told;
@@ -150,6 +153,7 @@ module _ (code : ℕ) (w : Whole) (s : List ℕ) (out : List ℕ) (t : Turn) (l'
         count = (let k : t .at + e ≡ length (s ++ c .came) = omega (arith, p .turned .within, length-append s (c .came), length-append (drop (t .at) s) (c .came), length-drop (t .at) s, c .count, ap length d) in k);
         within = c .within;
         few = omega (arith, c .within, c .count, length-append (take left buf') (c .came));
+        less = λ z. omega (arith, c .within);
         text = text-is;
         over = λ z. rw (none-came z) (p .turned .stops y);
       }

@@ -6,7 +6,9 @@ use mathlib.Core.Bool.{Bool, true, false, cond}
 use native.Mathlib.Omega.{arith}
 use lib.ListN.{length, take, drop, length-drop, getD}
 use lib.Seq.{drop-drop, getD-drop}
+use lib.Dec.{leb}
 use lib.Ieee.{Float}
+use borrow.Author.Tests.{leb-true}
 use Rattle.bytes_le.specs.Little.{byteAt}
 use Rattle.lictor_core.specs.declared.fuse.TickInput.{TickInput}
 use Rattle.lictor_fuse.specs.declared.tick.Decided.{Decided}
@@ -30,7 +32,7 @@ use Rattle.journal.proofs.Steps.{part-from}
 use Rattle.render.specs.Text.{Put, eventText}
 use Rattle.render.proofs.Laws.{put-none, put-on, put-within}
 use Rattle.player.specs.declared.Turn.{Turn}
-use Rattle.player.specs.Play.{eventsText, Rests, tickedOf, Turned}
+use Rattle.player.specs.Play.{eventsText, Rests, tickedOf, Turned, goesOnOf, Fed}
 
 -- ---- what comes next, by what `advance` says of it
 
@@ -223,27 +225,56 @@ less-by long at at' h k false y = omega arith
 pub turn-less : (long at at' : ℕ) → at ≤ at' → at' ≤ long → (more m : Bool) → more ≡ true → (m ≡ true → at < at') → long - at' + cond m 1 0 < long - at + cond more 1 0
 turn-less long at at' h k more m e y = rw e (less-by long at at' h k m y)
 
+-- more to do: the last was a tick, and there is room
+more-by : (t : Bool) (n room : ℕ) (b : Bool) → leb (n + 19200) room ≡ b → cond b t false ≡ true → (t ≡ true) × (n + 19200 ≤ room)
+more-by t n room true e y = (y, leb-true (n + 19200) room e)
+more-by t n room false e y = absurd (let z : _≡_ {A = ℕ} 0 1 = cc in omega arith)
+
+pub more-is : (t : Bool) (n room : ℕ) (m : Bool) → m ≡ goesOnOf t n room → m ≡ true → (t ≡ true) × (n + 19200 ≤ room)
+unfolding goesOnOf
+more-is t n room m e y = more-by t n room (leb (n + 19200) room) refl (sym e ∙ y)
+
 -- since the first turn
 pub record Since (code : ℕ) (l₀ : List Float) (s : List ℕ) (out₀ : List ℕ) (t₀ : Turn) (l : List Float) (out : List ℕ) (t : Turn) (more : Bool) : Type 0 where
   pub turned : Turned code (wholeOf (t₀ .reader) (t₀ .run) l₀) s (t₀ .at) out₀ (t₀ .n) t l out
   pub long : length out ≡ length out₀
+  pub further : t .ticked ≡ true → 0 < t .at
   pub room : more ≡ true → (t .ticked ≡ true) × (t .n + 19200 ≤ length out)
 
 pub since-first : (code : ℕ) (w : Whole) (s : List ℕ) (at : ℕ) (o : List ℕ) (n : ℕ) (t : Turn) (l : List Float) (out : List ℕ) (more : Bool)
-    → Turned code w s at o n t l out → (more ≡ true → (t .ticked ≡ true) × (t .n + 19200 ≤ length out)) → Since code l s out t l out t more
+    → Turned code w s at o n t l out → (t .ticked ≡ true → at < t .at) → (more ≡ true → (t .ticked ≡ true) × (t .n + 19200 ≤ length out)) → Since code l s out t l out t more
 unfolding eventsText
-since-first code w s at o n t l out more p y = record {
+since-first code w s at o n t l out more p f y = record {
   turned = record { told = []; within = p .within; from = omega arith; goes = refl; text = put-none out (t .n); fits = p .fits; stops = p .stops };
   long = refl;
+  further = λ z. omega (arith, f z);
   room = y;
 }
 
 pub since-more : (code : ℕ) (l₀ : List Float) (s : List ℕ) (out₀ : List ℕ) (t₀ : Turn) (l : List Float) (out : List ℕ) (t : Turn) (more : Bool) (r : Turn) (l' : List Float)
     (out' : List ℕ) (more' : Bool) → t₀ .n ≤ length out₀ → length out' ≡ length out → Since code l₀ s out₀ t₀ l out t more
-    → Turned code (wholeOf (t .reader) (t .run) l) s (t .at) out (t .n) r l' out' → (more' ≡ true → (r .ticked ≡ true) × (r .n + 19200 ≤ length out'))
+    → Turned code (wholeOf (t .reader) (t .run) l) s (t .at) out (t .n) r l' out' → (r .ticked ≡ true → t .at < r .at) → (more' ≡ true → (r .ticked ≡ true) × (r .n + 19200 ≤ length out'))
     → Since code l₀ s out₀ t₀ l' out' r more'
-since-more code l₀ s out₀ t₀ l out t more r l' out' more' h k i q y = record {
+since-more code l₀ s out₀ t₀ l out t more r l' out' more' h k i q f y = record {
   turned = turned-on code _ s (t₀ .at) out₀ (t₀ .n) t l out r l' out' h (i .turned) q;
   long = k ∙ i .long;
+  further = λ z. omega (arith, f z);
   room = y;
+}
+
+-- nothing was done
+pub fed-none : (code : ℕ) (w : Whole) (s out : List ℕ) → length out < 19200
+    → Fed code w s out (record { reader = w .state .reader; run = w .run; at = 0; n = 0; ticked = true; refused = 0 }) (w .state .lists) out
+unfolding eventsText
+fed-none code w s out h = record {
+  turned = record {
+    told = [];
+    within = omega arith;
+    from = omega arith;
+    goes = refl;
+    text = put-none out 0;
+    fits = omega arith;
+    stops = λ y. absurd (let z : _≡_ {A = ℕ} 0 1 = cc in omega arith);
+  };
+  further = λ k y. omega arith;
 }

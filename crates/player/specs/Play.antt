@@ -2,8 +2,8 @@
 use mathlib.Core.Bool.{Bool, true, false, cond}
 use mathlib.Core.List.{List, [], _∷_, _++_}
 use mathlib.Core.Path.{_≡_}
-use Prim.Native.Nat.{ℕ, _+_, _-_, _≤_, _<_}
-use lib.Dec.{eqb}
+use Prim.Native.Nat.{ℕ, _+_, _-_, _*_, _≤_, _<_}
+use lib.Dec.{eqb, leb}
 use lib.Ieee.{Float}
 use lib.ListN.{length, take, drop}
 use Rattle.lictor_core.specs.declared.tally.Tally.{Tally}
@@ -68,9 +68,19 @@ pub record Turned (code : ℕ) (w : Whole) (s : List ℕ) (at : ℕ) (out : List
   pub fits : r .n ≤ length out'
   pub stops : r .ticked ≡ false → Rests (wholeOf (r .reader) (r .run) l') (drop (r .at) s) (r .refused)
 
--- the same from the first byte of the bytes at hand; those that were not taken stand at the front of memory then
+-- whether there is more to do, and room for its text
+unfoldable pub goesOnOf : Bool → ℕ → ℕ → Bool
+goesOnOf ticked n room = cond (leb (n + 19200) room) ticked false
+
+-- from the first byte of s, with the text at the front of `out`; where there is room, and it ends with a tick, some bytes were taken
+pub record Fed (code : ℕ) (w : Whole) (s : List ℕ) (out : List ℕ) (r : Turn) (l' : List Float) (out' : List ℕ) : Type 0 where
+  pub turned : Turned code w s 0 out 0 r l' out'
+  pub further : 19200 ≤ length out → r .ticked ≡ true → 0 < r .at
+
+-- the same, and the bytes that were not taken stand at the front of memory then
 pub record Taken (code : ℕ) (w : Whole) (s : List ℕ) (out : List ℕ) (r : Turn) (l' : List Float) (buf' out' : List ℕ) : Type 0 where
   pub turned : Turned code w s 0 out 0 r l' out'
+  pub further : r .ticked ≡ true → 0 < r .at
   pub moved : take (length s - r .at) buf' ≡ drop (r .at) s
 
 -- the bytes `came` were read, and the first r bytes of memory are s and these
@@ -81,13 +91,14 @@ pub record Came (s : List ℕ) (r : ℕ) (buf' : List ℕ) : Type 0 where
   pub bytes : take r buf' ≡ s ++ came
 
 -- one round, with bytes s at hand: the bytes `came` were read, the ticks `told` were played, and their text stands at the front of memory. Where it is over, the journal rests.
-pub record Rounded (code : ℕ) (w : Whole) (s : List ℕ) (r : Round) (l' : List Float) (buf' out' : List ℕ) : Type 0 where
+pub record Rounded (code : ℕ) (w : Whole) (s : List ℕ) (reads : ℕ) (r : Round) (l' : List Float) (buf' out' : List ℕ) : Type 0 where
   pub told : List Decided
   pub came : List ℕ
   pub goes : settled replayOf w (s ++ came) ≡ telling told (settled replayOf (wholeOf (r .reader) (r .run) l') (take (r .have) buf'))
   pub count : r .taken + r .have ≡ length (s ++ came)
   pub within : r .have ≤ length buf'
-  pub few : length came ≤ length buf'
+  pub few : length came + r .reads * 65536 ≤ reads * 65536
+  pub less : r .more ≡ true → r .have + r .reads * 65537 < length s + reads * 65537
   pub text : take (r .n) out' ≡ eventsText code told
   pub over : r .more ≡ false → Rests (wholeOf (r .reader) (r .run) l') (take (r .have) buf') (r .refused)
 
@@ -96,9 +107,8 @@ pub record Rounded (code : ℕ) (w : Whole) (s : List ℕ) (r : Round) (l' : Lis
 unfoldable pub endedOf : Run → ℕ → ℕ → ℕ → Ended
 endedOf run number have place = record {
   run = run;
-  refused = cond (eqb number 0) (cond (eqb have 0) 0 (numberOf CutBody)) number;
   place = place;
-  «gave_up» = false;
+  refused = cond (eqb number 0) (cond (eqb have 0) 0 (numberOf CutBody)) number;
 }
 
 -- an ending as numbers: 0, or that of the refusal; and the place of the record that was refused, or the number of bytes
@@ -110,15 +120,13 @@ unfoldable pub endPlace : List ℕ → Ending → ℕ
 endPlace s ended = length s
 endPlace s (refused r p) = p
 
--- Some bytes were read, all of them a journal; and the answer is how it ends and what it leaves.
-pub record RanOn (r : Ended) : Type 0 where
+-- The answer is how some journal ends, and what it leaves. The proof takes for it the bytes that the reads brought; the promise cannot name them, since that of the
+-- operating system's read says nothing of the bytes.
+pub record Ran (r : Ended) : Type 0 where
   pub journal : List ℕ
   pub refused-is : r .refused ≡ endNumber (journalOf journal .ending)
   pub place-is : r .place ≡ endPlace journal (journalOf journal .ending)
   pub run-is : r .run ≡ journalOf journal .left .run
-
-abbrev pub Ran : Ended → Type 0
-Ran r = r .«gave_up» ≡ false → RanOn r
 
 -- the last line
 unfoldable pub lastOf : Ended → List ℕ

@@ -8,7 +8,7 @@ ghost use Rattle.bytes_le.specs.Little.{byteAt};
 ghost use Rattle.records.specs.Kinds.{journalKinds, bodyLen};
 ghost use Rattle.text.specs.Line.{lineOf};
 ghost use Rattle.journal.specs.Journal.{wholeOf, tickOf};
-ghost use Rattle.player.specs.Play.{tickedOf, Turned, Taken, Came, Rounded, endedOf, Ran, lastOf};
+ghost use Rattle.player.specs.Play.{tickedOf, Turned, goesOnOf, Fed, Taken, Came, Rounded, endedOf, Ran, lastOf};
 use journal::How;
 use journal::Run;
 use judge::Refusal;
@@ -20,16 +20,16 @@ use text::Line;
 
 // ---- from tick to tick
 
-struct Turn {
-    reader: Reader,
-    run: Run,
+pub struct Turn {
+    pub reader: Reader,
+    pub run: Run,
     // the bytes that were taken, and those of text
-    at: usize,
-    n: usize,
-    // a tick was played; else no more is to be had of these bytes
-    ticked: bool,
+    pub at: usize,
+    pub n: usize,
+    // there may be more: the last record was a tick; else no more is to be had of these bytes
+    pub ticked: bool,
     // the number of a refusal, or 0
-    refused: u8,
+    pub refused: u8,
 }
 
 // The tick whose record ends before place `at`, and its text behind n bytes.
@@ -108,7 +108,7 @@ fn play_turn(
 
 // Whether there is more to do, and room for its text.
 fn goes_on(ticked: bool, n: usize, room: usize) -> bool
-    ensures { λ r. ⌜ (r ≡ true → (ticked ≡ true) × (n + 19200 ≤ room)) ⌝ }
+    ensures { λ r. ⌜ r ≡ goesOnOf ticked n room ⌝ }
 {
     if room < render::ROOM {
         return false;
@@ -119,10 +119,16 @@ fn goes_on(ticked: bool, n: usize, room: usize) -> bool
     ticked
 }
 
-// All records of s, as long as there is room for the text of one more tick.
-fn feed(code: u8, rd: Reader, run: Run, lists: &mut [f64; 576], s: &[u8], out: &mut [u8]) -> Turn
+fn feed_all(
+    code: u8,
+    rd: Reader,
+    run: Run,
+    lists: &mut [f64; 576],
+    s: &[u8],
+    out: &mut [u8],
+) -> Turn
     requires { ⌜ 19200 ≤ length (now out) ⌝ }
-    ensures { λ r. ⌜ Turned code (wholeOf rd run (now (lists .entry))) (now (s .entry)) 0 (now (out .entry)) 0 r (now (lists .exit)) (now (out .exit)) ⌝ }
+    ensures { λ r. ⌜ Fed code (wholeOf rd run (now (lists .entry))) (now (s .entry)) (now (out .entry)) r (now (lists .exit)) (now (out .exit)) ⌝ }
 {
     let mut t = play_turn(code, rd, run, lists, s, 0, out, 0);
     let mut more = goes_on(t.ticked, t.n, out.len());
@@ -133,6 +139,30 @@ fn feed(code: u8, rd: Reader, run: Run, lists: &mut [f64; 576], s: &[u8], out: &
         more = goes_on(t.ticked, t.n, out.len());
     }
     t
+}
+
+// Plays the records at the front of s as long as there is room for the text of one more tick, and puts the text of their ticks to the front of `out`. Where `out` has no room for one, it does nothing.
+pub fn feed(
+    code: u8,
+    rd: Reader,
+    run: Run,
+    lists: &mut [f64; 576],
+    s: &[u8],
+    out: &mut [u8],
+) -> Turn
+    ensures { λ r. ⌜ Fed code (wholeOf rd run (now (lists .entry))) (now (s .entry)) (now (out .entry)) r (now (lists .exit)) (now (out .exit)) ⌝ }
+{
+    if out.len() < render::ROOM {
+        return Turn {
+            reader: rd,
+            run,
+            at: 0,
+            n: 0,
+            ticked: true,
+            refused: 0,
+        };
+    }
+    feed_all(code, rd, run, lists, s, out)
 }
 
 // ---- part by part
@@ -193,11 +223,13 @@ struct Round {
     n: usize,
     // the number of a refusal, or 0
     refused: u8,
+    // the reads that are left
+    reads: u64,
     // there may be more: neither the end of the input nor a refusal was met
     more: bool,
 }
 
-// Plays what is there, and reads once where that was all.
+// Plays what is there, and reads once where that was all. Where no read is left, the input counts as ended.
 fn play_round(
     code: u8,
     rd: Reader,
@@ -206,9 +238,10 @@ fn play_round(
     buf: &mut [u8],
     have: usize,
     out: &mut [u8],
+    reads: u64,
 ) -> Round
     requires { ⌜ (have ≤ length (now buf)) × (65536 ≡ length (now buf)) × (19200 ≤ length (now out)) ⌝ }
-    ensures { λ r. ⌜ Rounded code (wholeOf rd run (now (lists .entry))) (take have (now (buf .entry))) r (now (lists .exit)) (now (buf .exit)) (now (out .exit)) ⌝ }
+    ensures { λ r. ⌜ Rounded code (wholeOf rd run (now (lists .entry))) (take have (now (buf .entry))) reads r (now (lists .exit)) (now (buf .exit)) (now (out .exit)) ⌝ }
 {
     let t = take_in(code, rd, run, lists, buf, have, out);
     let reader = t.reader;
@@ -225,6 +258,7 @@ fn play_round(
             have: left,
             n,
             refused: 0,
+            reads,
             more: true,
         };
     }
@@ -236,6 +270,19 @@ fn play_round(
             have: left,
             n,
             refused,
+            reads,
+            more: false,
+        };
+    }
+    if reads == 0 {
+        return Round {
+            reader,
+            run: after,
+            taken,
+            have: left,
+            n,
+            refused,
+            reads,
             more: false,
         };
     }
@@ -247,6 +294,7 @@ fn play_round(
         have: e,
         n,
         refused,
+        reads: reads - 1,
         more: left < e,
     }
 }
@@ -256,12 +304,10 @@ fn play_round(
 // How a journal ended.
 pub struct Ended {
     pub run: Run,
-    // the number of its refusal, or 0
-    pub refused: u8,
     // the place of the record that was refused, or the number of bytes
     pub place: u64,
-    // it was given up after 2^47 rounds, and all else here says nothing
-    pub gave_up: bool,
+    // the number of its refusal, or 0
+    pub refused: u8,
 }
 
 // The end, with so many bytes left over: these are a record that the end of the input cut.
@@ -271,55 +317,44 @@ fn finish(run: Run, refused: u8, have: usize, place: u64) -> Ended
     if refused != 0 {
         return Ended {
             run,
-            refused,
             place,
-            gave_up: false,
+            refused,
         };
     }
     if have != 0 {
         return Ended {
             run,
-            refused: judge::number(Refusal::CutBody),
             place,
-            gave_up: false,
+            refused: judge::number(Refusal::CutBody),
         };
     }
     Ended {
         run,
-        refused: 0,
         place,
-        gave_up: false,
+        refused: 0,
     }
 }
+
+// The reads that a run makes at most: 2^47, more than a thousand years of one each millisecond.
+const READS: u64 = 140737488355328;
 
 // Round by round to the end of the input or to the first refusal.
 fn run_rounds(code: u8, lists: &mut [f64; 576], buf: &mut [u8], out: &mut [u8]) -> Ended
     requires { ⌜ (now lists ≡ zeros 576) × (65536 ≡ length (now buf)) × (19200 ≤ length (now out)) ⌝ }
     ensures { λ r. ⌜ Ran r ⌝ }
 {
-    let mut rd = reader::start();
-    let mut run = journal::start();
-    let mut have: usize = 0;
-    let mut place: u64 = 0;
-    let mut rounds: u64 = 140737488355328;
-    while rounds > 0 {
-        rounds -= 1;
-        let r = play_round(code, rd, run, lists, buf, have, out);
-        rd = r.reader;
-        run = r.run;
-        have = r.have;
+    let rd = reader::start();
+    let run = journal::start();
+    let mut r = play_round(code, rd, run, lists, buf, 0, out, READS);
+    let mut place = r.taken as u64;
+    while r.more {
+        let q = r.reader;
+        let u = r.run;
+        r = play_round(code, q, u, lists, buf, r.have, out, r.reads);
         place += r.taken as u64;
-        let more = r.more;
-        if !more {
-            return finish(run, r.refused, have, place);
-        }
     }
-    Ended {
-        run,
-        refused: 0,
-        place,
-        gave_up: true,
-    }
+    let after = r.run;
+    finish(after, r.refused, r.have, place)
 }
 
 // The last line of a journal.
@@ -358,8 +393,6 @@ pub fn play(code: u8) -> Ended
     let mut buf = io::large_buffer();
     let mut out = io::large_buffer();
     let e = run_rounds(code, &mut lists, &mut buf, &mut out);
-    if !e.gave_up {
-        write_line(last_line(e));
-    }
+    write_line(last_line(e));
     e
 }

@@ -1,20 +1,22 @@
-use Prim.Native.Nat.{ℕ}
-use mathlib.Core.Path.{_≡_}
+use Prim.Native.Nat.{_+_}
+use mathlib.Core.Path.{refl}
 use native.Mathlib.Omega.{arith}
+use borrow.Author.Tests.{le-leb, lt-leb}
+use Rattle.player.specs.Play.{goesOnOf}
 use Rattle.player.proofs.goes_on.Statement.{statement}
 use Rattle.player.proofs.goes_on.Tie as tie
 
--- src/lib.rt:72:9
 returns : tie.Need-returns
-returns c = λ y. absurd (let z : _≡_ {A = ℕ} 0 1 = cc in omega arith)
+unfolding goesOnOf
+returns c = let a = c .before .args in rw (lt-leb (a .n + 19200) (a .room) (omega arith)) refl
 
--- src/lib.rt:75:9
 returns-2 : tie.Need-returns-2
-returns-2 c = λ y. absurd (let z : _≡_ {A = ℕ} 0 1 = cc in omega arith)
+unfolding goesOnOf
+returns-2 c = let a = c .before .before .args in rw (lt-leb (a .n + 19200) (a .room) (omega arith)) refl
 
--- src/lib.rt:68:1
 returns-3 : tie.Need-returns-3
-returns-3 c = λ y. (y, omega arith)
+unfolding goesOnOf
+returns-3 c = let a = c .before .before .args in rw (le-leb (a .n + 19200) (a .room) (omega arith)) refl
 
 pub goes-on-spec : {M : Type 1} → statement M
 goes-on-spec = tie.close (tie.spec returns returns-2 returns-3)

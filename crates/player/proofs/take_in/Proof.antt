@@ -22,7 +22,7 @@ move-down-requires : tie.Need-move-down-requires
 move-down-requires c κs =
     let a = c .before .before .before .before .before .before .before .before .before .before .before .args in
     let h = c .before .before .before .before .before .before .before .before .before .before .before .pre .0 in
-    (omega (arith, c .before .before .before .before .before .feed .ensures .within, length-take-le (a .have) (a .buf .now) h), h)
+    (omega (arith, c .before .before .before .before .before .feed .ensures .turned .within, length-take-le (a .have) (a .buf .now) h), h)
 
 same-length : tie.Need-same-length
 same-length c = search needs
@@ -31,7 +31,7 @@ same-length-2 : tie.Need-same-length-2
 same-length-2 c = search needs
 
 returns : tie.Need-returns
-returns c = taken-is _ _ _ _ _ _ _ _ _ (c .before .before .before .before .before .before .before .before .before .before .before .before .before .before .pre .0) (c .before .before .before .before .before .before .before .before .feed .ensures) (c .before .before .move-down .ensures)
+returns c = taken-is _ _ _ _ _ _ _ _ _ (c .before .before .before .before .before .before .before .before .before .before .before .before .before .before .pre .0) (c .before .before .before .before .before .before .before .before .before .before .before .before .before .before .pre .1) (c .before .before .before .before .before .before .before .before .feed .ensures) (c .before .before .move-down .ensures)
 
 pub take-in-spec : {M : Type 1} → statement M
 take-in-spec =
