@@ -12,10 +12,17 @@ use Rattle.text.specs.Line.{lineOf}
 use Rattle.lictor_core.specs.declared.fuse.FuseRt.{FuseRt}
 use Rattle.lictor_core.specs.declared.verdict.SafetyVerdict.{SafetyVerdict}
 use Rattle.report.specs.Lines.{tickText}
-use Rattle.report.proofs.Fits.{tick-whole, tick-fits}
+use Rattle.text.specs.Ascii.{ascii}
+use Rattle.text.proofs.Digits.{decimal-20}
+use Rattle.lictor_core.specs.Codes.{stateCode, reasonCode, sourceCode}
+use Rattle.report.specs.Lines.{fieldText, marginText}
+use Rattle.report.specs.declared.margin.Margin.{Margin}
+use Rattle.report.specs.Margin.{marginOf}
+use Rattle.text.proofs.Lines.{line-text}
+use Rattle.report.proofs.Fits.{tick-fits, margin-21}
 use Rattle.trace_lines.specs.Trace.{traceText}
 use borrow.Author.Tests.{eq-eqb, ne-eqb, le-leb, lt-leb}
-use Rattle.render.specs.Text.{Put, traceUpTo, eventText, placeAfter, memoryAfter}
+use Rattle.render.specs.Text.{Put, numbersOf, traceUpTo, eventText, placeAfter, memoryAfter}
 
 pub put-none : (out : List ℕ) (n : ℕ) → Put out n [] n out
 put-none out n = record { ends = (let e : n ≡ n + 0 = omega arith in e); memory = paste-zero out n [] }
@@ -93,9 +100,24 @@ traced-more v rt out₀ n out at k l at' out' h w z e q p =
 
 -- ---- a tick
 
-pub put-tick : (out : List ℕ) (n : ℕ) (v : SafetyVerdict) (l : Line) (r : ℕ) (out' : List ℕ) → l ≡ lineOf (tickText v) → Put out n (take (l .n) (l .text)) r out'
-    → Put out n (tickText v) r out'
-put-tick out n v l r out' e p = rw (ap (λ (x : Line). take (x .n) (x .text)) e ∙ tick-whole v) at p
+-- a whole text
+pub put-whole : (out : List ℕ) (n : ℕ) (s : List ℕ) (out' : List ℕ) → out' ≡ paste out n s (length s) → Put out n s (n + length s) out'
+put-whole out n s out' e = record { ends = refl; memory = e }
+
+-- the numbers of a line, then a blank, the margin and the end
+pub tick-by : (v : SafetyVerdict) → tickText v ≡ numbersOf v ++ ascii " " ++ marginText (marginOf (v .«brake_margin»)) ++ ascii "\n"
+unfolding tickText numbersOf
+tick-by v = refl
+
+-- the margin's line shows its text
+pub margin-shows : (m : Margin) (l : Line) (x : Margin) → l ≡ lineOf (marginText m) → m ≡ x → take (l .n) (l .text) ≡ marginText x
+margin-shows m l x e f = ap (λ (y : Line). take (y .n) (y .text)) (e ∙ ap (λ (y : Margin). lineOf (marginText y)) f) ∙ line-text (marginText x) (omega (arith, margin-21 x))
+
+pub numbers-most : (v : SafetyVerdict) → length (numbersOf v) ≤ 130
+unfolding numbersOf
+numbers-most v =
+    simp length-append
+    (omega (arith, decimal-20 (v .seq), decimal-20 (v .t), decimal-20 (stateCode (v .state)), decimal-20 (reasonCode (v .reason)), decimal-20 (v .trips), decimal-20 (sourceCode (v .«action_src»))))
 
 pub tick-end : (out : List ℕ) (n : ℕ) (v : SafetyVerdict) (r : ℕ) (out' : List ℕ) → Put out n (tickText v) r out' → r ≤ n + 256
 tick-end out n v r out' p = omega (arith, p .ends, tick-fits v)

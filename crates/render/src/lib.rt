@@ -3,9 +3,14 @@ ghost use mathlib.Core.Path.{_≡_};
 ghost use Prim.Native.Nat.{_+_, _≤_};
 ghost use lib.ListN.{length, take};
 ghost use lib.Seq.{paste};
-ghost use Rattle.render.specs.Text.{Put, traceUpTo, eventText, placeAfter, memoryAfter};
+ghost use Rattle.report.specs.Lines.{fieldText, tickText};
+ghost use Rattle.render.specs.Text.{Put, numbersOf, traceUpTo, eventText, placeAfter, memoryAfter};
 use lictor_core::fuse::FuseRt;
+use lictor_core::reason::reason_code;
+use lictor_core::state::state_code;
 use lictor_core::verdict::SafetyVerdict;
+use lictor_core::verdict::source_code;
+use report::margin::margin_of;
 use text::Line;
 use trace_lines::TRACE_LINES;
 
@@ -41,6 +46,54 @@ fn put_line(out: &mut [u8], n: usize, l: Line) -> usize
     n + k
 }
 
+// Puts a text behind the first n bytes.
+fn put(out: &mut [u8], n: usize, text: &[u8]) -> usize
+    requires { ⌜ n + length (now text) ≤ length (now out) ⌝ }
+    ensures { λ r. ⌜ Put (now (out .entry)) n (now (text .entry)) r (now (out .exit)) ⌝ }
+{
+    copy(out, n, text, text.len());
+    n + text.len()
+}
+
+// A blank and a number.
+fn put_field(out: &mut [u8], n: usize, x: u64) -> usize
+    requires { ⌜ n + 21 ≤ length (now out) ⌝ }
+    ensures { λ r. ⌜ (Put (now (out .entry)) n (fieldText x) r (now (out .exit))) × (r ≤ n + 21) ⌝ }
+{
+    let mut digits = [0u8; 20];
+    let k = io::decimal(x, &mut digits);
+    let m = put(out, n, b" ");
+    put(out, m, &digits[..k])
+}
+
+// The line of a tick up to its margin, straight into memory: a line by value would be copied with each word. (report::lines::tick_line is the same line by value.)
+fn put_numbers(v: SafetyVerdict, out: &mut [u8], n: usize) -> usize
+    requires { ⌜ n + 256 ≤ length (now out) ⌝ }
+    ensures { λ r. ⌜ Put (now (out .entry)) n (numbersOf v) r (now (out .exit)) ⌝ }
+{
+    let state = v.state;
+    let reason = v.reason;
+    let action_src = v.action_src;
+    let a = put(out, n, b"tick");
+    let b = put_field(out, a, v.seq as u64);
+    let c = put_field(out, b, v.t as u64);
+    let d = put_field(out, c, state_code(state) as u64);
+    let e = put_field(out, d, reason_code(reason) as u64);
+    let f = put_field(out, e, v.trips as u64);
+    put_field(out, f, source_code(action_src) as u64)
+}
+
+fn put_tick(v: SafetyVerdict, out: &mut [u8], n: usize) -> usize
+    requires { ⌜ n + 512 ≤ length (now out) ⌝ }
+    ensures { λ r. ⌜ Put (now (out .entry)) n (tickText v) r (now (out .exit)) ⌝ }
+{
+    let m = margin_of(v.brake_margin);
+    let a = put_numbers(v, out, n);
+    let b = put(out, a, b" ");
+    let c = put_line(out, b, report::lines::margin_line(m));
+    put(out, c, b"\n")
+}
+
 // All lines of the trace.
 fn put_trace(v: SafetyVerdict, rt: FuseRt, out: &mut [u8], n: usize) -> usize
     requires { ⌜ n + 18944 ≤ length (now out) ⌝ }
@@ -59,7 +112,7 @@ fn put_event(code: u8, v: SafetyVerdict, rt: FuseRt, out: &mut [u8], n: usize) -
     requires { ⌜ n + 19200 ≤ length (now out) ⌝ }
     ensures { λ r. ⌜ Put (now (out .entry)) n (eventText code v rt) r (now (out .exit)) ⌝ }
 {
-    let m = put_line(out, n, report::lines::tick_line(v));
+    let m = put_tick(v, out, n);
     if code == TRACE {
         return put_trace(v, rt, out, m);
     }

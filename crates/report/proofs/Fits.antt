@@ -14,7 +14,7 @@ use Rattle.report.specs.declared.margin.Margin.the-variants.{NoMargin, P
 use Rattle.report.specs.Margin.{marginOf}
 use Rattle.report.specs.Lines.{marginText, tickText, stoppedOf, endText, refusedText}
 
-margin-21 : (m : Margin) → length (marginText m) ≤ 21
+pub margin-21 : (m : Margin) → length (marginText m) ≤ 21
 unfolding marginText
 margin-21 NoMargin = omega arith
 margin-21 PlusFar = omega arith

@@ -26,6 +26,13 @@ fn push_margin(l: Line, m: Margin) -> Line
     }
 }
 
+// The text of a margin alone.
+pub fn margin_line(m: Margin) -> Line
+    ensures { λ r. ⌜ r ≡ lineOf (marginText m) ⌝ }
+{
+    push_margin(empty(), m)
+}
+
 // A blank and a number.
 fn field(l: Line, x: u64) -> Line
     ensures { λ r. ⌜ r ≡ pushOf l (fieldText x) ⌝ }
