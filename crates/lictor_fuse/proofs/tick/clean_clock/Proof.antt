@@ -14,7 +14,7 @@ either-requires c κs = search needs
 
 returns : tie.Need-returns
 unfolding cleanClock
-returns c = cc
+returns c = rw (c .either .ensures, c .before .next-chunk .ensures, c .before .before .delivered .ensures)
 
 pub clean-clock-spec : {M : Type 1} → statement M
 clean-clock-spec =

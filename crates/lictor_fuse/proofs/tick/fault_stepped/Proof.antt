@@ -9,7 +9,7 @@ next-requires : tie.Need-next-requires
 next-requires c κs = search needs
 
 returns : tie.Need-returns
-returns c = cc
+returns c = rw (c .next .ensures, c .before .fault-input .ensures)
 
 pub fault-stepped-spec : {M : Type 1} → statement M
 fault-stepped-spec = tie.close (tie.spec fault-input-requires next-requires returns)

@@ -9,7 +9,7 @@ fault-verdict-requires : tie.Need-fault-verdict-requires
 fault-verdict-requires c κs = search needs
 
 returns : tie.Need-returns
-returns c = cc
+returns c = rw (c .fault-verdict .ensures, c .before .hold-action .ensures)
 
 pub fault-verdict-for-spec : {M : Type 1} → statement M
 fault-verdict-for-spec = tie.close (tie.spec hold-action-requires fault-verdict-requires returns)

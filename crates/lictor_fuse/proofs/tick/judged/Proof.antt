@@ -9,7 +9,7 @@ judge-requires : tie.Need-judge-requires
 judge-requires c κs = search needs
 
 returns : tie.Need-returns
-returns c = cc
+returns c = rw (c .judge .ensures, c .before .before .before .before .delivered .ensures)
 
 pub judged-spec : {M : Type 1} → statement M
 judged-spec = tie.close (tie.spec delivered-requires judge-requires returns)

@@ -1,10 +1,11 @@
 use Rattle.lictor_fuse.specs.Tick.{readyOf}
+use borrow.Author.Needs.{needs}
 use Rattle.lictor_fuse.proofs.tick.ready.Statement.{statement}
 use Rattle.lictor_fuse.proofs.tick.ready.Tie as tie
 
 returns : tie.Need-returns
 unfolding readyOf
-returns c = cc
+returns c = search needs
 
 pub ready-spec : {M : Type 1} → statement M
 ready-spec = tie.close (tie.spec returns)

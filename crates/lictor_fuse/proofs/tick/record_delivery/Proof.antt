@@ -9,7 +9,7 @@ record-chunk-requires : tie.Need-record-chunk-requires
 record-chunk-requires c κs = search needs
 
 returns : tie.Need-returns
-returns c = cc
+returns c = rw (c .record-chunk .ensures, c .before .rejected .ensures)
 
 pub record-delivery-spec : {M : Type 1} → statement M
 record-delivery-spec = tie.close (tie.spec rejected-requires record-chunk-requires returns)

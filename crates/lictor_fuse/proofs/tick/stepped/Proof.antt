@@ -12,7 +12,7 @@ next-requires : tie.Need-next-requires
 next-requires c κs = search needs
 
 returns : tie.Need-returns
-returns c = cc
+returns c = rw (c .next .ensures, c .before .machine-input .ensures, c .before .before .ready .ensures)
 
 pub stepped-spec : {M : Type 1} → statement M
 stepped-spec = tie.close (tie.spec ready-requires machine-input-requires next-requires returns)

@@ -9,7 +9,7 @@ chunk-tally-requires : tie.Need-chunk-tally-requires
 chunk-tally-requires c κs = search needs
 
 returns : tie.Need-returns
-returns c = cc
+returns c = rw (c .chunk-tally .ensures, c .before .delivered .ensures)
 
 pub tally-for-spec : {M : Type 1} → statement M
 tally-for-spec = tie.close (tie.spec delivered-requires chunk-tally-requires returns)

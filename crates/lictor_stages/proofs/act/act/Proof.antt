@@ -11,7 +11,7 @@ by-mode-requires c κs = search needs
 
 returns : tie.Need-returns
 unfolding actOf
-returns c = cc
+returns c = rw (c .by-mode .ensures, c .before .before .before .source-of .ensures)
 
 pub act-spec : {M : Type 1} → statement M
 act-spec = tie.close (tie.spec source-of-requires by-mode-requires returns)

@@ -9,7 +9,7 @@ instead-requires : tie.Need-instead-requires
 instead-requires c κs = search needs
 
 returns : tie.Need-returns
-returns c = cc
+returns c = rw (c .instead .ensures, c .before .brake-action .ensures)
 
 pub braked-spec : {M : Type 1} → statement M
 braked-spec = tie.close (tie.spec brake-action-requires instead-requires returns)

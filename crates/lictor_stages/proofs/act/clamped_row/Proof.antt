@@ -9,7 +9,7 @@ instead-requires : tie.Need-instead-requires
 instead-requires c κs = search needs
 
 returns : tie.Need-returns
-returns c = cc
+returns c = rw (c .instead .ensures, c .before .cut .ensures)
 
 pub clamped-row-spec : {M : Type 1} → statement M
 clamped-row-spec = tie.close (tie.spec cut-requires instead-requires returns)

@@ -14,7 +14,7 @@ taken-requires c κs = search needs
 
 returns : tie.Need-returns
 unfolding cutRow
-returns c = cc
+returns c = rw (c .taken .ensures, c .before .before .no-row .ensures)
 
 pub cut-spec : {M : Type 1} → statement M
 cut-spec = tie.close (tie.spec no-row-requires slice-aggregate-taken taken-requires returns)

@@ -9,7 +9,7 @@ instead-requires : tie.Need-instead-requires
 instead-requires c κs = search needs
 
 returns : tie.Need-returns
-returns c = cc
+returns c = rw (c .instead .ensures, c .before .hold-action .ensures)
 
 pub held-spec : {M : Type 1} → statement M
 held-spec = tie.close (tie.spec hold-action-requires instead-requires returns)

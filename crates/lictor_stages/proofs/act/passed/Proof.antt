@@ -11,7 +11,7 @@ is-policy-requires c κs = search needs
 
 returns : tie.Need-returns
 unfolding passedOf
-returns c = cc
+returns c = rw (c .is-policy .ensures, c .before .cut .ensures)
 
 pub passed-spec : {M : Type 1} → statement M
 passed-spec = tie.close (tie.spec cut-requires is-policy-requires returns)

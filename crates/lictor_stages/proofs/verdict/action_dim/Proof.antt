@@ -11,7 +11,7 @@ cast-result c = search needs
 
 returns : tie.Need-returns
 unfolding actionDim
-returns c = cc
+returns c = rw (c .least .ensures)
 
 pub action-dim-spec : {M : Type 1} → statement M
 action-dim-spec = tie.close (tie.spec least-requires cast-result returns)

@@ -11,7 +11,7 @@ minus-infinity-requires c κs = search needs
 
 returns : tie.Need-returns
 unfolding disarmedScores
-returns c = cc
+returns c = rw (c .minus-infinity .ensures, c .before .no-z .ensures)
 
 pub disarmed-scores-spec : {M : Type 1} → statement M
 disarmed-scores-spec = tie.close (tie.spec no-z-requires minus-infinity-requires returns)

@@ -14,7 +14,7 @@ live-valid-requires c κs = search needs
 
 returns : tie.Need-returns
 unfolding eventsOf
-returns c = cc
+returns c = rw (c .before .before .before .before .before .live-valid .ensures, c .before .before .before .before .before .before .entered2 .ensures, c .before .before .before .before .before .before .before .entered .ensures)
 
 pub events-of-spec : {M : Type 1} → statement M
 events-of-spec =

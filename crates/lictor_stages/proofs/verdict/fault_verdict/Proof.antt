@@ -20,7 +20,7 @@ nan-requires c κs = search needs
 
 returns : tie.Need-returns
 unfolding faultVerdict
-returns c = cc
+returns c = rw (c .before .nan .ensures, c .before .before .hits .ensures, c .before .before .before .disarmed-scores .ensures, c .before .before .before .before .action-dim .ensures, c .before .before .before .before .before .status-of .ensures)
 
 pub fault-verdict-spec : {M : Type 1} → statement M
 fault-verdict-spec =

@@ -6,7 +6,7 @@ reason-code-requires : tie.Need-reason-code-requires
 reason-code-requires c κs = search needs
 
 returns : tie.Need-returns
-returns c = cc
+returns c = rw (c .reason-code .ensures)
 
 pub is-reason-spec : {M : Type 1} → statement M
 is-reason-spec = tie.close (tie.spec reason-code-requires returns)

@@ -8,7 +8,7 @@ any-requires c κs = search needs
 
 returns : tie.Need-returns
 unfolding rejectedOf
-returns c = cc
+returns c = rw (c .any .ensures)
 
 pub rejected-spec : {M : Type 1} → statement M
 rejected-spec = tie.close (tie.spec any-requires returns)

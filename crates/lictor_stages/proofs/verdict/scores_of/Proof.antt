@@ -8,7 +8,7 @@ live-valid-requires c κs = search needs
 
 returns : tie.Need-returns
 unfolding scoresOf
-returns c = cc
+returns c = rw (c .live-valid .ensures)
 
 pub scores-of-spec : {M : Type 1} → statement M
 scores-of-spec = tie.close (tie.spec live-valid-requires returns)

@@ -23,7 +23,7 @@ consumed-requires c κs = search needs
 
 returns : tie.Need-returns
 unfolding verdictOf
-returns c = cc
+returns c = rw (c .before .before .consumed .ensures, c .before .before .before .handoff-of .ensures, c .before .before .before .before .entered .ensures, c .before .before .before .before .before .scores-of .ensures, c .before .before .before .before .before .before .action-dim .ensures, c .before .before .before .before .before .before .before .status-of .ensures)
 
 pub verdict-of-spec : {M : Type 1} → statement M
 verdict-of-spec =
