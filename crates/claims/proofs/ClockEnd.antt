@@ -17,7 +17,7 @@ use Rattle.lictor_core.specs.Settings.{configOf}
 use Rattle.lictor_guard.specs.Guard.{clockBad, schemaBad, bitIf, guardOf}
 use Rattle.lictor_stages.specs.Ingest.{faultMotion}
 use Rattle.lictor_stages.specs.Judge.{faultInput}
-use Rattle.lictor_stages.specs.Verdict.{faultVerdict}
+use Rattle.lictor_verdict.specs.Verdict.{faultVerdict}
 use Rattle.lictor_table.specs.declared.FsmInput.{FsmInput}
 use Rattle.lictor_table.specs.Helpers.{settledOf}
 use Rattle.lictor_table.specs.Table.{firstOf, table, nextFrom, nextOf}

@@ -27,7 +27,7 @@ use Rattle.lictor_core.specs.Masks.{anyOf, faultBits}
 use Rattle.lictor_core.specs.Num.{satUp, wrapUp}
 use Rattle.lictor_core.specs.Settings.{configOf}
 use Rattle.lictor_stages.specs.Judge.{machineInput}
-use Rattle.lictor_stages.specs.Verdict.{eventsOf, noEvents}
+use Rattle.lictor_verdict.specs.Verdict.{eventsOf, noEvents}
 use Rattle.lictor_table.specs.declared.FsmInput.{FsmInput}
 use Rattle.lictor_table.specs.declared.Turn.{Turn}
 use Rattle.lictor_table.specs.Helpers.{countIf, upIf, consumeNonce, latchHold, acceptedBy, acceptedAck, cleanOf, countRun, settledOf}

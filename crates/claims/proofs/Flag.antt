@@ -20,7 +20,7 @@ use Rattle.lictor_core.specs.Codes.{reasonCode}
 use Rattle.lictor_core.specs.Masks.{anyOf, faultBits}
 use Rattle.lictor_core.specs.Settings.{configOf}
 use Rattle.lictor_stages.specs.Judge.{judgeOf, machineInput}
-use Rattle.lictor_stages.specs.Verdict.{hasAck, consumedFlag, verdictOf, faultVerdict}
+use Rattle.lictor_verdict.specs.Verdict.{hasAck, consumedFlag, verdictOf, faultVerdict}
 use Rattle.lictor_table.specs.declared.FsmInput.{FsmInput}
 use Rattle.lictor_table.specs.declared.Turn.{Turn}
 use Rattle.lictor_table.specs.Consumed.{takenIn, consumedOf}

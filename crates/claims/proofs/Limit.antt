@@ -29,7 +29,7 @@ use Rattle.lictor_core.proofs.Rows.{row-length}
 use Rattle.lictor_guard.specs.Guard.{deliveredOf, nonFinite, lengthsOf, shapeBad, sizesBad, placeBad, headBad, deliveryBad, clockBad, schemaBad, bitIf, guardOf}
 use Rattle.lictor_stages.specs.Ingest.{takenRow, velocityOf, ingestOf}
 use Rattle.lictor_stages.specs.Judge.{withBrake, maskedOf, slowOf, standstillOf, judgeOf, machineInput}
-use Rattle.lictor_stages.specs.Verdict.{verdictOf}
+use Rattle.lictor_verdict.specs.Verdict.{verdictOf}
 use Rattle.lictor_table.specs.declared.FsmInput.{FsmInput}
 use Rattle.lictor_table.specs.Helpers.{acceptedAck, settledOf, countRun}
 use Rattle.lictor_table.specs.Rows.{confirmedOf, standstillRow, stoppingRow, brakingOf, brakeRow, runningOf, byFrom, transitionOf, nextByRows}

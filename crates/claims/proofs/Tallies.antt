@@ -11,7 +11,7 @@ use Rattle.lictor_core.specs.declared.verdict.SafetyVerdict.{SafetyVerdict}
 use Rattle.lictor_core.specs.Initial.{resetOf}
 use Rattle.lictor_core.specs.Settings.{configOf}
 use Rattle.lictor_stages.specs.Judge.{judgeOf}
-use Rattle.lictor_stages.specs.Verdict.{verdictOf, faultVerdict, eventsOf}
+use Rattle.lictor_verdict.specs.Verdict.{verdictOf, faultVerdict, eventsOf}
 use Rattle.lictor_tally.specs.History as H
 use Rattle.lictor_tally.specs.History.{Item, recorded, tallyFrom, tallyOf}
 use Rattle.lictor_tally.proofs.History.{history}

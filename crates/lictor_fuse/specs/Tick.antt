@@ -1,5 +1,5 @@
 -- One tick (01-scope.md, One tick; fuse.rs, fault_tick and decide), and one call with its settings check.
-use mathlib.Core.Bool.{Bool, true, false, cond, _||_}
+use mathlib.Core.Bool.{Bool, true, false, cond}
 use mathlib.Core.List.{List}
 use Prim.Native.Nat.{ℕ}
 use lib.Dec.{eqb}
@@ -22,19 +22,20 @@ use Rattle.lictor_core.specs.declared.verdict.MaybeHandoff.the-variants.{NoHand
 use Rattle.lictor_core.specs.declared.verdict.SafetyVerdict.{SafetyVerdict}
 use Rattle.lictor_core.specs.declared.verdict.Status.the-variants.{Nominal}
 use Rattle.lictor_core.specs.Initial.{zeros}
-use Rattle.lictor_core.specs.Num.{satUp, wrapUp}
+use Rattle.lictor_core.specs.Num.{satUp}
 use Rattle.lictor_core.specs.Settings.{checkOf, checkNumber, configOf}
 use Rattle.lictor_detect.specs.Brake.{holdAction}
 use Rattle.lictor_guard.specs.Guard.{deliveredOf, guardOf}
-use Rattle.lictor_stages.specs.Act.{actOf}
 use Rattle.lictor_stages.specs.Ingest.{ingestOf, faultMotion}
 use Rattle.lictor_stages.specs.Judge.{judgeOf, machineInput, faultInput}
-use Rattle.lictor_stages.specs.Verdict.{disarmedScores, verdictOf, faultVerdict, eventsOf, noEvents, rejectedOf}
+use Rattle.lictor_verdict.specs.Act.{actOf}
+use Rattle.lictor_verdict.specs.Verdict.{disarmedScores, verdictOf, faultVerdict, eventsOf, noEvents}
 use Rattle.lictor_stages.specs.declared.judge.Findings.{Findings}
 use Rattle.lictor_table.specs.declared.Turn.{Turn}
 use Rattle.lictor_table.specs.Table.{nextOf}
 use Rattle.lictor_tally.specs.declared.TickEvents.{TickEvents}
-use Rattle.lictor_tally.specs.Tally.{recordOf, recordChunk}
+use Rattle.lictor_tally.specs.Tally.{recordOf}
+unfoldable pub use Rattle.lictor_steps.specs.Steps.{nextChunk, cleanClock, readyOf, chunkTally, faultClock}
 use Rattle.lictor_fuse.specs.declared.tick.Decided.{Decided}
 use Rattle.lictor_fuse.specs.declared.tick.Ticked.{Ticked}
 
@@ -59,44 +60,6 @@ closedOf control m k tally v ev = record {
 
 -- ---- a clean tick
 
--- a chunk moves the next chunk number, which wraps
-unfoldable pub nextChunk : Bool → ℕ → ℕ
-nextChunk boundary n = cond boundary (wrapUp 32 n) n
-
--- t is taken; a chunk counts as taken from then on
-unfoldable pub cleanClock : Clock → TickInput → Bool → Clock
-cleanClock k inp ok = record {
-  filled = k .filled || deliveredOf (inp .chunk);
-  seq = k .seq;
-  «last_t» = inp .t;
-  «next_chunk_seq» = nextChunk (deliveredOf (inp .chunk)) (k .«next_chunk_seq»);
-  «chunk_ok_this_tick» = ok;
-}
-
--- the machine starts from the window that has this tick's hit
-unfoldable pub readyOf : Control → Findings → Control
-readyOf c f = record {
-  window = f .scored .window;
-  state = c .state;
-  hold = c .hold;
-  «clean_run» = c .«clean_run»;
-  «clamp_streak» = c .«clamp_streak»;
-  clamps = c .clamps;
-  «brake_ticks» = c .«brake_ticks»;
-  «stopped_ticks» = c .«stopped_ticks»;
-  «held_ticks» = c .«held_ticks»;
-  «held_clean» = c .«held_clean»;
-  «escalated_ticks» = c .«escalated_ticks»;
-  rearms = c .rearms;
-  «handoff_seq» = c .«handoff_seq»;
-  «handoff_pending» = c .«handoff_pending»;
-  «last_nonce» = c .«last_nonce»;
-}
-
--- a chunk is counted before the verdict is
-unfoldable pub chunkTally : Bool → Tally → ℕ → Tally
-chunkTally boundary tally trips = cond boundary (recordChunk tally (rejectedOf trips)) tally
-
 unfoldable pub closeClean : FuseConfig → FuseRt → TickInput → Outcome → Motion → Findings → Turn → SafetyVerdict → Decided
 closeClean cfg rt inp out m f turn v =
     closedOf (turn .rt) m (cleanClock (rt .clock) inp (f .«chunk_ok»)) (chunkTally (deliveredOf (inp .chunk)) (rt .tally) (f .trips)) v
@@ -113,15 +76,6 @@ cleanTick cfg rt inp out pos vel =
     closeClean cfg rt inp out m f turn v
 
 -- ---- a fault tick: it takes t and, if it is fit, the position; nothing of the outcome, the acknowledgement, the chunk or the velocity
-
-unfoldable pub faultClock : Clock → ℕ → Clock
-faultClock k t = record {
-  filled = k .filled;
-  seq = k .seq;
-  «last_t» = t;
-  «next_chunk_seq» = k .«next_chunk_seq»;
-  «chunk_ok_this_tick» = k .«chunk_ok_this_tick»;
-}
 
 unfoldable pub closeFault : FuseRt → TickInput → Motion → Turn → SafetyVerdict → Decided
 closeFault rt inp m turn v = closedOf (turn .rt) m (faultClock (rt .clock) (inp .t)) (rt .tally) v noEvents

@@ -1,5 +1,3 @@
 -- Definitions that the contracts cite.
 pub mod Ingest
 pub mod Judge
-pub mod Act
-pub mod Verdict

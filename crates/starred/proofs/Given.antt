@@ -17,10 +17,10 @@ use Rattle.lictor_table.specs.Rows.{faultRow, rearmAck, resumeRow, terminateRow
 use Rattle.lictor_table.specs.Table.{firstOf, table, nextFrom, nextOf}
 use Rattle.lictor_tally.specs.History.{recorded}
 use Rattle.lictor_tally.specs.Tally.{count, bitOf as bitOf·lictor_tally, countBit, eachFrom, countBits, first, firstReason, mostAt, mostLive, recordOf, recordChunk}
-use Rattle.lictor_stages.specs.Act.{statusOf, sourceOf, cutRow, passedOf, insteadOf, enforcedOf, byMode, actOf}
+use Rattle.lictor_verdict.specs.Act.{statusOf, sourceOf, cutRow, passedOf, insteadOf, enforcedOf, byMode, actOf}
 use Rattle.lictor_stages.specs.Ingest.{takenRow, stepRate, ratesRow, stillRow, velocityOf, ingestOf, isFit, withPos, faultMotion}
 use Rattle.lictor_stages.specs.Judge.{withBrake, maskedOf, warnOf, slowOf, standstillOf, chunkOk, scoredOf, judgeOf, machineInput, faultInput}
-use Rattle.lictor_stages.specs.Verdict.{liveValid, scoresOf, disarmedScores, actionDim, enteredOf, handoffOf, hasAck, consumedFlag, verdictOf, faultVerdict, eventsOf, noEvents, rejectedOf}
+use Rattle.lictor_verdict.specs.Verdict.{liveValid, scoresOf, disarmedScores, actionDim, enteredOf, handoffOf, hasAck, consumedFlag, verdictOf, faultVerdict, eventsOf, noEvents, rejectedOf}
 use Rattle.lictor_fuse.specs.Tick.{closedOf, nextChunk, cleanClock, readyOf, chunkTally, closeClean, cleanTick, faultClock, closeFault, faultTick, decideBy, decideOf, noVerdict, refusedTick, givenOf, acceptedTick, tickBy, tickOf}
 use Rattle.report.specs.Lines.{marginText, tickText, stoppedOf, endText, refusedText}
 use Rattle.report.specs.Margin.{nearestWhole, marginOf}

@@ -6,7 +6,7 @@ armed-reason-requires : tie.Need-armed-reason-requires
 armed-reason-requires c κs = search needs
 
 returns : tie.Need-returns
-returns c = cc
+returns c = rw (c .armed-reason .ensures)
 
 pub armed-row-spec : {M : Type 1} → statement M
 armed-row-spec = tie.close (tie.spec armed-reason-requires returns)

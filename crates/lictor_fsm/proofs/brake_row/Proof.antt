@@ -8,7 +8,7 @@ enter-braking-requires c κs = search needs
 
 returns : tie.Need-returns
 unfolding brakeRow
-returns c = cc
+returns c = rw (c .enter-braking .ensures)
 
 pub brake-row-spec : {M : Type 1} → statement M
 brake-row-spec = tie.close (tie.spec enter-braking-requires returns)

@@ -9,7 +9,7 @@ brake-row-requires : tie.Need-brake-row-requires
 brake-row-requires c κs = search needs
 
 returns : tie.Need-returns
-returns c = cc
+returns c = rw (c .brake-row .ensures, c .before .clamp-reason .ensures)
 
 pub brake-soft-spec : {M : Type 1} → statement M
 brake-soft-spec = tie.close (tie.spec clamp-reason-requires brake-row-requires returns)

@@ -14,7 +14,7 @@ clamp-reason-requires c κs = search needs
 
 returns : tie.Need-returns
 unfolding clampRow
-returns c = cc
+returns c = rw (c .clamp-reason .ensures, c .before .streak-up .ensures, c .before .before .sat-u16 .ensures)
 
 pub clamp-row-spec : {M : Type 1} → statement M
 clamp-row-spec =

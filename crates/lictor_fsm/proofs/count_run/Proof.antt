@@ -8,7 +8,7 @@ count-clean-requires c κs = search needs
 
 returns : tie.Need-returns
 unfolding countRun
-returns c = cc
+returns c = rw (c .count-clean .ensures)
 
 pub count-run-spec : {M : Type 1} → statement M
 count-run-spec = tie.close (tie.spec count-clean-requires returns)

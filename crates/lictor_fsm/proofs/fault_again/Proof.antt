@@ -6,7 +6,7 @@ fault-reason-requires : tie.Need-fault-reason-requires
 fault-reason-requires c κs = search needs
 
 returns : tie.Need-returns
-returns c = cc
+returns c = rw (c .fault-reason .ensures)
 
 pub fault-again-spec : {M : Type 1} → statement M
 fault-again-spec = tie.close (tie.spec fault-reason-requires returns)

@@ -9,7 +9,7 @@ fault-requires : tie.Need-fault-requires
 fault-requires c κs = search needs
 
 returns : tie.Need-returns
-returns c = cc
+returns c = rw (c .fault .ensures, c .before .fault-reason .ensures)
 
 pub fault-first-spec : {M : Type 1} → statement M
 fault-first-spec = tie.close (tie.spec fault-reason-requires fault-requires returns)

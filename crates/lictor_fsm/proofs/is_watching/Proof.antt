@@ -6,7 +6,7 @@ state-code-requires : tie.Need-state-code-requires
 state-code-requires c κs = search needs
 
 returns : tie.Need-returns
-returns c = cc
+returns c = rw (c .state-code .ensures)
 
 pub is-watching-spec : {M : Type 1} → statement M
 is-watching-spec = tie.close (tie.spec state-code-requires returns)

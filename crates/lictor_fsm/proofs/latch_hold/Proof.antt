@@ -11,7 +11,7 @@ latched-requires c κs = search needs
 
 returns : tie.Need-returns
 unfolding latchHold
-returns c = cc
+returns c = rw (c .latched .ensures, c .before .before .before .before .live .ensures)
 
 pub latch-hold-spec : {M : Type 1} → statement M
 latch-hold-spec = tie.close (tie.spec live-requires latched-requires returns)

@@ -8,7 +8,7 @@ with-state-requires c κs = search needs
 
 returns : tie.Need-returns
 unfolding settledOf
-returns c = cc
+returns c = rw (c .with-state .ensures)
 
 pub settled-spec : {M : Type 1} → statement M
 settled-spec = tie.close (tie.spec with-state-requires returns)

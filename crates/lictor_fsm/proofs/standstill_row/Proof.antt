@@ -8,7 +8,7 @@ latch-hold-requires c κs = search needs
 
 returns : tie.Need-returns
 unfolding standstillRow
-returns c = cc
+returns c = rw (c .latch-hold .ensures)
 
 pub standstill-row-spec : {M : Type 1} → statement M
 standstill-row-spec = tie.close (tie.spec latch-hold-requires returns)

@@ -11,7 +11,7 @@ count-stopped-requires c κs = search needs
 
 returns : tie.Need-returns
 unfolding stoppingRow
-returns c = cc
+returns c = rw (c .count-stopped .ensures, c .before .sat-u16 .ensures)
 
 pub stopping-row-spec : {M : Type 1} → statement M
 stopping-row-spec = tie.close (tie.spec sat-u16-requires count-stopped-requires returns)

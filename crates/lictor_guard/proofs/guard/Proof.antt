@@ -26,7 +26,7 @@ bit-if-requires-3 c κs = search needs
 
 returns : tie.Need-returns
 unfolding guardOf
-returns c = cc
+returns c = rw (c .bit-if3 .ensures, c .before .before .before .bit-if2 .ensures, c .before .before .before .before .bit-if .ensures, c .before .before .before .before .before .schema-bad .ensures, c .before .before .before .before .before .before .measure .ensures, c .before .before .before .before .before .before .before .nonfinite .ensures, c .before .before .before .before .before .before .before .before .delivered .ensures)
 
 pub guard-spec : {M : Type 1} → statement M
 guard-spec =

@@ -6,7 +6,7 @@ area-requires : tie.Need-area-requires
 area-requires c κs = search needs
 
 returns : tie.Need-returns
-returns c = cc
+returns c = rw (c .area .ensures)
 
 pub not-filled-spec : {M : Type 1} → statement M
 not-filled-spec = tie.close (tie.spec area-requires returns)

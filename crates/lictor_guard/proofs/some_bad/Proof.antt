@@ -6,7 +6,7 @@ all-finite-requires : tie.Need-all-finite-requires
 all-finite-requires c κs = search needs
 
 returns : tie.Need-returns
-returns c = cc
+returns c = rw (c .all-finite .ensures)
 
 pub some-bad-spec : {M : Type 1} → statement M
 some-bad-spec = tie.close (tie.spec all-finite-requires returns)

@@ -8,7 +8,7 @@ wrap-u32-requires c κs = search needs
 
 returns : tie.Need-returns
 unfolding escalateRow
-returns c = cc
+returns c = rw (c .wrap-u32 .ensures)
 
 pub escalate-row-spec : {M : Type 1} → statement M
 escalate-row-spec = tie.close (tie.spec wrap-u32-requires returns)

@@ -11,7 +11,7 @@ count-clean-requires c κs = search needs
 
 returns : tie.Need-returns
 unfolding holdRow
-returns c = cc
+returns c = rw (c .count-clean .ensures, c .before .sat-u16 .ensures)
 
 pub hold-row-spec : {M : Type 1} → statement M
 hold-row-spec = tie.close (tie.spec sat-u16-requires count-clean-requires returns)

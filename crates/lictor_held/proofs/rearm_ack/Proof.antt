@@ -11,7 +11,7 @@ sat-u8-requires c κs = search needs
 
 returns : tie.Need-returns
 unfolding rearmAck
-returns c = cc
+returns c = rw (c .before .sat-u8 .ensures, c .before .before .consume-nonce .ensures)
 
 pub rearm-ack-spec : {M : Type 1} → statement M
 rearm-ack-spec = tie.close (tie.spec consume-nonce-requires sat-u8-requires returns)

@@ -8,7 +8,7 @@ rearm-ack-requires c κs = search needs
 
 returns : tie.Need-returns
 unfolding resumeRow
-returns c = cc
+returns c = rw (c .rearm-ack .ensures)
 
 pub resume-row-spec : {M : Type 1} → statement M
 resume-row-spec = tie.close (tie.spec rearm-ack-requires returns)

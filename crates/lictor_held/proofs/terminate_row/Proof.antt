@@ -8,7 +8,7 @@ consume-nonce-requires c κs = search needs
 
 returns : tie.Need-returns
 unfolding terminateRow
-returns c = cc
+returns c = rw (c .consume-nonce .ensures)
 
 pub terminate-row-spec : {M : Type 1} → statement M
 terminate-row-spec = tie.close (tie.spec consume-nonce-requires returns)

@@ -8,7 +8,7 @@ sat-u32-requires c κs = search needs
 
 returns : tie.Need-returns
 unfolding waitRow
-returns c = cc
+returns c = rw (c .sat-u32 .ensures)
 
 pub wait-row-spec : {M : Type 1} → statement M
 wait-row-spec = tie.close (tie.spec sat-u32-requires returns)

@@ -11,7 +11,7 @@ count-if-requires c κs = search needs
 
 returns : tie.Need-returns
 unfolding countBit
-returns c = cc
+returns c = rw (c .count-if .ensures, c .before .bit-of .ensures)
 
 pub count-bit-spec : {M : Type 1} → statement M
 count-bit-spec = tie.close (tie.spec bit-of-requires count-if-requires returns)

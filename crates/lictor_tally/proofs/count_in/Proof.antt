@@ -9,7 +9,7 @@ count-if-requires : tie.Need-count-if-requires
 count-if-requires c κs = search needs
 
 returns : tie.Need-returns
-returns c = cc
+returns c = rw (c .count-if .ensures, c .before .is-state .ensures)
 
 pub count-in-spec : {M : Type 1} → statement M
 count-in-spec = tie.close (tie.spec is-state-requires count-if-requires returns)

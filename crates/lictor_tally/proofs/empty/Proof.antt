@@ -8,7 +8,7 @@ minus-infinity-requires c κs = search needs
 
 returns : tie.Need-returns
 unfolding emptyTally
-returns c = cc
+returns c = rw (c .minus-infinity .ensures)
 
 pub empty-spec : {M : Type 1} → statement M
 empty-spec = tie.close (tie.spec minus-infinity-requires returns)

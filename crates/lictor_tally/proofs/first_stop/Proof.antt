@@ -9,7 +9,7 @@ first-at-requires : tie.Need-first-at-requires
 first-at-requires c κs = search needs
 
 returns : tie.Need-returns
-returns c = cc
+returns c = rw (c .first-at .ensures, c .before .is-stop .ensures)
 
 pub first-stop-spec : {M : Type 1} → statement M
 first-stop-spec = tie.close (tie.spec is-stop-requires first-at-requires returns)

@@ -9,7 +9,7 @@ state-code-requires-2 : tie.Need-state-code-requires-2
 state-code-requires-2 c κs = search needs
 
 returns : tie.Need-returns
-returns c = cc
+returns c = rw (c .state-code2 .ensures, c .before .state-code .ensures)
 
 pub is-state-spec : {M : Type 1} → statement M
 is-state-spec = tie.close (tie.spec state-code-requires state-code-requires-2 returns)

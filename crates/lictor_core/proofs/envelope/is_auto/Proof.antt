@@ -6,7 +6,7 @@ rearm-code-requires : tie.Need-rearm-code-requires
 rearm-code-requires c κs = search needs
 
 returns : tie.Need-returns
-returns c = cc
+returns c = rw (c .rearm-code .ensures)
 
 pub is-auto-spec : {M : Type 1} → statement M
 is-auto-spec = tie.close (tie.spec rearm-code-requires returns)

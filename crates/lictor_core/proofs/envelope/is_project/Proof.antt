@@ -6,7 +6,7 @@ clamp-code-requires : tie.Need-clamp-code-requires
 clamp-code-requires c κs = search needs
 
 returns : tie.Need-returns
-returns c = cc
+returns c = rw (c .clamp-code .ensures)
 
 pub is-project-spec : {M : Type 1} → statement M
 is-project-spec = tie.close (tie.spec clamp-code-requires returns)

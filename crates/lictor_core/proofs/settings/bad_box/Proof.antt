@@ -8,7 +8,7 @@ crossed-requires c κs = search needs
 
 returns : tie.Need-returns
 unfolding badBox
-returns c = cc
+returns c = rw (c .crossed .ensures)
 
 pub bad-box-spec : {M : Type 1} → statement M
 bad-box-spec = tie.close (tie.spec crossed-requires returns)

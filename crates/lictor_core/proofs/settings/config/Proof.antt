@@ -29,7 +29,7 @@ cast-t13 c = search needs
 
 returns : tie.Need-returns
 unfolding configOf
-returns c = cc
+returns c = rw (c .before .before .before .before .before .before .before .before .rearm-of .ensures, c .before .before .before .before .before .before .before .before .before .clamp-mode-of .ensures, c .before .before .before .before .before .before .before .before .before .before .kind-of .ensures, c .before .before .before .before .before .before .before .before .before .before .before .mode-of .ensures)
 
 pub config-spec : {M : Type 1} → statement M
 config-spec =

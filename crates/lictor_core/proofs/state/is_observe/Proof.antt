@@ -6,7 +6,7 @@ mode-code-requires : tie.Need-mode-code-requires
 mode-code-requires c κs = search needs
 
 returns : tie.Need-returns
-returns c = cc
+returns c = rw (c .mode-code .ensures)
 
 pub is-observe-spec : {M : Type 1} → statement M
 is-observe-spec = tie.close (tie.spec mode-code-requires returns)

@@ -6,7 +6,7 @@ source-code-requires : tie.Need-source-code-requires
 source-code-requires c κs = search needs
 
 returns : tie.Need-returns
-returns c = cc
+returns c = rw (c .source-code .ensures)
 
 pub is-policy-spec : {M : Type 1} → statement M
 is-policy-spec = tie.close (tie.spec source-code-requires returns)

@@ -11,7 +11,7 @@ boxed-requires c κs = search needs
 
 returns : tie.Need-returns
 unfolding boxedAction
-returns c = cc
+returns c = rw (c .boxed .ensures, c .before .before .before .least .ensures)
 
 pub boxed-action-spec : {M : Type 1} → statement M
 boxed-action-spec = tie.close (tie.spec least-requires boxed-requires returns)

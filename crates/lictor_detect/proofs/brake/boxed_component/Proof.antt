@@ -23,7 +23,7 @@ clamp-requires c κs = search needs
 
 returns : tie.Need-returns
 unfolding boxedComponent
-returns c = cc
+returns c = rw (c .clamp .ensures, c .before .live-component .ensures)
 
 pub boxed-component-spec : {M : Type 1} → statement M
 boxed-component-spec =

@@ -9,7 +9,7 @@ scaled-action-requires : tie.Need-scaled-action-requires
 scaled-action-requires c κs = search needs
 
 returns : tie.Need-returns
-returns c = cc
+returns c = rw (c .scaled-action .ensures, c .before .before .brake-factor .ensures)
 
 pub brake-delta-spec : {M : Type 1} → statement M
 brake-delta-spec = tie.close (tie.spec brake-factor-requires scaled-action-requires returns)

@@ -9,7 +9,7 @@ scaled-action-requires : tie.Need-scaled-action-requires
 scaled-action-requires c κs = search needs
 
 returns : tie.Need-returns
-returns c = cc
+returns c = rw (c .scaled-action .ensures, c .before .brake-factor .ensures)
 
 pub brake-velocity-spec : {M : Type 1} → statement M
 brake-velocity-spec = tie.close (tie.spec brake-factor-requires scaled-action-requires returns)

@@ -11,7 +11,7 @@ scaled-requires c κs = search needs
 
 returns : tie.Need-returns
 unfolding scaledAction
-returns c = cc
+returns c = rw (c .scaled .ensures, c .before .least .ensures)
 
 pub scaled-action-spec : {M : Type 1} → statement M
 scaled-action-spec = tie.close (tie.spec least-requires scaled-requires returns)

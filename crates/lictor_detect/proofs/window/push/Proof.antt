@@ -8,7 +8,7 @@ bit-requires c κs = search needs
 
 returns : tie.Need-returns
 unfolding pushOf
-returns c = cc
+returns c = rw (c .before .bit .ensures)
 
 pub push-spec : {M : Type 1} → statement M
 push-spec = tie.close (tie.spec bit-requires returns)

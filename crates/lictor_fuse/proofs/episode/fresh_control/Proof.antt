@@ -8,7 +8,7 @@ no-row-requires c κs = search needs
 
 returns : tie.Need-returns
 unfolding freshControl
-returns c = cc
+returns c = rw (c .no-row .ensures)
 
 pub fresh-control-spec : {M : Type 1} → statement M
 fresh-control-spec = tie.close (tie.spec no-row-requires returns)

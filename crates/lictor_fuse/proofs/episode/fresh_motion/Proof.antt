@@ -8,7 +8,7 @@ no-row-requires c κs = search needs
 
 returns : tie.Need-returns
 unfolding freshMotion
-returns c = cc
+returns c = rw (c .no-row .ensures)
 
 pub fresh-motion-spec : {M : Type 1} → statement M
 fresh-motion-spec = tie.close (tie.spec no-row-requires returns)

@@ -17,7 +17,7 @@ empty-requires c κs = search needs
 
 returns : tie.Need-returns
 unfolding newOf
-returns c = cc
+returns c = rw (c .empty .ensures, c .before .fresh-clock .ensures, c .before .before .fresh-motion .ensures, c .before .before .before .fresh-control .ensures)
 
 pub new-spec : {M : Type 1} → statement M
 new-spec =

@@ -14,7 +14,7 @@ given-requires c κs = search needs
 
 returns : tie.Need-returns
 unfolding acceptedTick
-returns c = cc
+returns c = rw (c .given .ensures, c .before .decide .ensures, c .before .before .config .ensures)
 
 pub accepted-spec : {M : Type 1} → statement M
 accepted-spec = tie.close (tie.spec config-requires decide-requires given-requires returns)

@@ -14,7 +14,7 @@ closed-requires c κs = search needs
 
 returns : tie.Need-returns
 unfolding closeFault
-returns c = cc
+returns c = rw (c .closed .ensures, c .before .no-events .ensures, c .before .before .fault-clock .ensures)
 
 pub close-fault-spec : {M : Type 1} → statement M
 close-fault-spec =

@@ -11,7 +11,7 @@ sat-u32-requires c κs = search needs
 
 returns : tie.Need-returns
 unfolding closedOf
-returns c = cc
+returns c = rw (c .sat-u32 .ensures, c .before .before .«record» .ensures)
 
 pub closed-spec : {M : Type 1} → statement M
 closed-spec = tie.close (tie.spec record-requires sat-u32-requires returns)

@@ -11,7 +11,7 @@ decide-by-requires c κs = search needs
 
 returns : tie.Need-returns
 unfolding decideOf
-returns c = cc
+returns c = rw (c .decide-by .ensures, c .before .guarded .ensures)
 
 pub decide-spec : {M : Type 1} → statement M
 decide-spec = tie.close (tie.spec guarded-requires decide-by-requires returns)

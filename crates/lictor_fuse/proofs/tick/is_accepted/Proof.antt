@@ -6,7 +6,7 @@ check-number-requires : tie.Need-check-number-requires
 check-number-requires c κs = search needs
 
 returns : tie.Need-returns
-returns c = cc
+returns c = rw (c .check-number .ensures)
 
 pub is-accepted-spec : {M : Type 1} → statement M
 is-accepted-spec = tie.close (tie.spec check-number-requires returns)

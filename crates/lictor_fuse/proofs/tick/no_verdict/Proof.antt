@@ -14,7 +14,7 @@ nan-requires c κs = search needs
 
 returns : tie.Need-returns
 unfolding noVerdict
-returns c = cc
+returns c = rw (c .nan .ensures, c .before .disarmed-scores .ensures, c .before .before .no-row .ensures)
 
 pub no-verdict-spec : {M : Type 1} → statement M
 no-verdict-spec =

@@ -8,7 +8,7 @@ no-verdict-requires c κs = search needs
 
 returns : tie.Need-returns
 unfolding refusedTick
-returns c = cc
+returns c = rw (c .no-verdict .ensures)
 
 pub refused-spec : {M : Type 1} → statement M
 refused-spec = tie.close (tie.spec no-verdict-requires returns)

@@ -11,7 +11,7 @@ velocity-requires c κs = search needs
 
 returns : tie.Need-returns
 unfolding ingestOf
-returns c = cc
+returns c = rw (c .velocity .ensures, c .before .taken .ensures)
 
 pub ingest-spec : {M : Type 1} → statement M
 ingest-spec = tie.close (tie.spec taken-requires velocity-requires returns)

@@ -11,7 +11,7 @@ rates-requires c κs = search needs
 
 returns : tie.Need-returns
 unfolding ratesRow
-returns c = cc
+returns c = rw (c .rates .ensures, c .before .least .ensures)
 
 pub moving-spec : {M : Type 1} → statement M
 moving-spec = tie.close (tie.spec least-requires rates-requires returns)

@@ -11,7 +11,7 @@ zeroed-requires c κs = search needs
 
 returns : tie.Need-returns
 unfolding stillRow
-returns c = cc
+returns c = rw (c .zeroed .ensures, c .before .least .ensures)
 
 pub still-spec : {M : Type 1} → statement M
 still-spec = tie.close (tie.spec least-requires zeroed-requires returns)

@@ -14,7 +14,7 @@ copied-requires c κs = search needs
 
 returns : tie.Need-returns
 unfolding takenRow
-returns c = cc
+returns c = rw (c .copied .ensures, c .before .least2 .ensures, c .before .before .least .ensures)
 
 pub taken-spec : {M : Type 1} → statement M
 taken-spec = tie.close (tie.spec least-requires least-requires-2 copied-requires returns)

@@ -8,7 +8,7 @@ taken-requires c κs = search needs
 
 returns : tie.Need-returns
 unfolding withPos
-returns c = cc
+returns c = rw (c .taken .ensures)
 
 pub with-pos-spec : {M : Type 1} → statement M
 with-pos-spec = tie.close (tie.spec taken-requires returns)

@@ -11,7 +11,7 @@ delivered-requires c κs = search needs
 
 returns : tie.Need-returns
 unfolding faultInput
-returns c = cc
+returns c = rw (c .delivered .ensures, c .before .is-project .ensures)
 
 pub fault-input-spec : {M : Type 1} → statement M
 fault-input-spec = tie.close (tie.spec is-project-requires delivered-requires returns)

@@ -11,7 +11,7 @@ norm-requires c κs = search needs
 
 returns : tie.Need-returns
 unfolding slowOf
-returns c = cc
+returns c = rw (c .before .norm .ensures)
 
 pub is-slow-spec : {M : Type 1} → statement M
 is-slow-spec = tie.close (tie.spec slice-aggregate-norm norm-requires returns)

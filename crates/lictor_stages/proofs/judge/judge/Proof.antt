@@ -17,7 +17,7 @@ is-chunk-ok-requires c κs = search needs
 
 returns : tie.Need-returns
 unfolding judgeOf
-returns c = cc
+returns c = rw (c .is-chunk-ok .ensures, c .before .standstill .ensures, c .before .before .score .ensures, c .before .before .before .masked .ensures)
 
 pub judge-spec : {M : Type 1} → statement M
 judge-spec =

@@ -11,7 +11,7 @@ delivered-requires c κs = search needs
 
 returns : tie.Need-returns
 unfolding machineInput
-returns c = cc
+returns c = rw (c .before .delivered .ensures, c .before .before .is-project .ensures)
 
 pub machine-input-spec : {M : Type 1} → statement M
 machine-input-spec = tie.close (tie.spec is-project-requires delivered-requires returns)

@@ -8,7 +8,7 @@ with-brake-requires c κs = search needs
 
 returns : tie.Need-returns
 unfolding maskedOf
-returns c = cc
+returns c = rw (c .with-brake .ensures)
 
 pub masked-spec : {M : Type 1} → statement M
 masked-spec = tie.close (tie.spec with-brake-requires returns)

@@ -17,7 +17,7 @@ hits-requires c κs = search needs
 
 returns : tie.Need-returns
 unfolding scoredOf
-returns c = cc
+returns c = rw (c .before .hits .ensures, c .before .before .push .ensures, c .before .before .before .is-warn .ensures, c .before .before .before .before .trip .ensures)
 
 pub score-spec : {M : Type 1} → statement M
 score-spec =

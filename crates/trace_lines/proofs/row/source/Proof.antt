@@ -9,7 +9,7 @@ number8-requires : tie.Need-number8-requires
 number8-requires c κs = search needs
 
 returns : tie.Need-returns
-returns c = cc
+returns c = rw (c .number8 .ensures, c .before .source-code .ensures)
 
 pub source-spec : {M : Type 1} → statement M
 source-spec = tie.close (tie.spec source-code-requires number8-requires returns)

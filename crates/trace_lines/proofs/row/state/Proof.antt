@@ -9,7 +9,7 @@ number8-requires : tie.Need-number8-requires
 number8-requires c κs = search needs
 
 returns : tie.Need-returns
-returns c = cc
+returns c = rw (c .number8 .ensures, c .before .state-code .ensures)
 
 pub state-spec : {M : Type 1} → statement M
 state-spec = tie.close (tie.spec state-code-requires number8-requires returns)

@@ -9,7 +9,7 @@ number8-requires : tie.Need-number8-requires
 number8-requires c κs = search needs
 
 returns : tie.Need-returns
-returns c = cc
+returns c = rw (c .number8 .ensures, c .before .status-code .ensures)
 
 pub status-spec : {M : Type 1} → statement M
 status-spec = tie.close (tie.spec status-code-requires number8-requires returns)
