@@ -6,7 +6,7 @@
  *   lists   a pointer to n doubles that nothing writes during the call, aligned as a double. It is not null, also where n is 0. Lists may overlap.
  * No function keeps a pointer, allocates, writes elsewhere, blocks or fails; each returns on every input. Two run states may be used by two threads.
  *
- * A flag is 0 for no and anything else for yes; the library gives 0 and 1. Codes:
+ * A flag is 0 for no and 1 for yes. Another number is read to the safe side: feasible and has_ack are then no, every other flag is yes. Codes:
  *   mode 0 Observe, 1 Enforce          kind 0 EePosition, 1 EeDelta, 2 JointPosition, 3 JointVelocity, 4 Other
  *   clamp 0 Off, 1 Project             rearm 0 Auto, 1 AckOnly                        decision 0 Resume, 1 Abort, 2 Retune
  *   state 0 Idle, 1 Armed, 2 Watching, 3 Clamped, 4 Braking, 5 Held, 6 Escalated, 7 Fault, 8 Terminated
@@ -216,7 +216,7 @@ typedef struct {
 
 /* number 0: the tick was made, and verdict is its verdict.
  * number 1 to 4: the settings are refused (1 a code that is not listed, 2 a size, 3 a float that is not finite, 4 a box_lo above its box_hi);
- * nothing happened, the run state is as it was, and verdict is a constant without meaning, whose action must not be used. */
+ * nothing is written to the run state, and verdict is a constant without meaning, whose action must not be used. */
 typedef struct {
     uint8_t number;
     disklorva_verdict verdict;

@@ -1,5 +1,6 @@
--- The limit of demand 3 is met: for all B from 1, all H and E, settings and a list of calls from a reset on whose stop closes with the last tick of the limit.
--- So B + H + E + 1 would be false. (At B = 0 the first tick in Braking ends in Fault.) Proved in proofs/Limit, `limit-met`.
+-- The limit of demand 3 is met: for all B from 1, all H and E, where B + H + E + 2 is at most 4294967295, settings and a list of calls from a reset on whose stop
+-- closes with the last tick of the limit. So B + H + E + 1 would be false. Proved in proofs/Limit, `limit-met`.
+-- (At B = 0 the first tick in Braking ends in Fault. With a larger sum the clock's end comes first, with a fault: specs/ClockEnd.)
 use mathlib.Core.Path.{_≡_}
 use mathlib.Core.Bool.{Bool, true, false}
 use mathlib.Core.List.{List, [], _∷_, _++_}
@@ -22,7 +23,7 @@ use Rattle.claims.specs.Demand3.{Sized, begins, closes, limit, StopsWith
 abbrev pub oneFloat : Float
 oneFloat = fin false 1 (pos 0)
 
--- Enforce, AckOnly, one component, standstill confirmed by one tick below the speed 0; nothing but the limits B, H and E matters besides
+-- Enforce, AckOnly, one component, standstill confirmed by one tick at speed 0; nothing but the limits B, H and E matters besides
 abbrev pub slowSettings : ℕ → ℕ → ℕ → Settings
 slowSettings b h e =
     record {

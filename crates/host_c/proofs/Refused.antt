@@ -1,8 +1,9 @@
 -- A call whose settings are refused.
 use mathlib.Core.Path.{_≡_, refl, _∙_, ap}
-use mathlib.Core.Bool.{Bool, false, cond}
+use mathlib.Core.Bool.{Bool, true, false, cond, not}
 use mathlib.Core.List.{List}
 use Prim.Native.Nat.{ℕ}
+use lib.Dec.{T, eqb}
 use lib.Ieee.{Float}
 use Rattle.lictor_core.specs.declared.envelope.Settings.{Settings}
 use Rattle.lictor_core.specs.declared.fuse.FuseRt.{FuseRt}
@@ -25,3 +26,12 @@ refused-fields before s rt inp out pos vel aux ext chunk bad =
     let e = refused-call s rt inp out pos vel aux ext chunk bad in
     let t = tickOf s rt inp out pos vel aux ext chunk in
     (e .0, ap verdictOut (e .1), ap (λ (n : ℕ). keptOf n before (stateOut (t .rt))) (e .0) ∙ ap (λ (b : Bool). cond b (stateOut (t .rt)) before) bad)
+
+-- a call with another number than 0 gives back the run state that it got, so that nothing has to be stored
+by-test : (b : Bool) (before after : RunState) → T (not b) → cond b after before ≡ before
+by-test true before after other = absurd other
+by-test false before after other = refl
+
+pub nothing-stored : (before : RunState) (t : Ticked) → T (not (eqb (callOf before t .number) 0)) → callOf before t .rt ≡ before
+unfolding callOf keptOf
+nothing-stored before t = by-test (eqb (checkNumber (t .check)) 0) before (stateOut (t .rt))

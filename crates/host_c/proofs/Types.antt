@@ -1,11 +1,12 @@
--- The library's types as a walk takes them (the crate `host`, `Data.antt`), and how the by-value call's result and the answer lie.
+-- The library's types as a walk takes them (the crate `host`, `Data.antt`), and how the by-value call's result and the answer lie, and how the result's number is tested.
 --     S, G, I, O   the run state, the settings, a tick's numbers, the outcome.        R, Z     the result of `disklorva_call`, and the answer of `disklorva_tick`
 -- Assumes nothing.
 use mathlib.Core.Path.{refl}
+use lib.Dec.{eqb}
 use mir.Syntax.{w8, tyInt}
 use mir.Val.{vint}
 use denote.Struct.Laws as LL
-use Rattle.host.proofs.Call.{Parts}
+use Rattle.host.proofs.Call.{Parts, Tested}
 use Rattle.host.proofs.Data.{Data, struct, vals}
 use Rattle.host_c.specs.Call.{answerOf}
 use Rattle.host_c.proofs.state.RunState as St
@@ -58,3 +59,6 @@ parts = record {
   st-of = λ r is. LL.owed Ca.the-type Ca′.the-laws r (vals R r) is .1 .0;
   an-of = λ r is. LL.owes An.the-type An′.the-laws (answerOf r) (LL.owed Ca.the-type Ca′.the-laws r (vals R r) is .0, (LL.owed Ca.the-type Ca′.the-laws r (vals R r) is .1 .1 .0, tt));
 }
+
+abbrev pub tested : Tested S R Z parts
+tested = record { is-zero = λ r. eqb (r .number) 0; may = λ r. tt; tests = λ r. refl }

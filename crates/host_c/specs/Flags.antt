@@ -1,10 +1,16 @@
--- A flag as a number: 0 is no, any other number is yes, and a yes is given as 1.
+-- A flag as a number: 0 is no and 1 is yes, and the library gives no other. A number that is neither is read to the safe side:
+-- as a yes where a yes tells a fault or has something checked, as a no where a yes lets something through.
 use mathlib.Core.Bool.{Bool, cond, not}
 use Prim.Native.Nat.{ℕ}
 use lib.Dec.{eqb}
 
+-- any number but 0 is a yes
 unfoldable pub flagOf : ℕ → Bool
 flagOf n = not (eqb n 0)
+
+-- 1 alone is a yes
+unfoldable pub sureOf : ℕ → Bool
+sureOf n = eqb n 1
 
 unfoldable pub flagCode : Bool → ℕ
 flagCode b = cond b 1 0

@@ -15,7 +15,7 @@ use Rattle.host_c.specs.declared.input.Chunk.{Chunk}
 use Rattle.host_c.specs.declared.input.Ack.{Ack}
 use Rattle.host_c.specs.declared.input.Input.{Input}
 use Rattle.host_c.specs.declared.input.Outcome.{Outcome}
-use Rattle.host_c.specs.Flags.{flagOf}
+use Rattle.host_c.specs.Flags.{flagOf, sureOf}
 
 unfoldable pub settingsIn : Settings → FuseSettings
 settingsIn s = record {
@@ -52,11 +52,11 @@ settingsIn s = record {
   calib = record { mask = s .«calib_mask»; tau = s .tau };
 }
 
--- a chunk's head, where its flag is there
+-- a chunk's head, where its flag is not 0: a chunk is checked, and none is not
 unfoldable pub chunkIn : ℕ → Chunk → MaybeChunk
 chunkIn has c = cond (eqb has 0) NoChunk (Delivered (record { seq = c .seq; «t_emit» = c .«t_emit»; horizon = c .horizon; dim = c .dim; «exec_steps» = c .«exec_steps» }))
 
--- an acknowledgement, where its flag is there and its decision is one of the three
+-- an acknowledgement, where its flag is 1 and its decision is one of the three
 unfoldable pub ackGiven : Ack → MaybeAck
 ackGiven a = Given (record { decision = decisionOf (a .decision); «operator_slot» = a .«operator_slot»; nonce = a .nonce; «handoff_seq» = a .«handoff_seq» })
 
@@ -64,7 +64,7 @@ unfoldable pub ackBy : Ack → MaybeAck
 ackBy a = cond (leb 3 (a .decision)) NoAck (ackGiven a)
 
 unfoldable pub ackIn : ℕ → Ack → MaybeAck
-ackIn has a = cond (eqb has 0) NoAck (ackBy a)
+ackIn has a = cond (sureOf has) (ackBy a) NoAck
 
 unfoldable pub inputIn : Input → TickInput
 inputIn i = record {
@@ -81,7 +81,7 @@ unfoldable pub outcomeIn : Outcome → FuseOutcome
 outcomeIn o = record {
   trips = o .trips;
   «clamped_dims» = o .«clamped_dims»;
-  feasible = flagOf (o .feasible);
+  feasible = sureOf (o .feasible);
   margin = o .margin;
   scores = record { z = o .z; s = o .s; valid = o .valid; fired = o .fired };
   policy = o .policy;

@@ -1,7 +1,7 @@
 // What a tick is given, as numbers in the layout of C, and what it means.
-// A flag is 0 or anything else; where it is 0, what stands beside it is not looked at.
+// A flag is 0 or 1, and where it is 0, what stands beside it is not looked at. Another number is read to the safe side: `feasible` and `has_ack` are then no, the others yes.
 ghost use mathlib.Core.Path.{_≡_};
-ghost use Rattle.host_c.specs.Flags.{flagOf};
+ghost use Rattle.host_c.specs.Flags.{flagOf, sureOf};
 ghost use Rattle.host_c.specs.Input.{settingsIn, chunkIn, ackGiven, ackBy, ackIn, inputIn, outcomeIn};
 use lictor_core::ack::MaybeAck;
 use lictor_core::ack::VerifiedAck;
@@ -100,6 +100,12 @@ pub fn flag(n: u8) -> bool
     n != 0
 }
 
+fn sure(n: u8) -> bool
+    ensures { λ r. ⌜ r ≡ sureOf n ⌝ }
+{
+    n == 1
+}
+
 pub fn settings_in(s: Settings) -> lictor_core::envelope::Settings
     ensures { λ r. ⌜ r ≡ settingsIn s ⌝ }
 {
@@ -186,10 +192,11 @@ fn ack_by(a: Ack) -> MaybeAck
 fn ack_in(has: u8, a: Ack) -> MaybeAck
     ensures { λ r. ⌜ r ≡ ackIn has a ⌝ }
 {
-    if has == 0 {
-        return MaybeAck::NoAck;
+    let given = sure(has);
+    if given {
+        return ack_by(a);
     }
-    ack_by(a)
+    MaybeAck::NoAck
 }
 
 pub fn input_in(i: Input) -> TickInput
@@ -218,7 +225,7 @@ pub fn outcome_in(o: Outcome) -> lictor_core::outcome::Outcome
     let z = o.z;
     let policy = o.policy;
     let clamped = o.clamped;
-    let feasible = flag(o.feasible);
+    let feasible = sure(o.feasible);
     let scores = Scores {
         z,
         s: o.s,

@@ -120,7 +120,7 @@ pub extern "C" fn disklorva_call(
     packed(rt, t)
 }
 
-// One tick of the lent run state. Where the settings are refused, the answer has the number of the cause and no verdict, and every field of the run state is as it was.
+// One tick of the lent run state. Where the settings are refused, the answer has the number of the cause and no verdict, and nothing is written: not even the bytes between the fields change.
 #[no_mangle]
 pub extern "C" fn disklorva_tick(
     rt: &mut RunState,
@@ -138,7 +138,9 @@ pub extern "C" fn disklorva_tick(
         × (isAccepted (checkOf (settingsIn s)) ≡ false → (r .number ≡ checkNumber (checkOf (settingsIn s))) × (r .verdict ≡ verdictOut noVerdict) × (now (rt .exit) ≡ now (rt .entry))) ⌝ }
 {
     let t = disklorva_call(s, *rt, inp, out, pos, vel, aux, ext, chunk);
-    *rt = t.rt;
+    if t.number == 0 {
+        *rt = t.rt;
+    }
     Answer {
         number: t.number,
         verdict: t.verdict,

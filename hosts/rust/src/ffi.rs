@@ -90,7 +90,7 @@ record! {
 }
 
 record! {
-    /// The numbers of a tick; a flag is 0 for no and anything else for yes.
+    /// The numbers of a tick; a flag is 0 for no and 1 for yes.
     Input {
         t: u32,
         idx: u16,

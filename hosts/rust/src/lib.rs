@@ -116,7 +116,7 @@ pub fn reset(state: &mut RunState) {
     unsafe { ffi::disklorva_reset(state) }
 }
 
-/// One tick of a lent run state. Where the settings are refused, the run state is as it was.
+/// One tick of a lent run state. Where the settings are refused, nothing is written.
 pub fn tick_lent(state: &mut RunState, settings: &Settings, input: &Input, outcome: &Outcome, lists: &Lists) -> Answer {
     let Lists { pos, vel, aux, ext, chunk } = *lists;
     // SAFETY: a `&mut` is valid and not shared, so no list lies in it; slices are valid for their lengths.

@@ -108,16 +108,84 @@ fn settings_are_refused_by_their_number() {
     assert!(Fuse::new(Settings { tau: f64::INFINITY, ..settings() }).is_ok());
 }
 
-/// A call that is refused leaves any run state as it was.
+/// Memory for a run state of which every byte can be looked at, those between the fields too.
+#[derive(Clone, Copy, PartialEq)]
+#[repr(C, align(8))]
+struct Memory([u8; size_of::<RunState>()]);
+
+impl Memory {
+    fn lend(&mut self) -> &mut RunState {
+        // SAFETY: of the size and alignment of a run state, and every pattern of bytes is one.
+        unsafe { &mut *(&raw mut self.0).cast() }
+    }
+}
+
+/// A call that is refused writes nothing: no byte of the lent memory changes.
 #[test]
-fn refused_call_changes_nothing() {
+fn refused_call_changes_no_byte() {
     let mut numbers = Numbers(1);
     for _ in 0..1000 {
-        let (before, input, outcome) = (numbers.any::<RunState>(), numbers.any(), numbers.any());
-        let mut state = before;
-        let answer = tick_lent(&mut state, &Settings { dim: 9, ..settings() }, &input, &outcome, &Lists::default());
+        let before = Memory(std::array::from_fn(|_| numbers.next() as u8));
+        let (input, outcome) = (numbers.any(), numbers.any());
+        let mut memory = before;
+        let answer = tick_lent(memory.lend(), &Settings { dim: 9, ..settings() }, &input, &outcome, &Lists::default());
         assert_eq!(answer.number, 2);
-        assert_eq!(fields(&state), fields(&before));
+        assert!(memory == before);
+    }
+}
+
+extern "C" {
+    fn mmap(at: *mut u8, bytes: usize, access: i32, kind: i32, file: i32, offset: i64) -> *mut u8;
+    fn mprotect(at: *mut u8, bytes: usize, access: i32) -> i32;
+}
+
+/// Nor does it store a byte anew: a page that may be read alone serves it. A store would end the test with a signal.
+#[test]
+fn refused_call_stores_nothing() {
+    let none: [f64; 0] = [];
+    let list = none.as_ptr();
+    let bad = Settings { dim: 9, ..settings() };
+    // SAFETY: a fresh page of zeros (private, of no file), larger than a run state; it is lent to nobody else.
+    let answer = unsafe {
+        let page = mmap(std::ptr::null_mut(), 4096, 3, 0x22, -1, 0);
+        assert_eq!(mprotect(page, 4096, 1), 0);
+        let (input, outcome) = (Input::default(), Outcome::default());
+        ffi::disklorva_tick(page.cast(), bad, input, outcome, list, 0, list, 0, list, 0, list, 0, list, 0)
+    };
+    assert_eq!(answer.number, 2);
+}
+
+/// A flag that is neither 0 nor 1 is read to the safe side.
+#[test]
+fn odd_flags_are_safe() {
+    let input = Input {
+        has_vel: 1,
+        has_chunk: 1,
+        chunk: Chunk { horizon: 1, dim: 1, exec_steps: 1, ..Chunk::default() },
+        ack: Ack { nonce: 1, ..Ack::default() },
+        ..Input::default()
+    };
+    let lists = Lists { pos: &[0.5], vel: &[0.25], chunk: &[0.25], ..Lists::default() };
+    let seen = |state: u8, input: Input, feasible: u8| {
+        let mut begun = new();
+        reset(&mut begun);
+        begun.control.state = state;
+        let outcome = Outcome { feasible, margin: 1.0, ..Outcome::default() };
+        fields(&tick_by_value(&settings(), &begun, &input, &outcome, &lists))
+    };
+    type Case<'a> = (&'a str, u8, &'a dyn Fn(u8) -> String);
+    let cases: [Case; 5] = [
+        ("feasible", 0, &|n| seen(1, input, n)),
+        ("has_ack", 0, &|n| seen(6, Input { has_ack: n, ..input }, 1)),
+        ("schema_fault", 1, &|n| seen(1, Input { schema_fault: n, ..input }, 1)),
+        ("has_vel", 1, &|n| seen(1, Input { has_vel: n, ..input }, 1)),
+        ("has_chunk", 1, &|n| seen(1, Input { has_chunk: n, ..input }, 1)),
+    ];
+    for (name, safe, tick) in cases {
+        assert_ne!(tick(0), tick(1), "{name}");
+        for odd in 2..=255 {
+            assert_eq!(tick(odd), tick(safe), "{name} {odd}");
+        }
     }
 }
 

@@ -3,12 +3,12 @@ use borrow.Author.Needs.{needs}
 use Rattle.host_c.proofs.input.outcome_in.Statement.{statement}
 use Rattle.host_c.proofs.input.outcome_in.Tie as tie
 
-flag-requires : tie.Need-flag-requires
-flag-requires c κs = search needs
+sure-requires : tie.Need-sure-requires
+sure-requires c κs = search needs
 
 returns : tie.Need-returns
 unfolding outcomeIn
 returns c = cc
 
 pub outcome-in-spec : {M : Type 1} → statement M
-outcome-in-spec = tie.close (tie.spec flag-requires returns)
+outcome-in-spec = tie.close (tie.spec sure-requires returns)
