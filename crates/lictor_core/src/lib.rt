@@ -2,7 +2,7 @@
 // and for the run state of fuse.rs and the tally of tally.rs, which everything above works on.
 pub mod ack; // ack.rs
 pub mod chunk; // chunk.rs: sizes, action kinds, a chunk's head
-pub mod envelope; // envelope.rs: the settings, their check, the configuration
+pub mod envelope; // envelope.rs: the settings, the configuration
 pub mod fuse; // fuse.rs: the run state and a tick's numbers
 pub mod num; // saturating and wrapping counts
 pub mod outcome; // what the detectors found

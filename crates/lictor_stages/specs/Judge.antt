@@ -74,7 +74,7 @@ machineInput cfg inp f = record {
   ack = inp .ack;
 }
 
--- what it is asked in a fault tick: the guard's bits and nothing that the tick brings
+-- what it is asked in a fault tick: the guard's bits, whether a chunk came, and nothing else that the tick brings
 unfoldable pub faultInput : FuseConfig → TickInput → ℕ → FsmInput
 faultInput cfg inp bits = record {
   trips = bits;

@@ -141,7 +141,7 @@ pub fn machine_input(cfg: FuseConfig, inp: TickInput, f: Findings) -> FsmInput
     }
 }
 
-// And in a fault tick: the guard's bits alone, no acknowledgement.
+// And in a fault tick: the guard's bits, and no acknowledgement.
 pub fn fault_input(cfg: FuseConfig, inp: TickInput, bits: u32) -> FsmInput
     ensures { λ r. ⌜ r ≡ faultInput cfg inp bits ⌝ }
 {

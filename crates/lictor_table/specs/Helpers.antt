@@ -19,6 +19,7 @@ use Rattle.lictor_core.specs.Cases.{byAck}
 use Rattle.lictor_core.specs.Codes.{isObserve}
 use Rattle.lictor_core.specs.Masks.{anyOf, workspace, speed, accel, jerk, reach, nonfinite, schema}
 use Rattle.lictor_core.specs.Num.{satUp}
+use Rattle.lictor_core.specs.Rows.{rowTo}
 use Rattle.lictor_table.specs.declared.FsmInput.{FsmInput}
 use Rattle.lictor_table.specs.declared.Turn.{Turn}
 use Rattle.lictor_table.specs.Fields.{withState, withHold, withCleanRun, withNonces}
@@ -61,8 +62,7 @@ consumeNonce a r = withNonces (set (r .«last_nonce») (a .«operator_slot») (a
 
 -- `hold` with its first n components those of the position, each clamped to its box
 unfoldable pub latchedOf : List Float → List Float → List Float → List Float → ℕ → List Float
-latchedOf pos lo hi hold zero = hold
-latchedOf pos lo hi hold (suc k) = set (latchedOf pos lo hi hold k) k (clampOf (getD pos k nan) (getD lo k nan) (getD hi k nan))
+latchedOf pos lo hi hold n = rowTo (λ k. clampOf (getD pos k nan) (getD lo k nan) (getD hi k nan)) hold n
 
 -- the hold latched at the position, in the live components (fsm.rs, latch_hold)
 unfoldable pub latchHold : FuseConfig → List Float → Control → Control
