@@ -47,6 +47,10 @@ resultTy S τc τv ν = tyStruct ν (tcons τc (tcons (S .ty) (tcons τv tnil)))
 abbrev pub answerTy : Ty → Ty → Sym → Ty
 answerTy τc τv ν = tyStruct ν (tcons τc (tcons τv tnil))
 
+-- how the answer is packed, behind the store
+abbrev packs : Code
+packs = seq (assign (place 0 []) (aggregate (copy (place 10 (field 0 ∷ [])) ∷ copy (place 10 (field 2 ∷ [])) ∷ []))) return
+
 abbrev pub answered : (S : Data) (τ2 τ3 τ4 τ5 τ6 τ7 τ8 τ9 τc τv : Ty) (νR νZ : Sym) → Name → Fn
 answered S τ2 τ3 τ4 τ5 τ6 τ7 τ8 τ9 τc τv νR νZ k = record {
   lifetimes = 6;
@@ -56,13 +60,8 @@ answered S τ2 τ3 τ4 τ5 τ6 τ7 τ8 τ9 τc τv νR νZ k = record {
   body =
       seq (assign (place 11 []) (rvOpd (copy (place 1 (deref (S .ty) ∷ [])))))
       (seq (call k (copy (place 2 []) ∷ copy (place 11 []) ∷ copy (place 3 []) ∷ copy (place 4 []) ∷ copy (place 5 []) ∷ copy (place 6 []) ∷ copy (place 7 []) ∷ copy (place 8 []) ∷ copy (place 9 []) ∷ []) (place 10 []))
-      (seq (assign (place 1 (deref (S .ty) ∷ [])) (rvOpd (copy (place 10 (field 1 ∷ [])))))
-      (seq (assign (place 0 []) (aggregate (copy (place 10 (field 0 ∷ [])) ∷ copy (place 10 (field 2 ∷ [])) ∷ []))) return)));
+      (seq (assign (place 1 (deref (S .ty) ∷ [])) (rvOpd (copy (place 10 (field 1 ∷ []))))) packs));
 }
-
--- what `answered` does after its store
-abbrev packs : Code
-packs = seq (assign (place 0 []) (aggregate (copy (place 10 (field 0 ∷ [])) ∷ copy (place 10 (field 2 ∷ [])) ∷ []))) return
 
 abbrev pub taken : (S : Data) (τ2 τ3 τ4 τ5 τ6 τ7 τ8 τ9 τc τv : Ty) (νR νZ : Sym) → Name → Fn
 taken S τ2 τ3 τ4 τ5 τ6 τ7 τ8 τ9 τc τv νR νZ k = record {

@@ -1,4 +1,4 @@
--- The library's types as a walk takes them (the crate `host`, `Data.antt`), and how the by-value call's result and the answer lie, and how the result's number is tested.
+-- The library's types as a walk takes them (the crate `host`, `Data.antt`), how the by-value call's result and the answer lie, and how the result's number is tested.
 --     S, G, I, O   the run state, the settings, a tick's numbers, the outcome.        R, Z     the result of `disklorva_call`, and the answer of `disklorva_tick`
 -- Assumes nothing.
 use mathlib.Core.Path.{refl}
