@@ -1,0 +1,167 @@
+-- Round by round: reading, playing, and what is left over.
+use Prim.Native.Nat.{ℕ, zero, suc, _+_, _-_, _*_, _≤_, _<_}
+use mathlib.Core.Path.{_≡_, refl, sym, ap, ap₂, _∙_}
+use mathlib.Core.List.{List, [], _∷_, _++_, append-nil, append-assoc}
+use mathlib.Core.Bool.{Bool, true, false}
+use native.Mathlib.Omega.{arith}
+use lib.ListN.{length, take, drop, length-append, length-drop, length-take}
+use lib.Seq.{take-add, drop-at, take-at, length-take-le, take-length, take-paste}
+use lib.Ieee.{Float}
+use borrow.Rule.Slice.PartMut.{putMid}
+use Rattle.lictor_fuse.specs.declared.tick.Decided.{Decided}
+use Rattle.judge.specs.declared.Refusal.{Refusal}
+use Rattle.judge.specs.Table.{numberOf}
+use Rattle.judge.proofs.Exactly.{numbers}
+use Rattle.reader.specs.Stream.{wait, End, waiting, halted, Settled, telling, settled}
+use Rattle.reader.specs.Reading.{nextOf}
+use Rattle.reader.proofs.Stream.{joined, settled-still}
+use Rattle.reader.proofs.Reading.{waits-short}
+use Rattle.journal.specs.Journal.{Whole, wholeOf, replayOf}
+use Rattle.journal.proofs.Replay.{replay}
+use Rattle.journal.proofs.Ends.{waits-as}
+use Rattle.render.specs.Text.{Put}
+use Rattle.player.specs.declared.Turn.{Turn}
+use Rattle.console.specs.declared.Round.{Round}
+use Rattle.player.specs.Play.{eventsText, numberAt, Rests, Turned, Fed}
+use Rattle.console.specs.Console.{Taken, Came, Rounded}
+use Rattle.player.proofs.Turns.{telling-telling}
+
+-- ---- memory
+
+-- the first e bytes, without the first u of them
+pub drop-take : (u e : ℕ) (l : List ℕ) → u ≤ e → e ≤ length l → drop u (take e l) ≡ take (e - u) (drop u l)
+drop-take u e l p q =
+    let x : e ≡ u + (e - u) = omega arith in
+    let s : take e l ≡ take u l ++ take (e - u) (drop u l) = ap (λ (k : ℕ). take k l) x ∙ take-add u (e - u) l in
+    ap (drop u) s ∙ drop-at (take u l) (take (e - u) (drop u l)) u (length-take-le u l (omega arith))
+
+-- memory b, of which a read changed the bytes from `have` on
+module _ (b : List ℕ) (have : ℕ) (h : have ≤ length b) (y : List ℕ) (l : length y ≡ length (take (length b - have) (drop have b))) where
+  abbrev pub after-read : List ℕ
+  after-read = putMid have (length b - have) b y
+
+  pub read-long : length after-read ≡ length b
+  read-long =
+      omega (
+        arith,
+        length-append (take have b) (y ++ drop (length b - have) (drop have b)),
+        length-append y (drop (length b - have) (drop have b)),
+        length-take-le have b h,
+        l,
+        length-take (length b - have) (drop have b),
+        length-drop have b,
+        length-drop (length b - have) (drop have b),
+      )
+
+  read-front : take have after-read ≡ take have b
+  read-front = take-at (take have b) (y ++ drop (length b - have) (drop have b)) have (length-take-le have b h)
+
+  pub came-is : (n : ℕ) → n ≤ length b - have → Came (take have b) (have + n) after-read
+  came-is n k =
+      let t : take (have + n) after-read ≡ take have b ++ take n (drop have after-read)
+      = take-add have n after-read ∙ ap (λ (x : List ℕ). x ++ take n (drop have after-read)) read-front in
+      record {
+        came = take n (drop have after-read);
+        within = omega (arith, read-long);
+        count = sym (length-take-le (have + n) after-read (omega (arith, read-long))) ∙ ap length t;
+        bytes = t;
+      }
+
+pub taken-is : (code : ℕ) (w : Whole) (b : List ℕ) (have : ℕ) (out : List ℕ) (r : Turn) (l' : List Float) (b' out' : List ℕ) → have ≤ length b → 19200 ≤ length out
+    → Fed code w (take have b) out r l' out' → take (have - r .at) b' ≡ take (have - r .at) (drop (r .at) b) → Taken code w (take have b) out r l' b' out'
+taken-is code w b have out r l' b' out' h o t m =
+    let k = length-take-le have b h in
+    record { turned = t .turned; further = t .further o; moved = rw k (m ∙ sym (drop-take (r .at) have b (omega (arith, t .turned .within)) h)) }
+
+-- ---- where a journal rests
+
+rest-read : (w : Whole) (s : List ℕ) (x : End Refusal) → settled replayOf w s ≡ record { state = w; rest = s; told = []; end = x } → 0 ≡ numberAt x → replayOf w s ≡ wait
+rest-read w s waiting e z = rw e at (settled-still replayOf replay w s)
+rest-read w s (halted r) e z = absurd (omega (arith, numbers r .0))
+
+-- where it only waits, it waits for the rest of a record
+pub rests-short : (w : Whole) (s : List ℕ) (n : ℕ) → n ≡ 0 → Rests w s n → length s ≤ 257
+unfolding replayOf
+rests-short w s n z q = waits-short (w .state) s (waits-as w (nextOf (w .state) s) (rest-read w s (q .end) (q .rests) (sym z ∙ q .number-is)))
+
+-- ---- one round
+
+-- what is told of some bytes is told first with more behind them
+pub more-bytes : (w : Whole) (s : List ℕ) (told : List Decided) (w' : Whole) (s' t : List ℕ) → settled replayOf w s ≡ telling told (settled replayOf w' s')
+    → settled replayOf w (s ++ t) ≡ telling told (settled replayOf w' (s' ++ t))
+more-bytes w s told w' s' t e =
+    let a = settled replayOf w' s' in
+    joined replayOf replay w s t
+    ∙ rw e (sym (telling-telling told (a .told) (settled replayOf (a .state) (a .rest ++ t))))
+    ∙ ap (telling told) (sym (joined replayOf replay w' s' t))
+
+module _ (code : ℕ) (w : Whole) (s : List ℕ) (out : List ℕ) (t : Turn) (l' : List Float) (buf' out' : List ℕ) (p : Taken code w s out t l' buf' out') (have : ℕ) (k : length s ≡ have) where
+  abbrev left : ℕ
+  left = have - t .at
+
+  pub taken-within : t .at ≤ have
+  taken-within = omega (arith, p .turned .within)
+
+  abbrev v : Whole
+  v = wholeOf (t .reader) (t .run) l'
+
+  text-is : take (t .n) out' ≡ eventsText code (p .turned .told)
+  text-is =
+      let q = p .turned .text in
+      let x = eventsText code (p .turned .told) in
+      ap₂ (λ (k : ℕ) (o : List ℕ). take k o) (q .ends) (q .memory) ∙ take-paste out 0 x (length x) (omega arith) (omega arith) ∙ take-length x
+
+  left-is : take left buf' ≡ drop (t .at) s
+  left-is = rw k at (p .moved)
+
+  -- nothing was read
+  still : (reads refused : ℕ) (more : Bool) → left ≤ length buf' → (more ≡ true → t .ticked ≡ true) → (more ≡ false → Rests v (drop (t .at) s) refused)
+      → Rounded code w s reads (record { reader = t .reader; run = t .run; taken = t .at; have = left; n = t .n; refused = refused; reads = reads; more = more }) l' buf' out'
+  still reads refused more h m q = record {
+    told = p .turned .told;
+    came = [];
+    goes = ap (settled replayOf w) (append-nil s) ∙ p .turned .goes ∙ ap (λ (u : List ℕ). telling (p .turned .told) (settled replayOf v u)) (sym left-is);
+    count = (let c : t .at + left ≡ length (s ++ []) = omega (arith, p .turned .within, length-append s []) in c);
+    within = h;
+    few = omega arith;
+    less = λ y. omega (arith, p .turned .within, p .further (m y));
+    text = text-is;
+    over = λ y. rw left-is (q y);
+  }
+
+  pub round-full : (reads : ℕ) → left ≤ length buf' → t .ticked ≡ true
+      → Rounded code w s reads (record { reader = t .reader; run = t .run; taken = t .at; have = left; n = t .n; refused = 0; reads = reads; more = true }) l' buf' out'
+  round-full reads h y = still reads 0 true h (λ z. y) (λ z. absurd (let o : _≡_ {A = ℕ} 0 1 = cc in omega arith))
+
+  -- it is over with a refusal, or since no read is left
+  pub round-over : (reads : ℕ) → left ≤ length buf' → t .ticked ≡ false
+      → Rounded code w s reads (record { reader = t .reader; run = t .run; taken = t .at; have = left; n = t .n; refused = t .refused; reads = reads; more = false }) l' buf' out'
+  round-over reads h y = still reads (t .refused) false h (λ z. absurd (let o : _≡_ {A = ℕ} 0 1 = cc in omega arith)) (λ z. p .turned .stops y)
+
+  pub left-short : t .ticked ≡ false → t .refused ≡ 0 → left ≤ 257
+  left-short y z = omega (arith, rests-short v (drop (t .at) s) (t .refused) z (p .turned .stops y), length-drop (t .at) s)
+
+  pub round-read : (reads : ℕ) → 0 < reads → t .ticked ≡ false → (e : ℕ) (buf'' : List ℕ) → length buf'' ≡ 65536 → Came (take left buf') e buf'' → (more : Bool) → (more ≡ false → e ≤ left)
+      → Rounded code w s reads (record { reader = t .reader; run = t .run; taken = t .at; have = e; n = t .n; refused = t .refused; reads = reads - 1; more = more }) l' buf'' out'
+  round-read reads o y e buf'' b c more m =
+      let d : take left buf' ++ c .came ≡ drop (t .at) s ++ c .came = ap (λ (u : List ℕ). u ++ c .came) left-is in
+      record {
+        told = p .turned .told;
+        came = c .came;
+        goes =
+            more-bytes w s (p .turned .told) v (drop (t .at) s) (c .came) (p .turned .goes)
+            ∙ ap (λ (u : List ℕ). telling (p .turned .told) (settled replayOf v u)) (sym (c .bytes ∙ d));
+        count = (let k : t .at + e ≡ length (s ++ c .came) = omega (arith, p .turned .within, length-append s (c .came), length-append (drop (t .at) s) (c .came), length-drop (t .at) s, c .count, ap length d) in k);
+        within = c .within;
+        few = omega (arith, c .within, c .count, length-append (take left buf') (c .came));
+        less = λ z. omega (arith, c .within);
+        text = text-is;
+        over = λ z. rw (none-came z) (p .turned .stops y);
+      }
+    where
+      none-came : more ≡ false → take e buf'' ≡ drop (t .at) s
+      none-came z = c .bytes ∙ ap (λ (u : List ℕ). u ++ c .came) left-is ∙ nothing (c .came) (omega (arith, m z, c .count, ap length left-is, length-append (take left buf') (c .came), length-drop (t .at) s))
+        where
+          nothing : (u : List ℕ) → length u ≤ 0 → drop (t .at) s ++ u ≡ drop (t .at) s
+          nothing [] h = append-nil (drop (t .at) s)
+          nothing (x ∷ u) h = absurd (omega arith)

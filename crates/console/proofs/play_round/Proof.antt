@@ -1,0 +1,79 @@
+use mathlib.Core.Path.{sym, _∙_}
+use native.Mathlib.Omega.{arith}
+use lib.Seq.{length-take-le}
+use borrow.Author.Tests.{ltb-false}
+use Rattle.console.proofs.Rounds.{taken-within, round-full, round-over, left-short, round-read}
+use borrow.Author.Needs.{needs}
+use Rattle.console.proofs.play_round.Statement.{statement}
+use Rattle.console.proofs.play_round.Tie as tie
+
+take-in-requires : tie.Need-take-in-requires
+take-in-requires c κs = search needs
+
+sub-left : tie.Need-sub-left
+sub-left c = taken-within _ _ _ _ _ _ _ _ (c .before .before .before .before .before .before .take-in .ensures) _ (length-take-le _ _ (c .before .before .before .before .before .before .before .before .before .before .before .before .pre .0))
+
+same-length : tie.Need-same-length
+same-length c = search needs
+
+same-length-2 : tie.Need-same-length-2
+same-length-2 c = search needs
+
+returns : tie.Need-returns
+returns c = round-full _ _ _ _ _ _ _ _ (c .before .before .before .before .before .before .before .take-in .ensures) _ (length-take-le _ _ (c .before .before .before .before .before .before .before .before .before .before .before .before .before .pre .0)) _ (omega (arith, taken-within _ _ _ _ _ _ _ _ (c .before .before .before .before .before .before .before .take-in .ensures) _ (length-take-le _ _ (c .before .before .before .before .before .before .before .before .before .before .before .before .before .pre .0)), c .before .before .before .before .before .before .before .before .before .before .before .before .before .pre .0, c .before .before .before .before .before .before .before .take-in .kept .1 .1 .1 .1 .0)) (c .if1 .taken)
+
+same-length-3 : tie.Need-same-length-3
+same-length-3 c = search needs
+
+same-length-4 : tie.Need-same-length-4
+same-length-4 c = search needs
+
+returns-2 : tie.Need-returns-2
+returns-2 c = round-over _ _ _ _ _ _ _ _ (c .before .before .before .before .before .before .before .before .take-in .ensures) _ (length-take-le _ _ (c .before .before .before .before .before .before .before .before .before .before .before .before .before .before .pre .0)) _ (omega (arith, taken-within _ _ _ _ _ _ _ _ (c .before .before .before .before .before .before .before .before .take-in .ensures) _ (length-take-le _ _ (c .before .before .before .before .before .before .before .before .before .before .before .before .before .before .pre .0)), c .before .before .before .before .before .before .before .before .before .before .before .before .before .before .pre .0, c .before .before .before .before .before .before .before .before .take-in .kept .1 .1 .1 .1 .0)) (c .before .if1 .left)
+
+same-length-5 : tie.Need-same-length-5
+same-length-5 c = search needs
+
+same-length-6 : tie.Need-same-length-6
+same-length-6 c = search needs
+
+returns-3 : tie.Need-returns-3
+returns-3 c = round-over _ _ _ _ _ _ _ _ (c .before .before .before .before .before .before .before .before .before .take-in .ensures) _ (length-take-le _ _ (c .before .before .before .before .before .before .before .before .before .before .before .before .before .before .before .pre .0)) _ (omega (arith, taken-within _ _ _ _ _ _ _ _ (c .before .before .before .before .before .before .before .before .before .take-in .ensures) _ (length-take-le _ _ (c .before .before .before .before .before .before .before .before .before .before .before .before .before .before .before .pre .0)), c .before .before .before .before .before .before .before .before .before .before .before .before .before .before .before .pre .0, c .before .before .before .before .before .before .before .before .before .take-in .kept .1 .1 .1 .1 .0)) (c .before .before .if1 .left)
+
+read-more-requires : tie.Need-read-more-requires
+read-more-requires c κs = omega (arith, left-short _ _ _ _ _ _ _ _ (c .before .before .before .before .before .before .before .before .before .before .take-in .ensures) _ (length-take-le _ _ (c .before .before .before .before .before .before .before .before .before .before .before .before .before .before .before .before .pre .0)) (c .before .before .before .if1 .left) (c .before .before .if2 .left), c .before .before .before .before .before .before .before .before .before .before .before .before .before .before .before .before .pre .1, c .before .before .before .before .before .before .before .before .before .before .take-in .kept .1 .1 .1 .1 .0)
+
+sub-t25 : tie.Need-sub-t25
+sub-t25 c = search needs
+
+same-length-7 : tie.Need-same-length-7
+same-length-7 c = search needs
+
+same-length-8 : tie.Need-same-length-8
+same-length-8 c = search needs
+
+returns-4 : tie.Need-returns-4
+returns-4 c =
+    let b = c .before .before .read-more .kept .0 ∙ c .before .before .before .before .before .before .before .before .before .before .before .before .before .take-in .kept .1 .1 .1 .1 .0 ∙ sym (c .before .before .before .before .before .before .before .before .before .before .before .before .before .before .before .before .before .before .before .pre .1) in
+    round-read _ _ _ _ _ _ _ _ (c .before .before .before .before .before .before .before .before .before .before .before .before .before .take-in .ensures) _ (length-take-le _ _ (c .before .before .before .before .before .before .before .before .before .before .before .before .before .before .before .before .before .before .before .pre .0)) _ (omega (arith, c .before .before .before .before .if3 .left)) (c .before .before .before .before .before .before .if1 .left) _ _ b (c .before .before .read-more .ensures) _ (λ y. ltb-false _ _ y)
+
+pub play-round-spec : {M : Type 1} → statement M
+play-round-spec =
+    tie.close
+    (tie.spec
+    take-in-requires
+    sub-left
+    same-length
+    same-length-2
+    returns
+    same-length-3
+    same-length-4
+    returns-2
+    same-length-5
+    same-length-6
+    returns-3
+    read-more-requires
+    sub-t25
+    same-length-7
+    same-length-8
+    returns-4)

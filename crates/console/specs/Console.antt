@@ -1,0 +1,88 @@
+-- What a program prints for a journal, and what a journal that is read in parts is played to.
+use mathlib.Core.Bool.{true, false, cond}
+use mathlib.Core.List.{List, _++_}
+use mathlib.Core.Path.{_≡_}
+use Prim.Native.Nat.{ℕ, _+_, _-_, _*_, _≤_, _<_}
+use lib.Dec.{eqb}
+use lib.Ieee.{Float}
+use lib.ListN.{length, take, drop}
+use Rattle.lictor_core.specs.declared.tally.Tally.{Tally}
+use Rattle.lictor_fuse.specs.declared.tick.Decided.{Decided}
+use Rattle.judge.specs.declared.Refusal.the-variants.{CutBody}
+use Rattle.judge.specs.Table.{numberOf}
+use Rattle.reader.specs.Stream.{telling, settled}
+use Rattle.journal.specs.declared.Run.{Run}
+use Rattle.journal.specs.Journal.{Whole, wholeOf, replayOf, Ending, ended, refused, journalOf}
+use Rattle.report.specs.Lines.{endText, refusedText}
+use Rattle.player.specs.declared.Turn.{Turn}
+use Rattle.player.specs.Play.{eventsText, Rests, Turned}
+use Rattle.console.specs.declared.Round.{Round}
+use Rattle.console.specs.declared.Ended.{Ended}
+
+-- ---- the text of a journal (01-scope.md, Journal, the program `fuse`)
+
+-- its last line: `end`, or `refused` with the number and the place
+unfoldable pub lastText : Tally → Ending → List ℕ
+lastText t ended = endText t
+lastText t (refused r p) = refusedText (numberOf r) p
+
+-- all that a program prints for a journal
+unfoldable pub textOf : ℕ → List ℕ → List ℕ
+textOf code s = let m = journalOf s in eventsText code (m .events) ++ lastText (m .left .run .rt .tally) (m .ending)
+
+-- ---- part by part
+
+-- the bytes s were fed, and those that were not taken stand at the front of memory then
+pub record Taken (code : ℕ) (w : Whole) (s : List ℕ) (out : List ℕ) (r : Turn) (l' : List Float) (buf' out' : List ℕ) : Type 0 where
+  pub turned : Turned code w s 0 out 0 r l' out'
+  pub further : r .ticked ≡ true → 0 < r .at
+  pub moved : take (length s - r .at) buf' ≡ drop (r .at) s
+
+-- the bytes `came` were read, and the first r bytes of memory are s and these
+pub record Came (s : List ℕ) (r : ℕ) (buf' : List ℕ) : Type 0 where
+  pub came : List ℕ
+  pub within : r ≤ length buf'
+  pub count : r ≡ length (s ++ came)
+  pub bytes : take r buf' ≡ s ++ came
+
+-- one round, with bytes s at hand: the bytes `came` were read, the ticks `told` were played, and their text stands at the front of memory. Where it is over, the journal rests.
+pub record Rounded (code : ℕ) (w : Whole) (s : List ℕ) (reads : ℕ) (r : Round) (l' : List Float) (buf' out' : List ℕ) : Type 0 where
+  pub told : List Decided
+  pub came : List ℕ
+  pub goes : settled replayOf w (s ++ came) ≡ telling told (settled replayOf (wholeOf (r .reader) (r .run) l') (take (r .have) buf'))
+  pub count : r .taken + r .have ≡ length (s ++ came)
+  pub within : r .have ≤ length buf'
+  pub few : length came + r .reads * 65536 ≤ reads * 65536
+  pub less : r .more ≡ true → r .have + r .reads * 65537 < length s + reads * 65537
+  pub text : take (r .n) out' ≡ eventsText code told
+  pub over : r .more ≡ false → Rests (wholeOf (r .reader) (r .run) l') (take (r .have) buf') (r .refused)
+
+-- ---- the whole
+
+unfoldable pub endedOf : Run → ℕ → ℕ → ℕ → Ended
+endedOf run number have place = record {
+  run = run;
+  place = place;
+  refused = cond (eqb number 0) (cond (eqb have 0) 0 (numberOf CutBody)) number;
+}
+
+-- an ending as numbers: 0, or that of the refusal; and the place of the record that was refused, or the number of bytes
+unfoldable pub endNumber : Ending → ℕ
+endNumber ended = 0
+endNumber (refused r p) = numberOf r
+
+unfoldable pub endPlace : List ℕ → Ending → ℕ
+endPlace s ended = length s
+endPlace s (refused r p) = p
+
+-- The answer is how some journal ends, and what it leaves. The proof takes for it the bytes that the reads brought; the promise cannot name them, since that of the
+-- operating system's read says nothing of the bytes.
+pub record Ran (r : Ended) : Type 0 where
+  pub journal : List ℕ
+  pub refused-is : r .refused ≡ endNumber (journalOf journal .ending)
+  pub place-is : r .place ≡ endPlace journal (journalOf journal .ending)
+  pub run-is : r .run ≡ journalOf journal .left .run
+
+-- the last line
+unfoldable pub lastOf : Ended → List ℕ
+lastOf r = cond (eqb (r .refused) 0) (endText (r .run .rt .tally)) (refusedText (r .refused) (r .place))
