@@ -1,4 +1,4 @@
--- Demand 1: only stated causes turn a record away. What is claimed of every list of bytes.
+-- Demand 1 (00-demands.md; 01-scope.md, Journal): only stated causes turn a record away. What is claimed of every list of bytes.
 use mathlib.Core.List.{List}
 use mathlib.Core.Path.{_≡_}
 use Prim.Native.Nat.{ℕ, _+_, _≤_, _<_}

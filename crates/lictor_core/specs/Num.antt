@@ -1,4 +1,4 @@
--- Counts of a given width.
+-- Counts of a given width: saturating_add and wrapping_add of the Rust.
 use Prim.Native.Nat.{ℕ, _+_, _-_, _%_, _^_, min}
 
 -- one more, up to the largest number of k bits (saturating_add)

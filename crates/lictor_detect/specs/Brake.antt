@@ -33,9 +33,11 @@ scaledComponent row k live c = cond (ltb c live) (mul binary64 (getD row c nan) 
 unfoldable pub scaledRow : List Float → Float → ℕ → ℕ → List Float
 scaledRow row k live n = rowTo (scaledComponent row k live) (zeros 8) n
 
+-- a row clamped to the box, over the live components (brake.rs)
 unfoldable pub boxedAction : FuseConfig → List Float → List Float
 boxedAction cfg row = boxedRow row (cfg .«box_lo») (cfg .«box_hi») (cfg .«pos_dim») (min (cfg .dim) 8)
 
+-- the velocity times a factor, over the live components (brake.rs)
 unfoldable pub scaledAction : FuseConfig → List Float → Float → List Float
 scaledAction cfg vel k = scaledRow vel k (cfg .«pos_dim») (min (cfg .dim) 8)
 

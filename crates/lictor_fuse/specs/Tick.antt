@@ -60,6 +60,7 @@ closedOf control m k tally v ev = record {
 
 -- ---- a clean tick
 
+-- the end of a clean tick: clock, chunk counts, verdict and events recorded
 unfoldable pub closeClean : FuseConfig → FuseRt → TickInput → Outcome → Motion → Findings → Turn → SafetyVerdict → Decided
 closeClean cfg rt inp out m f turn v =
     closedOf (turn .rt) m (cleanClock (rt .clock) inp (f .«chunk_ok»)) (chunkTally (deliveredOf (inp .chunk)) (rt .tally) (f .trips)) v
@@ -77,6 +78,7 @@ cleanTick cfg rt inp out pos vel =
 
 -- ---- a fault tick: it takes t and, if it is fit, the position; nothing of the outcome, the acknowledgement, the chunk or the velocity
 
+-- the end of a fault tick: t alone moves the clock, and no event is recorded
 unfoldable pub closeFault : FuseRt → TickInput → Motion → Turn → SafetyVerdict → Decided
 closeFault rt inp m turn v = closedOf (turn .rt) m (faultClock (rt .clock) (inp .t)) (rt .tally) v noEvents
 

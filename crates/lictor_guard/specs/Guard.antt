@@ -29,6 +29,7 @@ nonFinite hasVel hasChunk pos vel aux ext chunk =
     || (not (allFinite ext)
     || (hasChunk && not (allFinite chunk)))))
 
+-- how many values each list of the tick has
 unfoldable pub lengthsOf : List Float → List Float → List Float → List Float → List Float → Lengths
 lengthsOf pos vel aux ext chunk = record { pos = length pos; vel = length vel; aux = length aux; ext = length ext; chunk = length chunk }
 
@@ -57,6 +58,7 @@ placeBad h next t idx =
     || (ltb t (h .«t_emit»)
     || not (eqb idx (t - h .«t_emit»)))
 
+-- a chunk whose sizes or whose place do not fit
 unfoldable pub headBad : FuseConfig → ℕ → ℕ → ℕ → ℕ → ChunkHead → Bool
 headBad cfg next t idx n h = sizesBad cfg h n || placeBad h next t idx
 
@@ -71,6 +73,7 @@ clockBad seq last t missed = cond (eqb seq 0) (not (eqb t 0)) (not (eqb (last + 
 unfoldable pub schemaBad : FuseConfig → Clock → TickInput → Lengths → Bool
 schemaBad cfg k inp l = shapeBad cfg inp l || (deliveryBad cfg k inp (l .chunk) || clockBad (k .seq) (k .«last_t») (inp .t) (inp .«missed_ticks»))
 
+-- the bit where the test holds, else none
 unfoldable pub bitIf : Bool → ℕ → ℕ
 bitIf t bit = cond t bit 0
 

@@ -22,12 +22,14 @@ takenRow s old n = rowTo (placeOf s) old (min (min n 8) (length s))
 unfoldable pub stepRate : List Float → List Float → Float → ℕ → Float
 stepRate p q inv c = mul binary64 (sub binary64 (getD p c nan) (getD q c nan)) inv
 
+-- the live components by their steps, the others as they were (fuse.rs, ingest)
 unfoldable pub ratesRow : FuseConfig → List Float → List Float → List Float → List Float
 ratesRow cfg p q old = rowTo (stepRate p q (cfg .«inv_dt»)) old (min (cfg .«pos_dim») 8)
 
 abbrev pub atRest : ℕ → Float
 atRest c = zeroFloat
 
+-- the live components zero, the others as they were
 unfoldable pub stillRow : FuseConfig → List Float → List Float
 stillRow cfg old = rowTo atRest old (min (cfg .«pos_dim») 8)
 
@@ -49,6 +51,7 @@ ingestOf cfg m hasVel pos vel = record {
 unfoldable pub isFit : FuseConfig → List Float → Bool
 isFit cfg pos = eqb (length pos) (cfg .«pos_dim») && allFinite pos
 
+-- a fault tick takes the position alone (01-scope.md, the fault tick)
 unfoldable pub withPos : FuseConfig → Motion → List Float → Motion
 withPos cfg m pos = record {
   pos = takenRow pos (m .pos) (cfg .«pos_dim»);

@@ -53,6 +53,7 @@ scoredOf cfg sc w = record {
   predictive = leb (cfg .hyst .k) (hitsOf (pushOf w (tripOf (cfg .calib) sc) (cfg .«window_mask»)));
 }
 
+-- all that is found before the state machine runs (01-scope.md, the clean tick)
 unfoldable pub judgeOf : FuseConfig → Bool → Outcome → Window → List Float → Findings
 judgeOf cfg boundary out w vel = record {
   trips = maskedOf (out .trips) (out .feasible) (cfg .«tier0_enabled»);

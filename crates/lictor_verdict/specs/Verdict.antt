@@ -33,6 +33,7 @@ use Rattle.lictor_stages.specs.declared.judge.Findings.{Findings}
 unfoldable pub liveValid : ℕ → ℕ → ℕ
 liveValid mask valid = cond (eqb mask 0) 0 valid
 
+-- the outcome's scores as they came, but for what counts as valid
 unfoldable pub scoresOf : Calibration → Scores → Scores
 scoresOf cal sc = record { z = sc .z; s = sc .s; valid = liveValid (cal .mask) (sc .valid); fired = sc .fired }
 
@@ -40,6 +41,7 @@ scoresOf cal sc = record { z = sc .z; s = sc .s; valid = liveValid (cal .mask) (
 unfoldable pub disarmedScores : Scores
 disarmedScores = record { z = zeros 12; s = inf true; valid = 0; fired = 0 }
 
+-- the components that an action can have
 unfoldable pub actionDim : FuseConfig → ℕ
 actionDim cfg = min (cfg .dim) 8
 

@@ -1,4 +1,4 @@
--- The text of a journal's ticks, and what bytes that are at hand are played to.
+-- The text of a journal's ticks (01-scope.md, Journal, the program `fuse`), and what bytes that are at hand are played to.
 use mathlib.Core.Bool.{Bool, true, false, cond}
 use mathlib.Core.List.{List, [], _∷_, _++_}
 use mathlib.Core.Path.{_≡_}

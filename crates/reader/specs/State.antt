@@ -1,4 +1,4 @@
--- What a reader of a journal holds between records: what waits for the next tick, and the lent memory of the collected values.
+-- What a reader of a journal holds between records (01-scope.md, Journal): what waits for the next tick, and the lent memory of the collected values.
 use mathlib.Core.Bool.{true, false, cond}
 use mathlib.Core.List.{List, [], _∷_}
 use Prim.Native.Nat.{ℕ, _+_, min}

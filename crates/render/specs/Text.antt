@@ -1,4 +1,4 @@
--- The text of a tick, and memory with text put into it.
+-- The text of a tick (01-scope.md, Journal, the program `fuse`), and memory with text put into it.
 use mathlib.Core.Bool.{cond}
 use mathlib.Core.List.{List, [], _∷_, _++_}
 use mathlib.Core.Path.{_≡_}
