@@ -1,6 +1,6 @@
 // A journal on the fuse: its settings, resets and ticks, one after the other, from bytes that come in parts of any sizes.
 ghost use mathlib.Core.Path.{_≡_};
-ghost use Prim.Native.Nat.{_+_, _<_, _≤_, min};
+ghost use Prim.Native.Nat.{_+_, _<_, _≤_};
 ghost use lib.ListN.{length};
 ghost use Rattle.bytes_le.specs.Little.{byteAt};
 ghost use Rattle.records.specs.Kinds.{journalKinds, bodyLen};
@@ -70,19 +70,13 @@ const BASE: [usize; 5] = [0, 512, 528, 544, 560];
 
 const CAPACITY: [usize; 5] = [512, 16, 16, 16, 16];
 
-fn least(a: usize, b: usize) -> usize
-    ensures { λ r. ⌜ r ≡ min a b ⌝ }
-{
-    if a < b { a } else { b }
-}
-
 // The values of a list.
 fn values(seen: Seen, lists: &[f64], c: usize) -> &[f64]
     requires { ⌜ (c < 5) × (length (now lists) ≡ 576) ⌝ }
     ensures { λ r. ⌜ now r ≡ valuesOf seen (now (lists .entry)) c ⌝ }
 {
     let counts = seen.counts;
-    let n = least(counts[c], CAPACITY[c]);
+    let n = lictor_core::num::least(counts[c], CAPACITY[c]);
     let a = BASE[c];
     let e = a + n;
     &lists[a..e]

@@ -134,9 +134,6 @@ isStop s = leb 4 (stateCode s)
 abbrev pub isState : FuseState → FuseState → Bool
 isState q s = eqb (stateCode q) (stateCode s)
 
-abbrev pub isReason : ReasonCode → ReasonCode → Bool
-isReason w v = eqb (reasonCode w) (reasonCode v)
-
 abbrev pub isPolicy : ActionSource → Bool
 isPolicy s = eqb (sourceCode s) 0
 

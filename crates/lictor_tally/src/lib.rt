@@ -33,17 +33,11 @@ pub struct TickEvents {
     pub live_z: u32,
 }
 
-fn minus_infinity() -> f64
-    ensures { λ r. ⌜ r ≡ inf true ⌝ }
-{
-    f64::from_bits(0xfff0_0000_0000_0000)
-}
-
 // Tally::default.
 pub fn empty() -> Tally
     ensures { λ r. ⌜ r ≡ emptyTally ⌝ }
 {
-    let lowest = minus_infinity();
+    let lowest = fmath::minus_infinity();
     let trips_by_bit = [0; 16];
     let fired_by_feat = [0; 12];
     let max_z = [lowest; 12];

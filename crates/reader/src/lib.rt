@@ -2,7 +2,7 @@
 ghost use mathlib.Core.Bool.{Bool, false, cond};
 ghost use mathlib.Core.List.{[]};
 ghost use mathlib.Core.Path.{_≡_};
-ghost use Prim.Native.Nat.{_+_, _<_, _≤_, _^_, min};
+ghost use Prim.Native.Nat.{_+_, _<_, _≤_, _^_};
 ghost use lib.ListN.{length, drop, getD};
 ghost use Rattle.judge.specs.declared.Judged.the-variants as Judged;
 ghost use Rattle.lictor_core.specs.declared.ack.MaybeAck.the-variants as MaybeAck;
@@ -67,12 +67,6 @@ pub struct Progress {
 // Where each list begins in the lent memory.
 const BASE: [usize; 5] = [0, 512, 528, 544, 560];
 
-fn least(a: usize, b: usize) -> usize
-    ensures { λ r. ⌜ r ≡ min a b ⌝ }
-{
-    if a < b { a } else { b }
-}
-
 fn is_cut(r: Refusal) -> bool
     ensures { λ t. ⌜ t ≡ isCut r ⌝ }
 {
@@ -108,7 +102,7 @@ fn look_at(seen: Seen, s: &[u8], at: usize) -> Look
     let k = s[at];
     let a = at + 1;
     let n = records::body_len(k);
-    let e = a + least(n, s.len() - a);
+    let e = a + lictor_core::num::least(n, s.len() - a);
     let b = &s[a..e];
     let j = judge::judge(seen, k, b);
     look_as(k, b, j)

@@ -2,7 +2,7 @@
 -- Numbers and codes are decimal, flags 0 or 1, floats the 16 hexadecimal digits of their bits (every NaN `nan`), lists have commas, an absent mark is `none`.
 use Prim.Native.Nat.{ℕ}
 use mathlib.Core.Bool.{Bool, cond}
-use mathlib.Core.List.{List, [], _∷_, _++_, flatten}
+use mathlib.Core.List.{List, [], _∷_, _++_}
 use lib.ListN.{getD}
 use Rattle.text.specs.Ascii.{ascii}
 use Rattle.text.specs.Number.{decimalOf, floatText}
@@ -193,7 +193,3 @@ traceLines v rt = verdictLines v ++ runLines (rt .control) (rt .motion) (rt .clo
 -- line k, none from the last on
 unfoldable pub traceText : ℕ → SafetyVerdict → FuseRt → List ℕ
 traceText k v rt = getD (traceLines v rt) k []
-
--- all of them
-unfoldable pub traceOf : SafetyVerdict → FuseRt → List ℕ
-traceOf v rt = flatten (traceLines v rt)
