@@ -130,8 +130,8 @@ module _ (code : ℕ) (w : Whole) (s : List ℕ) (out : List ℕ) (t : Turn) (l'
   }
 
   pub round-full : (reads : ℕ) → left ≤ length buf' → t .ticked ≡ true
-      → Rounded code w s reads (record { reader = t .reader; run = t .run; taken = t .at; have = left; n = t .n; refused = 0; reads = reads; more = true }) l' buf' out'
-  round-full reads h y = still reads 0 true h (λ z. y) (λ z. absurd (let o : _≡_ {A = ℕ} 0 1 = cc in omega arith))
+      → Rounded code w s reads (record { reader = t .reader; run = t .run; taken = t .at; have = left; n = t .n; refused = t .refused; reads = reads; more = true }) l' buf' out'
+  round-full reads h y = still reads (t .refused) true h (λ z. y) (λ z. absurd (let o : _≡_ {A = ℕ} 0 1 = cc in omega arith))
 
   -- it is over with a refusal, or since no read is left
   pub round-over : (reads : ℕ) → left ≤ length buf' → t .ticked ≡ false

@@ -1,5 +1,5 @@
 -- What a program prints for a journal, and what a journal that is read in parts is played to.
-use mathlib.Core.Bool.{true, false, cond}
+use mathlib.Core.Bool.{Bool, true, false, cond}
 use mathlib.Core.List.{List, _++_}
 use mathlib.Core.Path.{_≡_}
 use Prim.Native.Nat.{ℕ, _+_, _-_, _*_, _≤_, _<_}
@@ -44,6 +44,10 @@ pub record Came (s : List ℕ) (r : ℕ) (buf' : List ℕ) : Type 0 where
   pub within : r ≤ length buf'
   pub count : r ≡ length (s ++ came)
   pub bytes : take r buf' ≡ s ++ came
+
+-- a round that came to t, with so many bytes at hand and reads left
+unfoldable pub roundOf : Turn → ℕ → ℕ → Bool → Round
+roundOf t have reads more = record { reader = t .reader; run = t .run; taken = t .at; have = have; n = t .n; refused = t .refused; reads = reads; more = more }
 
 -- one round, with bytes s at hand: the bytes `came` were read, the ticks `told` were played, and their text stands at the front of memory. Where it is over, the journal rests.
 pub record Rounded (code : ℕ) (w : Whole) (s : List ℕ) (reads : ℕ) (r : Round) (l' : List Float) (buf' out' : List ℕ) : Type 0 where

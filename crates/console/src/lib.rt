@@ -5,7 +5,7 @@ ghost use lib.ListN.{length, take, drop};
 ghost use Rattle.lictor_core.specs.Initial.{zeros};
 ghost use Rattle.text.specs.Line.{lineOf};
 ghost use Rattle.journal.specs.Journal.{wholeOf};
-ghost use Rattle.console.specs.Console.{Taken, Came, Rounded, endedOf, Ran, lastOf};
+ghost use Rattle.console.specs.Console.{Taken, Came, roundOf, Rounded, endedOf, Ran, lastOf};
 use journal::Run;
 use judge::Refusal;
 use libc::STDIN_FILENO;
@@ -78,6 +78,24 @@ struct Round {
     more: bool,
 }
 
+// A round that came to t, with so many bytes at hand and reads left.
+fn round_of(t: Turn, have: usize, reads: u64, more: bool) -> Round
+    ensures { λ r. ⌜ r ≡ roundOf t have reads more ⌝ }
+{
+    let reader = t.reader;
+    let run = t.run;
+    Round {
+        reader,
+        run,
+        taken: t.at,
+        have,
+        n: t.n,
+        refused: t.refused,
+        reads,
+        more,
+    }
+}
+
 // Plays what is there, and reads once where that was all. Where no read is left, the input counts as ended.
 fn play_round(
     code: u8,
@@ -93,59 +111,18 @@ fn play_round(
     ensures { λ r. ⌜ Rounded code (wholeOf rd run (now (lists .entry))) (take have (now (buf .entry))) reads r (now (lists .exit)) (now (buf .exit)) (now (out .exit)) ⌝ }
 {
     let t = take_in(code, rd, run, lists, buf, have, out);
-    let reader = t.reader;
-    let after = t.run;
-    let taken = t.at;
-    let n = t.n;
-    let refused = t.refused;
-    let left = have - taken;
+    let left = have - t.at;
     if t.ticked {
-        return Round {
-            reader,
-            run: after,
-            taken,
-            have: left,
-            n,
-            refused: 0,
-            reads,
-            more: true,
-        };
+        return round_of(t, left, reads, true);
     }
-    if refused != 0 {
-        return Round {
-            reader,
-            run: after,
-            taken,
-            have: left,
-            n,
-            refused,
-            reads,
-            more: false,
-        };
+    if t.refused != 0 {
+        return round_of(t, left, reads, false);
     }
     if reads == 0 {
-        return Round {
-            reader,
-            run: after,
-            taken,
-            have: left,
-            n,
-            refused,
-            reads,
-            more: false,
-        };
+        return round_of(t, left, reads, false);
     }
     let e = read_more(buf, left);
-    Round {
-        reader,
-        run: after,
-        taken,
-        have: e,
-        n,
-        refused,
-        reads: reads - 1,
-        more: left < e,
-    }
+    round_of(t, e, reads - 1, left < e)
 }
 
 // ---- the whole

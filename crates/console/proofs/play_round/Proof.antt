@@ -2,6 +2,7 @@ use mathlib.Core.Path.{sym, _∙_}
 use native.Mathlib.Omega.{arith}
 use lib.Seq.{length-take-le}
 use borrow.Author.Tests.{ltb-false}
+use Rattle.console.specs.Console.{roundOf}
 use Rattle.console.proofs.Rounds.{taken-within, round-full, round-over, left-short, round-read}
 use borrow.Author.Needs.{needs}
 use Rattle.console.proofs.play_round.Statement.{statement}
@@ -11,7 +12,10 @@ take-in-requires : tie.Need-take-in-requires
 take-in-requires c κs = search needs
 
 sub-left : tie.Need-sub-left
-sub-left c = taken-within _ _ _ _ _ _ _ _ (c .before .before .before .before .before .before .take-in .ensures) _ (length-take-le _ _ (c .before .before .before .before .before .before .before .before .before .before .before .before .pre .0))
+sub-left c = taken-within _ _ _ _ _ _ _ _ (c .before .before .before .before .before .take-in .ensures) _ (length-take-le _ _ (c .before .before .before .before .before .before .before .before .before .before .before .pre .0))
+
+round-of-requires : tie.Need-round-of-requires
+round-of-requires c κs = search needs
 
 same-length : tie.Need-same-length
 same-length c = search needs
@@ -20,7 +24,11 @@ same-length-2 : tie.Need-same-length-2
 same-length-2 c = search needs
 
 returns : tie.Need-returns
-returns c = round-full _ _ _ _ _ _ _ _ (c .before .before .before .before .before .before .before .take-in .ensures) _ (length-take-le _ _ (c .before .before .before .before .before .before .before .before .before .before .before .before .before .pre .0)) _ (omega (arith, taken-within _ _ _ _ _ _ _ _ (c .before .before .before .before .before .before .before .take-in .ensures) _ (length-take-le _ _ (c .before .before .before .before .before .before .before .before .before .before .before .before .before .pre .0)), c .before .before .before .before .before .before .before .before .before .before .before .before .before .pre .0, c .before .before .before .before .before .before .before .take-in .kept .1 .1 .1 .1 .0)) (c .if1 .taken)
+unfolding roundOf
+returns c = rw (c .round-of .ensures) (round-full _ _ _ _ _ _ _ _ (c .before .before .before .before .before .before .before .take-in .ensures) _ (length-take-le _ _ (c .before .before .before .before .before .before .before .before .before .before .before .before .before .pre .0)) _ (omega (arith, taken-within _ _ _ _ _ _ _ _ (c .before .before .before .before .before .before .before .take-in .ensures) _ (length-take-le _ _ (c .before .before .before .before .before .before .before .before .before .before .before .before .before .pre .0)), c .before .before .before .before .before .before .before .before .before .before .before .before .before .pre .0, c .before .before .before .before .before .before .before .take-in .kept .1 .1 .1 .1 .0)) (c .before .if1 .taken))
+
+round-of-requires-2 : tie.Need-round-of-requires-2
+round-of-requires-2 c κs = search needs
 
 same-length-3 : tie.Need-same-length-3
 same-length-3 c = search needs
@@ -29,7 +37,11 @@ same-length-4 : tie.Need-same-length-4
 same-length-4 c = search needs
 
 returns-2 : tie.Need-returns-2
-returns-2 c = round-over _ _ _ _ _ _ _ _ (c .before .before .before .before .before .before .before .before .take-in .ensures) _ (length-take-le _ _ (c .before .before .before .before .before .before .before .before .before .before .before .before .before .before .pre .0)) _ (omega (arith, taken-within _ _ _ _ _ _ _ _ (c .before .before .before .before .before .before .before .before .take-in .ensures) _ (length-take-le _ _ (c .before .before .before .before .before .before .before .before .before .before .before .before .before .before .pre .0)), c .before .before .before .before .before .before .before .before .before .before .before .before .before .before .pre .0, c .before .before .before .before .before .before .before .before .take-in .kept .1 .1 .1 .1 .0)) (c .before .if1 .left)
+unfolding roundOf
+returns-2 c = rw (c .round-of2 .ensures) (round-over _ _ _ _ _ _ _ _ (c .before .before .before .before .before .before .before .before .before .take-in .ensures) _ (length-take-le _ _ (c .before .before .before .before .before .before .before .before .before .before .before .before .before .before .before .pre .0)) _ (omega (arith, taken-within _ _ _ _ _ _ _ _ (c .before .before .before .before .before .before .before .before .before .take-in .ensures) _ (length-take-le _ _ (c .before .before .before .before .before .before .before .before .before .before .before .before .before .before .before .pre .0)), c .before .before .before .before .before .before .before .before .before .before .before .before .before .before .before .pre .0, c .before .before .before .before .before .before .before .before .before .take-in .kept .1 .1 .1 .1 .0)) (c .before .before .before .if1 .left))
+
+round-of-requires-3 : tie.Need-round-of-requires-3
+round-of-requires-3 c κs = search needs
 
 same-length-5 : tie.Need-same-length-5
 same-length-5 c = search needs
@@ -38,24 +50,29 @@ same-length-6 : tie.Need-same-length-6
 same-length-6 c = search needs
 
 returns-3 : tie.Need-returns-3
-returns-3 c = round-over _ _ _ _ _ _ _ _ (c .before .before .before .before .before .before .before .before .before .take-in .ensures) _ (length-take-le _ _ (c .before .before .before .before .before .before .before .before .before .before .before .before .before .before .before .pre .0)) _ (omega (arith, taken-within _ _ _ _ _ _ _ _ (c .before .before .before .before .before .before .before .before .before .take-in .ensures) _ (length-take-le _ _ (c .before .before .before .before .before .before .before .before .before .before .before .before .before .before .before .pre .0)), c .before .before .before .before .before .before .before .before .before .before .before .before .before .before .before .pre .0, c .before .before .before .before .before .before .before .before .before .take-in .kept .1 .1 .1 .1 .0)) (c .before .before .if1 .left)
+unfolding roundOf
+returns-3 c = rw (c .round-of3 .ensures) (round-over _ _ _ _ _ _ _ _ (c .before .before .before .before .before .before .before .before .before .before .take-in .ensures) _ (length-take-le _ _ (c .before .before .before .before .before .before .before .before .before .before .before .before .before .before .before .before .pre .0)) _ (omega (arith, taken-within _ _ _ _ _ _ _ _ (c .before .before .before .before .before .before .before .before .before .before .take-in .ensures) _ (length-take-le _ _ (c .before .before .before .before .before .before .before .before .before .before .before .before .before .before .before .before .pre .0)), c .before .before .before .before .before .before .before .before .before .before .before .before .before .before .before .before .pre .0, c .before .before .before .before .before .before .before .before .before .before .take-in .kept .1 .1 .1 .1 .0)) (c .before .before .before .before .if1 .left))
 
 read-more-requires : tie.Need-read-more-requires
-read-more-requires c κs = omega (arith, left-short _ _ _ _ _ _ _ _ (c .before .before .before .before .before .before .before .before .before .before .take-in .ensures) _ (length-take-le _ _ (c .before .before .before .before .before .before .before .before .before .before .before .before .before .before .before .before .pre .0)) (c .before .before .before .if1 .left) (c .before .before .if2 .left), c .before .before .before .before .before .before .before .before .before .before .before .before .before .before .before .before .pre .1, c .before .before .before .before .before .before .before .before .before .before .take-in .kept .1 .1 .1 .1 .0)
+read-more-requires c κs = omega (arith, left-short _ _ _ _ _ _ _ _ (c .before .before .before .before .before .before .before .before .before .before .take-in .ensures) _ (length-take-le _ _ (c .before .before .before .before .before .before .before .before .before .before .before .before .before .before .before .before .pre .0)) (c .before .before .before .before .if1 .left) (c .before .before .if2 .left), c .before .before .before .before .before .before .before .before .before .before .before .before .before .before .before .before .pre .1, c .before .before .before .before .before .before .before .before .before .before .take-in .kept .1 .1 .1 .1 .0)
 
-sub-t25 : tie.Need-sub-t25
-sub-t25 c = search needs
+sub-round-of : tie.Need-sub-round-of
+sub-round-of c = search needs
+
+round-of-requires-4 : tie.Need-round-of-requires-4
+round-of-requires-4 c κs = search needs
 
 same-length-7 : tie.Need-same-length-7
-same-length-7 c = search needs
+same-length-7 c = c .before .before .before .read-more .kept .0 ∙ c .before .before .before .before .before .before .before .before .before .before .before .before .before .before .take-in .kept .1 .1 .1 .1 .0
 
 same-length-8 : tie.Need-same-length-8
 same-length-8 c = search needs
 
 returns-4 : tie.Need-returns-4
+unfolding roundOf
 returns-4 c =
-    let b = c .before .before .read-more .kept .0 ∙ c .before .before .before .before .before .before .before .before .before .before .before .before .before .take-in .kept .1 .1 .1 .1 .0 ∙ sym (c .before .before .before .before .before .before .before .before .before .before .before .before .before .before .before .before .before .before .before .pre .1) in
-    round-read _ _ _ _ _ _ _ _ (c .before .before .before .before .before .before .before .before .before .before .before .before .before .take-in .ensures) _ (length-take-le _ _ (c .before .before .before .before .before .before .before .before .before .before .before .before .before .before .before .before .before .before .before .pre .0)) _ (omega (arith, c .before .before .before .before .if3 .left)) (c .before .before .before .before .before .before .if1 .left) _ _ b (c .before .before .read-more .ensures) _ (λ y. ltb-false _ _ y)
+    let b = c .before .before .before .read-more .kept .0 ∙ c .before .before .before .before .before .before .before .before .before .before .before .before .before .before .take-in .kept .1 .1 .1 .1 .0 ∙ sym (c .before .before .before .before .before .before .before .before .before .before .before .before .before .before .before .before .before .before .before .before .pre .1) in
+    rw (c .round-of4 .ensures) (round-read _ _ _ _ _ _ _ _ (c .before .before .before .before .before .before .before .before .before .before .before .before .before .before .take-in .ensures) _ (length-take-le _ _ (c .before .before .before .before .before .before .before .before .before .before .before .before .before .before .before .before .before .before .before .before .pre .0)) _ (omega (arith, c .before .before .before .before .before .if3 .left)) (c .before .before .before .before .before .before .before .before .if1 .left) _ _ b (c .before .before .before .read-more .ensures) _ (λ y. ltb-false _ _ y))
 
 pub play-round-spec : {M : Type 1} → statement M
 play-round-spec =
@@ -63,17 +80,21 @@ play-round-spec =
     (tie.spec
     take-in-requires
     sub-left
+    round-of-requires
     same-length
     same-length-2
     returns
+    round-of-requires-2
     same-length-3
     same-length-4
     returns-2
+    round-of-requires-3
     same-length-5
     same-length-6
     returns-3
     read-more-requires
-    sub-t25
+    sub-round-of
+    round-of-requires-4
     same-length-7
     same-length-8
     returns-4)
