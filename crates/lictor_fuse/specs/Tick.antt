@@ -35,7 +35,8 @@ use Rattle.lictor_table.specs.declared.Turn.{Turn}
 use Rattle.lictor_table.specs.Table.{nextOf}
 use Rattle.lictor_tally.specs.declared.TickEvents.{TickEvents}
 use Rattle.lictor_tally.specs.Tally.{recordOf}
-unfoldable pub use Rattle.lictor_steps.specs.Steps.{nextChunk, cleanClock, readyOf, chunkTally, faultClock}
+unfoldable pub use Rattle.lictor_steps.specs.Steps.{readyOf}
+unfoldable pub use Rattle.lictor_closing.specs.Clock.{nextChunk, cleanClock, chunkTally, faultClock}
 use Rattle.lictor_fuse.specs.declared.tick.Decided.{Decided}
 use Rattle.lictor_fuse.specs.declared.tick.Ticked.{Ticked}
 

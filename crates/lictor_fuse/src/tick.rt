@@ -1,9 +1,10 @@
-// One tick: the guard, then a fault tick or a clean tick, stage by stage (fuse.rs, fault_tick and decide).
+// One tick: the guard, what the tick brings to the machine, the machine, and what it comes to (fuse.rs, fault_tick and decide).
 ghost use mathlib.Core.Path.{_≡_};
-ghost use Rattle.lictor_fuse.specs.Tick.{closedOf, closeClean, cleanTick, closeFault, faultTick, decideBy, decideOf, isAccepted, noVerdict, acceptedTick, givenOf, refusedTick, tickBy, tickOf};
+ghost use Rattle.lictor_fuse.specs.Tick.{closedOf, decideBy, decideOf, isAccepted, noVerdict, acceptedTick, givenOf, refusedTick, tickBy, tickOf};
+use lictor_closing::Closing;
+use lictor_closing::close;
 use lictor_core::envelope::FuseConfig;
 use lictor_core::envelope::Settings;
-use lictor_core::fuse::Clock;
 use lictor_core::fuse::Control;
 use lictor_core::fuse::FuseRt;
 use lictor_core::fuse::Motion;
@@ -16,30 +17,15 @@ use lictor_core::settings::check;
 use lictor_core::settings::check_number;
 use lictor_core::settings::config;
 use lictor_core::state::FuseState;
-use lictor_core::tally::Tally;
 use lictor_core::verdict::ActionSource;
 use lictor_core::verdict::MaybeHandoff;
 use lictor_core::verdict::SafetyVerdict;
 use lictor_core::verdict::Status;
 use lictor_core::zero::no_row;
-use lictor_stages::judge::Findings;
-use lictor_steps::acted;
-use lictor_steps::clock_for;
-use lictor_steps::events_for;
-use lictor_steps::fault_clock;
-use lictor_steps::fault_moved;
-use lictor_steps::fault_stepped;
-use lictor_steps::fault_verdict_for;
-use lictor_steps::guarded;
-use lictor_steps::ingested;
-use lictor_steps::judged;
+use lictor_guard::guard;
+use lictor_steps::ask;
 use lictor_steps::stepped;
-use lictor_steps::tally_for;
-use lictor_steps::verdict_for;
-use lictor_table::Turn;
-use lictor_tally::TickEvents;
 use lictor_verdict::verdict::disarmed_scores;
-use lictor_verdict::verdict::no_events;
 
 // The run state after a tick, and its verdict.
 pub struct Decided {
@@ -54,26 +40,21 @@ pub struct Ticked {
     pub verdict: SafetyVerdict,
 }
 
-// ---- the end of every tick
+// ---- one tick
 
 // The verdict is recorded, its action kept as the last command, and the tick counted.
-fn closed(
-    control: Control,
-    motion: Motion,
-    clock: Clock,
-    tally: Tally,
-    v: SafetyVerdict,
-    ev: TickEvents,
-) -> Decided
-    ensures { λ r. ⌜ r ≡ closedOf control motion clock tally v ev ⌝ }
+fn closed(control: Control, motion: Motion, e: Closing) -> Decided
+    ensures { λ r. ⌜ r ≡ closedOf control motion (e .clock) (e .tally) (e .verdict) (e .events) ⌝ }
 {
+    let v = e.verdict;
+    let tally = e.tally;
+    let ev = e.events;
+    let mut k = e.clock;
     let t = lictor_tally::record(tally, v, ev);
     let a = v.action;
     let mut m = motion;
     m.last_cmd = a;
-    let n = sat_u32(clock.seq);
-    let mut k = clock;
-    k.seq = n;
+    k.seq = sat_u32(k.seq);
     let rt = FuseRt {
         control,
         motion: m,
@@ -83,82 +64,7 @@ fn closed(
     Decided { rt, verdict: v }
 }
 
-// ---- a clean tick
-
-fn closed_by(
-    turn: Turn,
-    m: Motion,
-    clock: Clock,
-    tally: Tally,
-    v: SafetyVerdict,
-    ev: TickEvents,
-) -> Decided
-    ensures { λ r. ⌜ r ≡ closedOf (turn .rt) m clock tally v ev ⌝ }
-{
-    let q = turn.rt;
-    closed(q, m, clock, tally, v, ev)
-}
-
-fn close_clean(
-    cfg: FuseConfig,
-    rt: FuseRt,
-    inp: TickInput,
-    out: Outcome,
-    m: Motion,
-    f: Findings,
-    turn: Turn,
-    v: SafetyVerdict,
-) -> Decided
-    ensures { λ r. ⌜ r ≡ closeClean cfg rt inp out m f turn v ⌝ }
-{
-    let clock = clock_for(rt, inp, f);
-    let tally = tally_for(rt, inp, f);
-    let ev = events_for(cfg, rt, out, turn);
-    closed_by(turn, m, clock, tally, v, ev)
-}
-
-fn clean_tick(
-    cfg: FuseConfig,
-    rt: FuseRt,
-    inp: TickInput,
-    out: Outcome,
-    pos: &[f64],
-    vel: &[f64],
-) -> Decided
-    ensures { λ r. ⌜ r ≡ cleanTick cfg rt inp out (now (pos .entry)) (now (vel .entry)) ⌝ }
-{
-    let m = ingested(cfg, rt, inp, pos, vel);
-    let f = judged(cfg, rt, inp, out, m);
-    let turn = stepped(cfg, rt, inp, m, f);
-    let a = acted(cfg, out, m, turn);
-    let v = verdict_for(cfg, rt, inp, out, f, turn, a);
-    close_clean(cfg, rt, inp, out, m, f, turn, v)
-}
-
-// ---- a fault tick
-
-fn close_fault(rt: FuseRt, inp: TickInput, m: Motion, turn: Turn, v: SafetyVerdict) -> Decided
-    ensures { λ r. ⌜ r ≡ closeFault rt inp m turn v ⌝ }
-{
-    let k = rt.clock;
-    let tally = rt.tally;
-    let q = turn.rt;
-    let clock = fault_clock(k, inp.t);
-    let ev = no_events();
-    closed(q, m, clock, tally, v, ev)
-}
-
-fn fault_tick(cfg: FuseConfig, rt: FuseRt, inp: TickInput, bits: u32, pos: &[f64]) -> Decided
-    ensures { λ r. ⌜ r ≡ faultTick cfg rt inp bits (now (pos .entry)) ⌝ }
-{
-    let m = fault_moved(cfg, rt, pos);
-    let turn = fault_stepped(cfg, rt, inp, bits, m);
-    let v = fault_verdict_for(cfg, rt, inp, bits, turn);
-    close_fault(rt, inp, m, turn, v)
-}
-
-// ---- one tick
-
+// The machine's turn on what the tick brings, and what the tick comes to, clean or not.
 fn decide_by(
     cfg: FuseConfig,
     rt: FuseRt,
@@ -170,10 +76,18 @@ fn decide_by(
 ) -> Decided
     ensures { λ r. ⌜ r ≡ decideBy cfg rt inp out bits (now (pos .entry)) (now (vel .entry)) ⌝ }
 {
-    if bits == 0 {
-        return clean_tick(cfg, rt, inp, out, pos, vel);
-    }
-    fault_tick(cfg, rt, inp, bits, pos)
+    let control = rt.control;
+    let before = rt.motion;
+    let k = rt.clock;
+    let tally = rt.tally;
+    let w = control.window;
+    let a = ask(cfg, before, w, inp, out, bits, pos, vel);
+    let m = a.motion;
+    let f = a.findings;
+    let turn = stepped(cfg, control, a);
+    let q = turn.rt;
+    let e = close(cfg, k, control, tally, inp, out, bits, m, f, turn);
+    closed(q, m, e)
 }
 
 // One tick under a configuration: the state goes in, and comes back with the verdict.
@@ -190,7 +104,8 @@ pub fn decide(
 ) -> Decided
     ensures { λ r. ⌜ r ≡ decideOf cfg rt inp out (now (pos .entry)) (now (vel .entry)) (now (aux .entry)) (now (ext .entry)) (now (chunk .entry)) ⌝ }
 {
-    let bits = guarded(cfg, rt, inp, pos, vel, aux, ext, chunk);
+    let k = rt.clock;
+    let bits = guard(cfg, k, inp, pos, vel, aux, ext, chunk);
     decide_by(cfg, rt, inp, out, bits, pos, vel)
 }
 

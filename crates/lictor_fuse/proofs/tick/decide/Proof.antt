@@ -3,15 +3,15 @@ use borrow.Author.Needs.{needs}
 use Rattle.lictor_fuse.proofs.tick.decide.Statement.{statement}
 use Rattle.lictor_fuse.proofs.tick.decide.Tie as tie
 
-guarded-requires : tie.Need-guarded-requires
-guarded-requires c κs = search needs
+guard-requires : tie.Need-guard-requires
+guard-requires c κs = search needs
 
 decide-by-requires : tie.Need-decide-by-requires
 decide-by-requires c κs = search needs
 
 returns : tie.Need-returns
 unfolding decideOf
-returns c = rw (c .decide-by .ensures, c .before .guarded .ensures)
+returns c = rw (c .decide-by .ensures, c .before .guard .ensures)
 
 pub decide-spec : {M : Type 1} → statement M
-decide-spec = tie.close (tie.spec guarded-requires decide-by-requires returns)
+decide-spec = tie.close (tie.spec guard-requires decide-by-requires returns)
