@@ -20,7 +20,8 @@ use Rattle.lictor_stages.specs.Ingest.{takenRow, stepRate, ratesRow, stillRow, 
 use Rattle.lictor_stages.specs.Judge.{withBrake, maskedOf, warnOf, slowOf, standstillOf, chunkOk, scoredOf, judgeOf, machineInput, faultInput}
 use Rattle.lictor_verdict.specs.Act.{statusOf, sourceOf, cutRow, passedOf, insteadOf, enforcedOf, byMode, actOf}
 use Rattle.lictor_verdict.specs.Verdict.{liveValid, scoresOf, disarmedScores, actionDim, enteredOf, handoffOf, hasAck, consumedFlag, verdictOf, faultVerdict, eventsOf, noEvents, rejectedOf}
-use Rattle.lictor_steps.specs.Steps.{nextChunk, cleanClock, readyOf, chunkTally, faultClock}
+use Rattle.lictor_steps.specs.Steps.{readyOf}
+use Rattle.lictor_closing.specs.Clock.{nextChunk, cleanClock, chunkTally, faultClock}
 use Rattle.lictor_fuse.specs.Tick.{closedOf, closeClean, cleanTick, closeFault, faultTick, decideBy, decideOf, noVerdict, refusedTick, givenOf, acceptedTick, tickBy, tickOf}
 use Rattle.text.specs.Commas.{behindCommas, commas, numbersText, floatsText}
 use Rattle.text.specs.Line.{lineOf, putOf, pushOf as pushOf·text}

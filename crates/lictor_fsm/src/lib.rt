@@ -154,11 +154,11 @@ fn by_from(
         FuseState::Escalated => escalated(cfg.hyst.handoff_timeout_ticks, rt, ack),
         FuseState::Held => held(cfg, rt, clean, ack, inp),
         FuseState::Braking => braking(cfg, rt, pos, inp),
-        FuseState::Armed => running(cfg, rt, from, inp),
-        FuseState::Watching => running(cfg, rt, from, inp),
-        FuseState::Clamped => running(cfg, rt, from, inp),
         // No episode: a host error, fail closed.
         FuseState::Idle => fault(cfg, rt, pos, 0, ReasonCode::FaultInternal),
+        FuseState::Armed | FuseState::Watching | FuseState::Clamped => {
+            running(cfg, rt, from, inp)
+        }
     }
 }
 

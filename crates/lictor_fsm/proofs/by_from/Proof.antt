@@ -1,5 +1,6 @@
 use Rattle.lictor_core.proofs.Branch.{states}
 use Rattle.lictor_table.specs.Rows.{byFrom}
+use Rattle.lictor_fsm.proofs.Shared.{by-running}
 use borrow.Author.Needs.{needs}
 use Rattle.lictor_fsm.proofs.by_from.Statement.{statement}
 use Rattle.lictor_fsm.proofs.by_from.Tie as tie
@@ -31,26 +32,11 @@ braking-requires c κs = search needs
 enum-told-6 : tie.Need-enum-told-6
 enum-told-6 c = search needs
 
-running-requires : tie.Need-running-requires
-running-requires c κs = search needs
-
-enum-told-7 : tie.Need-enum-told-7
-enum-told-7 c = search needs
-
-running-requires-2 : tie.Need-running-requires-2
-running-requires-2 c κs = search needs
-
-enum-told-8 : tie.Need-enum-told-8
-enum-told-8 c = search needs
-
-running-requires-3 : tie.Need-running-requires-3
-running-requires-3 c κs = search needs
-
-enum-told-9 : tie.Need-enum-told-9
-enum-told-9 c = search needs
-
 fault-requires : tie.Need-fault-requires
 fault-requires c κs = search needs
+
+running-requires : tie.Need-running-requires
+running-requires c κs = search needs
 
 returns : tie.Need-returns
 unfolding byFrom
@@ -77,16 +63,7 @@ unfolding byFrom
 returns-6 c = search states
 
 returns-7 : tie.Need-returns-7
-unfolding byFrom
-returns-7 c = search states
-
-returns-8 : tie.Need-returns-8
-unfolding byFrom
-returns-8 c = search states
-
-returns-9 : tie.Need-returns-9
-unfolding byFrom
-returns-9 c = search states
+returns-7 c = rw (c .running .ensures) (by-running _ _ _ _ _ _ _ (c .before .match .keys7))
 
 pub by-from-spec : {M : Type 1} → statement M
 by-from-spec =
@@ -101,19 +78,12 @@ by-from-spec =
     enum-told-5
     braking-requires
     enum-told-6
-    running-requires
-    enum-told-7
-    running-requires-2
-    enum-told-8
-    running-requires-3
-    enum-told-9
     fault-requires
+    running-requires
     returns
     returns-2
     returns-3
     returns-4
     returns-5
     returns-6
-    returns-7
-    returns-8
-    returns-9)
+    returns-7)
