@@ -1,4 +1,3 @@
-pub mod Keys
 pub mod Refused
 pub mod Stored
 pub mod Types

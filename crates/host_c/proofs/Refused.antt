@@ -13,10 +13,10 @@ use Rattle.lictor_core.specs.Settings.{checkOf, checkNumber}
 use Rattle.lictor_fuse.specs.declared.tick.Ticked.{Ticked}
 use Rattle.lictor_fuse.specs.Tick.{isAccepted, noVerdict, tickOf}
 use Rattle.host.proofs.Refused.{refused-call}
-use Rattle.host_c.specs.declared.state.RunState.{RunState}
+use Rattle.host_layout.specs.declared.state.RunState.{RunState}
 use Rattle.host_c.specs.Call.{keptOf, callOf}
-use Rattle.host_c.specs.State.{stateOut}
-use Rattle.host_c.specs.Verdict.{verdictOut}
+use Rattle.host_layout.specs.State.{stateOut}
+use Rattle.host_layout.specs.Verdict.{verdictOut}
 
 -- the number of the cause, no verdict, and every field of the run state
 pub refused-fields : (before : RunState) (s : Settings) (rt : FuseRt) (inp : TickInput) (out : Outcome) (pos vel aux ext chunk : List Float) → isAccepted (checkOf s) ≡ false

@@ -9,16 +9,16 @@ use denote.Struct.Laws as LL
 use Rattle.host.proofs.Call.{Parts, Tested}
 use Rattle.host.proofs.Data.{Data, struct, vals}
 use Rattle.host_c.specs.Call.{answerOf}
-use Rattle.host_c.proofs.state.RunState as St
-use Rattle.host_c.proofs.state.RunState.Laws as St′
-use Rattle.host_c.proofs.input.Settings as Se
-use Rattle.host_c.proofs.input.Settings.Laws as Se′
-use Rattle.host_c.proofs.input.Input as In
-use Rattle.host_c.proofs.input.Input.Laws as In′
-use Rattle.host_c.proofs.input.Outcome as Oc
-use Rattle.host_c.proofs.input.Outcome.Laws as Oc′
-use Rattle.host_c.proofs.verdict.Verdict as Ve
-use Rattle.host_c.proofs.verdict.Verdict.Laws as Ve′
+use Rattle.host_layout.proofs.state.RunState as St
+use Rattle.host_layout.proofs.state.RunState.Laws as St′
+use Rattle.host_layout.proofs.input.Settings as Se
+use Rattle.host_layout.proofs.input.Settings.Laws as Se′
+use Rattle.host_layout.proofs.input.Input as In
+use Rattle.host_layout.proofs.input.Input.Laws as In′
+use Rattle.host_layout.proofs.input.Outcome as Oc
+use Rattle.host_layout.proofs.input.Outcome.Laws as Oc′
+use Rattle.host_layout.proofs.verdict.Verdict as Ve
+use Rattle.host_layout.proofs.verdict.Verdict.Laws as Ve′
 use Rattle.host_c.proofs.Called as Ca
 use Rattle.host_c.proofs.Called.Laws as Ca′
 use Rattle.host_c.proofs.Answer as An

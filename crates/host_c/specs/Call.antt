@@ -7,9 +7,9 @@ use Rattle.lictor_core.specs.Settings.{checkNumber}
 use Rattle.lictor_fuse.specs.declared.tick.Ticked.{Ticked}
 use Rattle.host_c.specs.declared.Answer.{Answer}
 use Rattle.host_c.specs.declared.Called.{Called}
-use Rattle.host_c.specs.declared.state.RunState.{RunState}
-use Rattle.host_c.specs.State.{stateIn, stateOut}
-use Rattle.host_c.specs.Verdict.{verdictOut}
+use Rattle.host_layout.specs.declared.state.RunState.{RunState}
+use Rattle.host_layout.specs.State.{stateIn, stateOut}
+use Rattle.host_layout.specs.Verdict.{verdictOut}
 
 -- a refused call keeps every field of the run state, as it was lent
 unfoldable pub keptOf : ℕ → RunState → RunState → RunState

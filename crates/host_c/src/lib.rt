@@ -7,26 +7,22 @@ ghost use Rattle.lictor_core.specs.Initial.{newOf};
 ghost use Rattle.lictor_core.specs.Settings.{checkOf, checkNumber};
 ghost use Rattle.lictor_fuse.specs.Tick.{tickOf, isAccepted, noVerdict};
 ghost use Rattle.host_c.specs.Call.{keptOf, callOf, answerOf, resetRun};
-ghost use Rattle.host_c.specs.Input.{settingsIn, inputIn, outcomeIn};
-ghost use Rattle.host_c.specs.State.{stateIn, stateOut};
-ghost use Rattle.host_c.specs.Verdict.{verdictOut};
-use crate::input::Input;
-use crate::input::Outcome;
-use crate::input::Settings;
-use crate::input::input_in;
-use crate::input::outcome_in;
-use crate::input::settings_in;
-use crate::state::RunState;
-use crate::state::state_in;
-use crate::state::state_out;
-use crate::verdict::Verdict;
-use crate::verdict::verdict_out;
+ghost use Rattle.host_layout.specs.Input.{settingsIn, inputIn, outcomeIn};
+ghost use Rattle.host_layout.specs.State.{stateIn, stateOut};
+ghost use Rattle.host_layout.specs.Verdict.{verdictOut};
+use host_layout::input::Input;
+use host_layout::input::Outcome;
+use host_layout::input::Settings;
+use host_layout::input::input_in;
+use host_layout::input::outcome_in;
+use host_layout::input::settings_in;
+use host_layout::state::RunState;
+use host_layout::state::state_in;
+use host_layout::state::state_out;
+use host_layout::verdict::Verdict;
+use host_layout::verdict::verdict_out;
 use lictor_core::settings::check_number;
 use lictor_fuse::tick::Ticked;
-
-pub mod input; // what a tick is given
-pub mod state; // the run state
-pub mod verdict; // what a tick gives
 
 // What a call answers: 0 and the verdict, or the number of a refusal of the settings.
 #[repr(C)]

@@ -11,14 +11,14 @@ use Rattle.lictor_fuse.specs.Tick.{tickOf, isAccepted, noVerdict}
 use Rattle.host.proofs.Call.{Fs, taken-meets}
 use Rattle.host_c.specs.declared.Answer.{Answer}
 use Rattle.host_c.specs.declared.Called.{Called}
-use Rattle.host_c.specs.declared.input.Input.{Input}
-use Rattle.host_c.specs.declared.input.Outcome.{Outcome}
-use Rattle.host_c.specs.declared.input.Settings.{Settings}
-use Rattle.host_c.specs.declared.state.RunState.{RunState}
+use Rattle.host_layout.specs.declared.input.Input.{Input}
+use Rattle.host_layout.specs.declared.input.Outcome.{Outcome}
+use Rattle.host_layout.specs.declared.input.Settings.{Settings}
+use Rattle.host_layout.specs.declared.state.RunState.{RunState}
 use Rattle.host_c.specs.Call.{callOf, answerOf}
-use Rattle.host_c.specs.Input.{settingsIn, inputIn, outcomeIn}
-use Rattle.host_c.specs.State.{stateIn}
-use Rattle.host_c.specs.Verdict.{verdictOut}
+use Rattle.host_layout.specs.Input.{settingsIn, inputIn, outcomeIn}
+use Rattle.host_layout.specs.State.{stateIn}
+use Rattle.host_layout.specs.Verdict.{verdictOut}
 use Rattle.host_c.proofs.Refused.{refused-fields, nothing-stored}
 use Rattle.host_c.proofs.Types.{S, G, I, O, R, Z, parts, tested}
 use Rattle.host_c.proofs.disklorva_call as core
