@@ -1,3 +1,4 @@
 pub mod Refused
+pub mod Says
 pub mod Stored
 pub mod Types

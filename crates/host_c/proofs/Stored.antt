@@ -16,29 +16,24 @@ use Rattle.lictor_fuse.specs.Tick.{isAccepted, acceptedTick, refusedTick, given
 use Rattle.host_layout.specs.State.{stateIn, stateOut}
 use Rattle.host_layout.specs.Verdict.{verdictOut}
 use Rattle.host_layout.proofs.Stored.{stored-back}
-use Rattle.host_c.specs.declared.Called.{Called}
-use Rattle.host_c.specs.Call.{keptOf, callOf, resetRun}
+use Rattle.host_c.specs.Call.{steppedOf, keptOf, callOf, resetRun}
 
 pub reset-on-stored : (r : FuseRt) → resetRun (stateOut r) ≡ stateOut (resetOf r)
 unfolding resetRun
 reset-on-stored r = ap (λ (z : FuseRt). stateOut (resetOf z)) (stored-back r)
 
--- what a call gives where the state is stored whether or not the settings are accepted
-abbrev pub storedCall : Ticked → Called
-storedCall t = record { number = checkNumber (t .check); rt = stateOut (t .rt); verdict = verdictOut (t .verdict) }
-
 -- by the test of the settings: a refused call keeps what was lent, and so does the fuse's
 by-check : (s : Settings) (r : FuseRt) (inp : TickInput) (out : Outcome) (pos vel aux ext chunk : List Float) (b : Bool) → isAccepted (checkOf s) ≡ b
-    → callOf (stateOut r) (tickOf s r inp out pos vel aux ext chunk) ≡ storedCall (tickOf s r inp out pos vel aux ext chunk)
-unfolding callOf keptOf tickOf tickBy refusedTick acceptedTick givenOf
+    → callOf (stateOut r) (tickOf s r inp out pos vel aux ext chunk) ≡ steppedOf (tickOf s r inp out pos vel aux ext chunk)
+unfolding steppedOf callOf keptOf tickOf tickBy refusedTick acceptedTick givenOf
 by-check s r inp out pos vel aux ext chunk true e =
     let d : tickOf s r inp out pos vel aux ext chunk ≡ acceptedTick s r inp out pos vel aux ext chunk = ap (λ (b : Bool). cond b (acceptedTick s r inp out pos vel aux ext chunk) (refusedTick (checkOf s) r)) e in
-    subst (λ (t : Ticked). callOf (stateOut r) t ≡ storedCall t) (sym d) refl
+    subst (λ (t : Ticked). callOf (stateOut r) t ≡ steppedOf t) (sym d) refl
 by-check s r inp out pos vel aux ext chunk false e =
     let d : tickOf s r inp out pos vel aux ext chunk ≡ refusedTick (checkOf s) r = ap (λ (b : Bool). cond b (acceptedTick s r inp out pos vel aux ext chunk) (refusedTick (checkOf s) r)) e in
-    subst (λ (t : Ticked). callOf (stateOut r) t ≡ storedCall t) (sym d) (λ j. record { number = checkNumber (checkOf s); rt = cond (e j) (stateOut r) (stateOut r); verdict = verdictOut noVerdict })
+    subst (λ (t : Ticked). callOf (stateOut r) t ≡ steppedOf t) (sym d) (λ j. record { number = checkNumber (checkOf s); rt = cond (e j) (stateOut r) (stateOut r); verdict = verdictOut noVerdict })
 
 pub tick-on-stored : (s : Settings) (r : FuseRt) (inp : TickInput) (out : Outcome) (pos vel aux ext chunk : List Float)
-    → callOf (stateOut r) (tickOf s (stateIn (stateOut r)) inp out pos vel aux ext chunk) ≡ storedCall (tickOf s r inp out pos vel aux ext chunk)
+    → callOf (stateOut r) (tickOf s (stateIn (stateOut r)) inp out pos vel aux ext chunk) ≡ steppedOf (tickOf s r inp out pos vel aux ext chunk)
 tick-on-stored s r inp out pos vel aux ext chunk =
     ap (λ (z : FuseRt). callOf (stateOut r) (tickOf s z inp out pos vel aux ext chunk)) (stored-back r) ∙ by-check s r inp out pos vel aux ext chunk (isAccepted (checkOf s)) refl

@@ -11,6 +11,10 @@ use Rattle.host_layout.specs.declared.state.RunState.{RunState}
 use Rattle.host_layout.specs.State.{stateIn, stateOut}
 use Rattle.host_layout.specs.Verdict.{verdictOut}
 
+-- what the fuse gives, as numbers
+unfoldable pub steppedOf : Ticked → Called
+steppedOf t = record { number = checkNumber (t .check); rt = stateOut (t .rt); verdict = verdictOut (t .verdict) }
+
 -- a refused call keeps every field of the run state, as it was lent
 unfoldable pub keptOf : ℕ → RunState → RunState → RunState
 keptOf number before after = cond (eqb number 0) after before
