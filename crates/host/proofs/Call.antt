@@ -2,7 +2,7 @@
 --     resetSig, resetClauses       fn f(rt: &mut S), and what it says: the last state is `f` of the first.        keptSig, keptClauses     its core's, fn core(rt: S) -> S
 --     tickSig, tickClauses         fn f(rt: &mut S, G, I, O, five lists) -> Z, and what it says of its answer and of the last state.        coreSig, coreClauses     its core's, fn core(G, S, I, O, five lists) -> R
 --     restored-meets, answered-meets       each function meets its contract where its core does
---     taken-meets      so does the function that stores where the core's number is 0 alone, where the core gives the first state back with any other number
+--     taken-meets      so does the function that stores where the core's number is 0 alone
 -- The lists go to the core at their own lifetimes. They stand last among its parameters as among the function's, so what they own is handed on in one piece, and so are the tokens of their lifetimes, which come back.
 -- The theorems take `Given`. The rest assumes nothing.
 use mathlib.Core.Path.{_≡_, refl, sym, _∙_, ap, subst}
@@ -208,11 +208,10 @@ abbrev pub takenFn : (S G I O R Z : Data) → Parts S R Z → Name → Fn
 takenFn S G I O R Z P = taken S (G .ty) (I .ty) (O .ty) (listTy 1) (listTy 2) (listTy 3) (listTy 4) (listTy 5) (P .τc) (P .τv) (P .νR) (P .νZ)
 
 -- a machine value's type, where both are written another way
-retyped : (τ σ : Ty) (v u : Val) → τ ≡ σ → v ≡ u → Holds (hasTy τ v) × WT v → Holds (hasTy σ u) × WT u
+pub retyped : (τ σ : Ty) (v u : Val) → τ ≡ σ → v ≡ u → Holds (hasTy τ v) × WT v → Holds (hasTy σ u) × WT u
 retyped τ σ v u e d t = subst (λ (p : Ty × Val). Holds (hasTy (p .0) (p .1)) × WT (p .1)) (λ j. (e j, d j)) t
 
-module _ (S G I O R Z : Data) (P : Parts S R Z) (f : G .D → S .D → I .D → O .D → Fs → R .D) (Says : S .D → G .D → I .D → O .D → Fs → Z .D → S .D → Type 0)
-    (said : (h : S .D) (g : G .D) (i : I .D) (u : O .D) (l : Fs) → Says h g i u l (P .an (f g h i u l)) (P .st (f g h i u l))) (k : Name) {M : Type 1} (𝓤 : URA M) (H : Heap 𝓤) (A : Atoms 𝓤) (W : Given 𝓤 H A) where
+module _ (S G I O R Z : Data) (P : Parts S R Z) (f : G .D → S .D → I .D → O .D → Fs → R .D) (Says : S .D → G .D → I .D → O .D → Fs → Z .D → S .D → Type 0) (k : Name) {M : Type 1} (𝓤 : URA M) (H : Heap 𝓤) (A : Atoms 𝓤) (W : Given 𝓤 H A) where
   abbrev T′ : Ended
   T′ = tickEnded S G I O Z
 
@@ -292,8 +291,9 @@ module _ (S G I O R Z : Data) (P : Parts S R Z) (f : G .D → S .D → I .D → 
     abbrev Good : R .D → Type 0
     Good r = (r ≡ got) × Of R r
 
-    exits′ : (r : R .D) → Good r → ent 𝓤 (Lent′ (P .st r) Toks) (Post′ (answerVal (P .cv r) (P .vv r)))
-    exits′ r p = subst (λ (v : Val). ent 𝓤 (Lent′ (P .st r) Toks) (Post′ v)) (P .Z-val r) (exits-at (P .st r) (P .an r) (subst (λ (z : R .D). Says h g i u (nows l) (P .an z) (P .st z)) (sym (p .0)) (said h g i u (nows l))) (P .an-of r (p .1)))
+    -- the answer to it is packed of its parts, and the last state is z
+    exits′ : (r : R .D) (z : S .D) → Good r → Says h g i u (nows l) (P .an r) z → ent 𝓤 (Lent′ z Toks) (Post′ (answerVal (P .cv r) (P .vv r)))
+    exits′ r z p e = subst (λ (v : Val). ent 𝓤 (Lent′ z Toks) (Post′ v)) (P .Z-val r) (exits-at z (P .an r) e (P .an-of r (p .1)))
 
     -- the call
     abbrev to : G .D × (S .D × (I .D × (O .D × Ls)))
@@ -324,43 +324,41 @@ module _ (S G I O R Z : Data) (P : Parts S R Z) (f : G .D → S .D → I .D → 
 
     module _ (t5 : Is (ShrSlice (named 1) (κs .0) f64) (l .0) (slice-vals (l .0))) (t6 : Is (ShrSlice (named 2) (κs .1 .0) f64) (l .1 .0) (slice-vals (l .1 .0))) (t7 : Is (ShrSlice (named 3) (κs .1 .1 .0) f64) (l .1 .1 .0) (slice-vals (l .1 .1 .0)))
         (t8 : Is (ShrSlice (named 4) (κs .1 .1 .1 .0) f64) (l .1 .1 .1 .0) (slice-vals (l .1 .1 .1 .0))) (t9 : Is (ShrSlice (named 5) (κs .1 .1 .1 .1 .0) f64) (l .1 .1 .1 .1 .0) (slice-vals (l .1 .1 .1 .1 .0))) where
-      walk′ : ent 𝓤 (onEntry 𝓤 H A (tickSig S G I O Z) (κ, κs) (q, qs) x at) (WpFn 𝓤 H C Λ (tickFn S G I O R Z P k) (vptr b o ∷ G .val g ∷ I .val i ∷ O .val u ∷ listVal (l .0) ∷ listVal (l .1 .0) ∷ listVal (l .1 .1 .0) ∷ listVal (l .1 .1 .1 .0) ∷ listVal (l .1 .1 .1 .1 .0) ∷ []) Post′)
-      walk′ = via 𝓤 (Lent′ h Asked) enters′
+      walk′ : Says h g i u (nows l) (P .an got) (P .st got) → ent 𝓤 (onEntry 𝓤 H A (tickSig S G I O Z) (κ, κs) (q, qs) x at) (WpFn 𝓤 H C Λ (tickFn S G I O R Z P k) (vptr b o ∷ G .val g ∷ I .val i ∷ O .val u ∷ listVal (l .0) ∷ listVal (l .1 .0) ∷ listVal (l .1 .1 .0) ∷ listVal (l .1 .1 .1 .0) ∷ listVal (l .1 .1 .1 .1 .0) ∷ []) Post′)
+      walk′ said = via 𝓤 (Lent′ h Asked) enters′
           (answers S 𝓤 H A W C Λ fm k κ q b o γ h Post′ Asked Result′ (R .D) (P .st) Good Toks
           (G .ty) (I .ty) (O .ty) (listTy 1) (listTy 2) (listTy 3) (listTy 4) (listTy 5) (P .τc) (P .τv) (P .νR) (P .νZ)
           (G .val g) (I .val i) (O .val u) (listVal (l .0)) (listVal (l .1 .0)) (listVal (l .1 .1 .0)) (listVal (l .1 .1 .1 .0)) (listVal (l .1 .1 .1 .1 .0))
           (typed W G g g-of) (typed W I i i-of) (typed W O u u-of) (list-typed 𝓤 H A W 1 (κs .0) (l .0) t5) (list-typed 𝓤 H A W 2 (κs .1 .0) (l .1 .0) t6) (list-typed 𝓤 H A W 3 (κs .1 .1 .0) (l .1 .1 .0) t7) (list-typed 𝓤 H A W 4 (κs .1 .1 .1 .0) (l .1 .1 .1 .0) t8) (list-typed 𝓤 H A W 5 (κs .1 .1 .1 .1 .0) (l .1 .1 .1 .1 .0) t9)
-          (P .cv) (P .vv) calls′ gives′ exits′)
+          (P .cv) (P .vv) calls′ gives′ (λ r p. exits′ r (P .st r) p (subst (λ (y : R .D). Says h g i u (nows l) (P .an y) (P .st y)) (sym (p .0)) said)))
 
       -- the function that stores where the number is 0 alone
-      module _ (X : Tested S R Z P) (kept : Holds (not (X .is-zero got)) → P .st got ≡ h) where
-        left : (r : R .D) → Good r → Holds (not (X .is-zero r)) → ent 𝓤 (Lent′ h Toks) (Post′ (answerVal (P .cv r) (P .vv r)))
-        left r p other =
-            let same : P .st r ≡ h = ap (P .st) (p .0) ∙ kept (subst (λ (z : R .D). Holds (not (X .is-zero z))) (p .0) other) in
-            subst (λ (z : S .D). ent 𝓤 (Lent′ z Toks) (Post′ (answerVal (P .cv r) (P .vv r)))) same (exits′ r p)
-
+      module _ (X : Tested S R Z P) (stored : Holds (X .is-zero got) → Says h g i u (nows l) (P .an got) (P .st got)) (left : Holds (not (X .is-zero got)) → Says h g i u (nows l) (P .an got) h) where
         taken-walk : ent 𝓤 (onEntry 𝓤 H A (tickSig S G I O Z) (κ, κs) (q, qs) x at) (WpFn 𝓤 H C Λ (takenFn S G I O R Z P k) (vptr b o ∷ G .val g ∷ I .val i ∷ O .val u ∷ listVal (l .0) ∷ listVal (l .1 .0) ∷ listVal (l .1 .1 .0) ∷ listVal (l .1 .1 .1 .0) ∷ listVal (l .1 .1 .1 .1 .0) ∷ []) Post′)
         taken-walk = via 𝓤 (Lent′ h Asked) enters′
             (takes S 𝓤 H A W C Λ fm k κ q b o γ h Post′ Asked Result′ (R .D) (P .st) Good Toks
             (G .ty) (I .ty) (O .ty) (listTy 1) (listTy 2) (listTy 3) (listTy 4) (listTy 5) (P .τc) (P .τv) (P .νR) (P .νZ)
             (G .val g) (I .val i) (O .val u) (listVal (l .0)) (listVal (l .1 .0)) (listVal (l .1 .1 .0)) (listVal (l .1 .1 .1 .0)) (listVal (l .1 .1 .1 .1 .0))
             (typed W G g g-of) (typed W I i i-of) (typed W O u u-of) (list-typed 𝓤 H A W 1 (κs .0) (l .0) t5) (list-typed 𝓤 H A W 2 (κs .1 .0) (l .1 .0) t6) (list-typed 𝓤 H A W 3 (κs .1 .1 .0) (l .1 .1 .0) t7) (list-typed 𝓤 H A W 4 (κs .1 .1 .1 .0) (l .1 .1 .1 .0) t8) (list-typed 𝓤 H A W 5 (κs .1 .1 .1 .1 .0) (l .1 .1 .1 .1 .0) t9)
-            (P .cv) (P .vv) calls′ gives′ (X .is-zero) (X .may) (X .tests) (λ r p _. exits′ r p) left)
+            (P .cv) (P .vv) calls′ gives′ (X .is-zero) (X .may) (X .tests)
+            (λ r p zero. exits′ r (P .st r) p (subst (λ (y : R .D). Holds (X .is-zero y) → Says h g i u (nows l) (P .an y) (P .st y)) (sym (p .0)) stored zero))
+            (λ r p other. exits′ r h p (subst (λ (y : R .D). Holds (not (X .is-zero y)) → Says h g i u (nows l) (P .an y) h) (sym (p .0)) left other)))
 
-  pub answered-meets : (𝓣 : Tables 𝓤 H) → Triple 𝓤 (𝓣 .C k) (tripleOf 𝓤 H A (coreSig S G I O R) (closing 𝓤 H A (coreEnded S G I O R) (coreClauses S G I O R f 𝓤)))
+  pub answered-meets : ((h : S .D) (g : G .D) (i : I .D) (u : O .D) (l : Fs) → Says h g i u l (P .an (f g h i u l)) (P .st (f g h i u l))) → (𝓣 : Tables 𝓤 H) → Triple 𝓤 (𝓣 .C k) (tripleOf 𝓤 H A (coreSig S G I O R) (closing 𝓤 H A (coreEnded S G I O R) (coreClauses S G I O R f 𝓤)))
       → Meets 𝓤 H A (tickSig S G I O Z) (WpFn 𝓤 H (𝓣 .C) (𝓣 .Λ) (tickFn S G I O R Z P k)) (closing 𝓤 H A T′ c′)
-  answered-meets 𝓣 known = walk-meets 𝓤 H A T′ stayed′ W goes′ c′ (WpFn 𝓤 H (𝓣 .C) (𝓣 .Λ) (tickFn S G I O R Z P k)) (WpFn-mono 𝓤 H (W .laws) 𝓣 (tickFn S G I O R Z P k))
+  answered-meets said 𝓣 known = walk-meets 𝓤 H A T′ stayed′ W goes′ c′ (WpFn 𝓤 H (𝓣 .C) (𝓣 .Λ) (tickFn S G I O R Z P k)) (WpFn-mono 𝓤 H (W .laws) 𝓣 (tickFn S G I O R Z P k))
       (walked 𝓤 H A T′ stayed′ c′ (WpFn 𝓤 H (𝓣 .C) (𝓣 .Λ) (tickFn S G I O R Z P k))
       (λ κs. (ptr-vals, (vals G, (vals I, (vals O, (slice-vals, (slice-vals, (slice-vals, (slice-vals, (slice-vals, tt))))))))))
       (λ κs. (mut-tells (named 0) (κs .0) (row S), (G .tells, (I .tells, (O .tells, (shr-slice-tells (named 1) (κs .1 .0) f64, (shr-slice-tells (named 2) (κs .1 .1 .0) f64, (shr-slice-tells (named 3) (κs .1 .1 .1 .0) f64, (shr-slice-tells (named 4) (κs .1 .1 .1 .1 .0) f64, (shr-slice-tells (named 5) (κs .1 .1 .1 .1 .1 .0) f64, tt))))))))))
       (λ κs qs bounds a _ are. via 𝓤 _ (fst∗ 𝓤 _ (emp 𝓤)) (walk′ (𝓣 .C) (𝓣 .Λ) (fmOf 𝓤 H (W .laws) 𝓣) known (κs .0) (qs .0) (κs .1) (qs .1) (a .0 .ptr .0) (a .0 .ptr .1) (a .0 .name) (a .0 .now) (a .1 .0) (a .1 .1 .0) (a .1 .1 .1 .0) (a .1 .1 .1 .1) (are .1 .0) (are .1 .1 .0) (are .1 .1 .1 .0)
-      (are .1 .1 .1 .1 .0) (are .1 .1 .1 .1 .1 .0) (are .1 .1 .1 .1 .1 .1 .0) (are .1 .1 .1 .1 .1 .1 .1 .0) (are .1 .1 .1 .1 .1 .1 .1 .1 .0))))
+      (are .1 .1 .1 .1 .0) (are .1 .1 .1 .1 .1 .0) (are .1 .1 .1 .1 .1 .1 .0) (are .1 .1 .1 .1 .1 .1 .1 .0) (are .1 .1 .1 .1 .1 .1 .1 .1 .0) (said (a .0 .now) (a .1 .0) (a .1 .1 .0) (a .1 .1 .1 .0) (nows (a .1 .1 .1 .1))))))
 
-  pub taken-meets : (X : Tested S R Z P) → ((h : S .D) (g : G .D) (i : I .D) (u : O .D) (l : Fs) → Holds (not (X .is-zero (f g h i u l))) → P .st (f g h i u l) ≡ h) → (𝓣 : Tables 𝓤 H) → Triple 𝓤 (𝓣 .C k) (tripleOf 𝓤 H A (coreSig S G I O R) (closing 𝓤 H A (coreEnded S G I O R) (coreClauses S G I O R f 𝓤)))
+  pub taken-meets : (X : Tested S R Z P) → ((h : S .D) (g : G .D) (i : I .D) (u : O .D) (l : Fs) → Holds (X .is-zero (f g h i u l)) → Says h g i u l (P .an (f g h i u l)) (P .st (f g h i u l)))
+      → ((h : S .D) (g : G .D) (i : I .D) (u : O .D) (l : Fs) → Holds (not (X .is-zero (f g h i u l))) → Says h g i u l (P .an (f g h i u l)) h) → (𝓣 : Tables 𝓤 H) → Triple 𝓤 (𝓣 .C k) (tripleOf 𝓤 H A (coreSig S G I O R) (closing 𝓤 H A (coreEnded S G I O R) (coreClauses S G I O R f 𝓤)))
       → Meets 𝓤 H A (tickSig S G I O Z) (WpFn 𝓤 H (𝓣 .C) (𝓣 .Λ) (takenFn S G I O R Z P k)) (closing 𝓤 H A T′ c′)
-  taken-meets X kept 𝓣 known = walk-meets 𝓤 H A T′ stayed′ W goes′ c′ (WpFn 𝓤 H (𝓣 .C) (𝓣 .Λ) (takenFn S G I O R Z P k)) (WpFn-mono 𝓤 H (W .laws) 𝓣 (takenFn S G I O R Z P k))
+  taken-meets X stored left 𝓣 known = walk-meets 𝓤 H A T′ stayed′ W goes′ c′ (WpFn 𝓤 H (𝓣 .C) (𝓣 .Λ) (takenFn S G I O R Z P k)) (WpFn-mono 𝓤 H (W .laws) 𝓣 (takenFn S G I O R Z P k))
       (walked 𝓤 H A T′ stayed′ c′ (WpFn 𝓤 H (𝓣 .C) (𝓣 .Λ) (takenFn S G I O R Z P k))
       (λ κs. (ptr-vals, (vals G, (vals I, (vals O, (slice-vals, (slice-vals, (slice-vals, (slice-vals, (slice-vals, tt))))))))))
       (λ κs. (mut-tells (named 0) (κs .0) (row S), (G .tells, (I .tells, (O .tells, (shr-slice-tells (named 1) (κs .1 .0) f64, (shr-slice-tells (named 2) (κs .1 .1 .0) f64, (shr-slice-tells (named 3) (κs .1 .1 .1 .0) f64, (shr-slice-tells (named 4) (κs .1 .1 .1 .1 .0) f64, (shr-slice-tells (named 5) (κs .1 .1 .1 .1 .1 .0) f64, tt))))))))))
       (λ κs qs bounds a _ are. via 𝓤 _ (fst∗ 𝓤 _ (emp 𝓤)) (taken-walk (𝓣 .C) (𝓣 .Λ) (fmOf 𝓤 H (W .laws) 𝓣) known (κs .0) (qs .0) (κs .1) (qs .1) (a .0 .ptr .0) (a .0 .ptr .1) (a .0 .name) (a .0 .now) (a .1 .0) (a .1 .1 .0) (a .1 .1 .1 .0) (a .1 .1 .1 .1) (are .1 .0) (are .1 .1 .0) (are .1 .1 .1 .0)
-      (are .1 .1 .1 .1 .0) (are .1 .1 .1 .1 .1 .0) (are .1 .1 .1 .1 .1 .1 .0) (are .1 .1 .1 .1 .1 .1 .1 .0) (are .1 .1 .1 .1 .1 .1 .1 .1 .0) X (kept (a .0 .now) (a .1 .0) (a .1 .1 .0) (a .1 .1 .1 .0) (nows (a .1 .1 .1 .1))))))
+      (are .1 .1 .1 .1 .0) (are .1 .1 .1 .1 .1 .0) (are .1 .1 .1 .1 .1 .1 .0) (are .1 .1 .1 .1 .1 .1 .1 .0) (are .1 .1 .1 .1 .1 .1 .1 .1 .0) X (stored (a .0 .now) (a .1 .0) (a .1 .1 .0) (a .1 .1 .1 .0) (nows (a .1 .1 .1 .1))) (left (a .0 .now) (a .1 .0) (a .1 .1 .0) (a .1 .1 .1 .0) (nows (a .1 .1 .1 .1))))))

@@ -1,5 +1,5 @@
 -- The walk of a function by value that lends a local to a thin function (`Thin.antt`'s `answered`), once for every such function. No field of the struct is named.
---     lending      fn f(r: S, _2, .., _9) -> R { let mut rt = r; let a = core(&mut rt, _2, .., _9); R { a.0, rt, a.1 } }
+--     lending      fn f(_1, r: S, _3, .., _9) -> R { let mut rt = r; let a = core(&mut rt, _1, _3, .., _9); R { a.0, rt, a.1 } }
 --     lends        its walk: the local is lent for a lifetime of the call, and taken back once the call has returned
 --     lies-in      the cell that holds x's machine value, and the relation of x ⊢ x lies there.        lies-out     x lies there ⊢ the relation of x, and the cell
 -- The walk is told of the call alone: what it asks beside the reference (`Asked`), and what its answer r gives: the last state (`st r`), whatever else is wanted (`Good r`), and what comes back (`Back`).
@@ -38,11 +38,11 @@ lending S τ2 τ3 τ4 τ5 τ6 τ7 τ8 τ9 τc τv νR νZ k = record {
   lifetimes = 5;
   outlives = [];
   params = 9;
-  locals = local (resultTy S τc τv νR) valueLocal ∷ local (S .ty) valueLocal ∷ local τ2 valueLocal ∷ local τ3 valueLocal ∷ local τ4 valueLocal ∷ local τ5 valueLocal ∷ local τ6 valueLocal ∷ local τ7 valueLocal ∷ local τ8 valueLocal ∷ local τ9 valueLocal ∷ local (S .ty) memorySlot ∷ local (answerTy τc τv νZ) valueLocal ∷ local (tyRef erased mut (pointee (S .written))) valueLocal ∷ local (S .ty) valueLocal ∷ [];
+  locals = local (resultTy S τc τv νR) valueLocal ∷ local τ2 valueLocal ∷ local (S .ty) valueLocal ∷ local τ3 valueLocal ∷ local τ4 valueLocal ∷ local τ5 valueLocal ∷ local τ6 valueLocal ∷ local τ7 valueLocal ∷ local τ8 valueLocal ∷ local τ9 valueLocal ∷ local (S .ty) memorySlot ∷ local (answerTy τc τv νZ) valueLocal ∷ local (tyRef erased mut (pointee (S .written))) valueLocal ∷ local (S .ty) valueLocal ∷ [];
   body =
-      seq (assign (place 10 []) (rvOpd (copy (place 1 []))))
+      seq (assign (place 10 []) (rvOpd (copy (place 2 []))))
       (seq (assign (place 12 []) (addrOf (place 10 [])))
-      (seq (call k (copy (place 12 []) ∷ copy (place 2 []) ∷ copy (place 3 []) ∷ copy (place 4 []) ∷ copy (place 5 []) ∷ copy (place 6 []) ∷ copy (place 7 []) ∷ copy (place 8 []) ∷ copy (place 9 []) ∷ []) (place 11 []))
+      (seq (call k (copy (place 12 []) ∷ copy (place 1 []) ∷ copy (place 3 []) ∷ copy (place 4 []) ∷ copy (place 5 []) ∷ copy (place 6 []) ∷ copy (place 7 []) ∷ copy (place 8 []) ∷ copy (place 9 []) ∷ []) (place 11 []))
       (seq (assign (place 13 []) (rvOpd (copy (place 10 []))))
       (seq (assign (place 0 []) (aggregate (copy (place 11 (field 0 ∷ [])) ∷ copy (place 13 []) ∷ copy (place 11 (field 1 ∷ [])) ∷ []))) return))));
 }
@@ -80,18 +80,18 @@ module _ (S : Data) {M : Type 1} (𝓤 : URA M) (H : Heap 𝓤) (A : Atoms 𝓤)
   module _ (calls : (l α : ℕ) (γ : GName) → ent 𝓤 (sep 𝓤 (sem 𝓤 H A (MutRef (named 0) (α ∷ []) (row S) .own (lentAt l γ) (vptr l 0 ∷ []))) (sep 𝓤 (A .lft (α ∷ []) fullShare) Asked)) (C k (vptr l 0 ∷ v2 ∷ v3 ∷ v4 ∷ v5 ∷ v6 ∷ v7 ∷ v8 ∷ v9 ∷ []) (Result l α γ)))
       (gives : (l α : ℕ) (γ : GName) (v : Val) → ent 𝓤 (Result l α γ v) (H .⇛ (ex 𝓤 (λ (r : R). guard 𝓤 (Told v r) (sep 𝓤 (A .lft (α ∷ []) fullShare) (sep 𝓤 (A .res γ (S .coded .code (st r))) Back))))))
       (ends : (r : R) → Good r → Of S (st r) → ent 𝓤 Back (Post (resultVal r))) where
-    pub lends : ent 𝓤 Asked (WpFn 𝓤 H C Λ (lending S τ2 τ3 τ4 τ5 τ6 τ7 τ8 τ9 τc τv νR νZ k) (S .val h ∷ v2 ∷ v3 ∷ v4 ∷ v5 ∷ v6 ∷ v7 ∷ v8 ∷ v9 ∷ []) Post)
+    pub lends : ent 𝓤 Asked (WpFn 𝓤 H C Λ (lending S τ2 τ3 τ4 τ5 τ6 τ7 τ8 τ9 τc τv νR νZ k) (v2 ∷ S .val h ∷ v3 ∷ v4 ∷ v5 ∷ v6 ∷ v7 ∷ v8 ∷ v9 ∷ []) Post)
     lends =
-        qed W (raw Asked ∷ []) ∵ enter ! C Λ (lending S τ2 τ3 τ4 τ5 τ6 τ7 τ8 τ9 τc τv νR νZ k) (S .val h ∷ v2 ∷ v3 ∷ v4 ∷ v5 ∷ v6 ∷ v7 ∷ v8 ∷ v9 ∷ []) _ $ alloc1 ! (λ l0. alloc1 ! (λ l1. alloc1 ! (λ l2. alloc1 ! (λ l3. alloc1 ! (λ l4. alloc1 ! (λ l5. alloc1 ! (λ l6. alloc1 ! (λ l7. alloc1 ! (λ l8. alloc1 ! (λ l9. alloc1 ! (λ l10. alloc1 ! (λ l11. alloc1 ! (λ l12. alloc1 ! (λ l13. alloc0 ! $
-        params1 ! $ pass1 ! (init ! 24 refl (typed W S h h-of)) $ pass1 ! (init ! 22 refl t2) $ pass1 ! (init ! 20 refl t3) $ pass1 ! (init ! 18 refl t4) $ pass1 ! (init ! 16 refl t5) $ pass1 ! (init ! 14 refl t6) $ pass1 ! (init ! 12 refl t7) $ pass1 ! (init ! 10 refl t8) $ pass1 ! (init ! 8 refl t9) $ pass0 ! $
+        qed W (raw Asked ∷ []) ∵ enter ! C Λ (lending S τ2 τ3 τ4 τ5 τ6 τ7 τ8 τ9 τc τv νR νZ k) (v2 ∷ S .val h ∷ v3 ∷ v4 ∷ v5 ∷ v6 ∷ v7 ∷ v8 ∷ v9 ∷ []) _ $ alloc1 ! (λ l0. alloc1 ! (λ l1. alloc1 ! (λ l2. alloc1 ! (λ l3. alloc1 ! (λ l4. alloc1 ! (λ l5. alloc1 ! (λ l6. alloc1 ! (λ l7. alloc1 ! (λ l8. alloc1 ! (λ l9. alloc1 ! (λ l10. alloc1 ! (λ l11. alloc1 ! (λ l12. alloc1 ! (λ l13. alloc0 ! $
+        params1 ! $ pass1 ! (init ! 24 refl t2) $ pass1 ! (init ! 22 refl (typed W S h h-of)) $ pass1 ! (init ! 20 refl t3) $ pass1 ! (init ! 18 refl t4) $ pass1 ! (init ! 16 refl t5) $ pass1 ! (init ! 14 refl t6) $ pass1 ! (init ! 12 refl t7) $ pass1 ! (init ! 10 refl t8) $ pass1 ! (init ! 8 refl t9) $ pass0 ! $
         -- [_13 (0); _12 (2); _11 (4); _10 (6); _9 (8); _8 (10); _7 (12); _6 (14); _5 (16); _4 (18); _3 (20); _2 (22); _1 (24); _0 (26); what the core asks (28)]
-        assigns ! (of-opd ! (load ! (from ! (stop !)) (look ! 24 refl))) (from ! (stop !)) (init ! 6 refl (typed W S h h-of)) $ assigns ! (addr ! (from ! (stop !))) (from ! (stop !)) (init ! 2 refl (tt, tt)) $
+        assigns ! (of-opd ! (load ! (from ! (stop !)) (look ! 22 refl))) (from ! (stop !)) (init ! 6 refl (typed W S h h-of)) $ assigns ! (addr ! (from ! (stop !))) (from ! (stop !)) (init ! 2 refl (tt, tt)) $
         -- the local is lent, for a lifetime α of the call
         move ! (6 ∷ []) $ use1 W (‵ (cellAt fullShare (S .ty ∷ []) (vals S h) l10 0)) (W .laws .at-raw fullShare (S .ty) l10 0 (S .val h)) $ use1 W (‵ (mem (row S) .lies h l10 0)) (lies-in 𝓤 H A W S h l10 0 h-of) $
         lft-new ! tt (λ α. move ! (1 ∷ []) $ use1 W (later (some (λ (γ : GName). ‵ (MutRef (named 0) (α ∷ []) (row S) .own (lentAt l10 γ) (vptr l10 0 ∷ [])) ⊛ ‵ (flent (α ∷ []) (Body (mem (row S)) l10 0 γ))))) (lends-ref 𝓤 H A W (row S) (named 0) (α ∷ []) h l10 0) $ await ! tt $ pick ! (λ γ. split ! $
         move ! (0 ∷ 2 ∷ 30 ∷ []) $ use3 W (raw (sep 𝓤 (sem 𝓤 H A (MutRef (named 0) (α ∷ []) (row S) .own (lentAt l10 γ) (vptr l10 0 ∷ []))) (sep 𝓤 (A .lft (α ∷ []) fullShare) Asked))) (id⊢ 𝓤 _) $
         -- [what the core asks; the lender's part; _13 (2); _12 (4); _11 (6); what frees _10 (8); _9 (9); _8 (11); _7 (13); _6 (15); _5 (17); _4 (19); _3 (21); _2 (23); _1 (25); _0 (27)]
-        calls-from ! fm (raw (sep 𝓤 (sem 𝓤 H A (MutRef (named 0) (α ∷ []) (row S) .own (lentAt l10 γ) (vptr l10 0 ∷ []))) (sep 𝓤 (A .lft (α ∷ []) fullShare) Asked))) (vptr l10 0 ∷ v2 ∷ v3 ∷ v4 ∷ v5 ∷ v6 ∷ v7 ∷ v8 ∷ v9 ∷ []) (Result l10 α γ) (calls l10 α γ) (and-then ! (load ! (from ! (stop !)) (look ! 4 refl)) (and-then ! (load ! (from ! (stop !)) (look ! 23 refl)) (and-then ! (load ! (from ! (stop !)) (look ! 21 refl)) (and-then ! (load ! (from ! (stop !)) (look ! 19 refl)) (and-then ! (load ! (from ! (stop !)) (look ! 17 refl)) (and-then ! (load ! (from ! (stop !)) (look ! 15 refl)) (and-then ! (load ! (from ! (stop !)) (look ! 13 refl)) (and-then ! (load ! (from ! (stop !)) (look ! 11 refl)) (and-then ! (load ! (from ! (stop !)) (look ! 9 refl)) (no-more !)))))))))) (λ v.
+        calls-from ! fm (raw (sep 𝓤 (sem 𝓤 H A (MutRef (named 0) (α ∷ []) (row S) .own (lentAt l10 γ) (vptr l10 0 ∷ []))) (sep 𝓤 (A .lft (α ∷ []) fullShare) Asked))) (vptr l10 0 ∷ v2 ∷ v3 ∷ v4 ∷ v5 ∷ v6 ∷ v7 ∷ v8 ∷ v9 ∷ []) (Result l10 α γ) (calls l10 α γ) (and-then ! (load ! (from ! (stop !)) (look ! 4 refl)) (and-then ! (load ! (from ! (stop !)) (look ! 25 refl)) (and-then ! (load ! (from ! (stop !)) (look ! 21 refl)) (and-then ! (load ! (from ! (stop !)) (look ! 19 refl)) (and-then ! (load ! (from ! (stop !)) (look ! 17 refl)) (and-then ! (load ! (from ! (stop !)) (look ! 15 refl)) (and-then ! (load ! (from ! (stop !)) (look ! 13 refl)) (and-then ! (load ! (from ! (stop !)) (look ! 11 refl)) (and-then ! (load ! (from ! (stop !)) (look ! 9 refl)) (no-more !)))))))))) (λ v.
         use1 W (later (some (λ (r : R). given (Told v r) (‵ (flft (α ∷ []) fullShare) ⊛ ‵ (fres γ (S .coded .code (st r))) ⊛ raw Back)))) (gives l10 α γ v) $ await ! tt $ pick ! (λ r. learn ! (λ p. split3 ! $
         -- [the lifetime's token; the last state's; what comes back; the lender's part; _13 (4); _12 (6); _11 (8); what frees _10 (10); _9 (11); _8 (13); _7 (15); _6 (17); _5 (19); _4 (21); _3 (23); _2 (25); _1 (27); _0 (29)]
         land ! (from ! (stop !)) (init ! 8 refl (has-ty (answerTy τc τv νZ) (p .0) (p .1))) $ rewrite ! 8 (λ (u : Val). ‵ (fat fullShare (answerTy τc τv νZ) l11 0 u)) (p .0) refl $

@@ -1,5 +1,6 @@
 pub mod Call
 pub mod Data
+pub mod Lending
 pub mod Lent
 pub mod Refused
 pub mod Thin

@@ -10,8 +10,8 @@ use lictor_fuse::tick::Ticked;
 
 // One tick by value, through the lent one: the two agree.
 pub fn once(
-    rt: FuseRt,
     s: Settings,
+    rt: FuseRt,
     inp: TickInput,
     out: Outcome,
     pos: &[f64],
@@ -47,9 +47,9 @@ pub fn three(
 ) -> Ticked
     ensures { λ r. ⌜ r ≡ threeOf s rt a b c out (now (pos .entry)) (now (vel .entry)) (now (aux .entry)) (now (ext .entry)) (now (chunk .entry)) ⌝ }
 {
-    let x = once(rt, s, a, out, pos, vel, aux, ext, chunk);
+    let x = once(s, rt, a, out, pos, vel, aux, ext, chunk);
     let y = x.rt;
-    let z = once(y, s, b, out, pos, vel, aux, ext, chunk);
+    let z = once(s, y, b, out, pos, vel, aux, ext, chunk);
     let w = z.rt;
-    once(w, s, c, out, pos, vel, aux, ext, chunk)
+    once(s, w, c, out, pos, vel, aux, ext, chunk)
 }

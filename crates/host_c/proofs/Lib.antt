@@ -1,4 +1,4 @@
-pub mod Keys
 pub mod Refused
+pub mod Says
 pub mod Stored
 pub mod Types

@@ -1,4 +1,4 @@
--- A call whose settings are refused.
+-- A call whose settings are refused, and what a call stores.
 use mathlib.Core.Path.{_≡_, refl, _∙_, ap}
 use mathlib.Core.Bool.{Bool, true, false, cond, not}
 use mathlib.Core.List.{List}
@@ -13,10 +13,10 @@ use Rattle.lictor_core.specs.Settings.{checkOf, checkNumber}
 use Rattle.lictor_fuse.specs.declared.tick.Ticked.{Ticked}
 use Rattle.lictor_fuse.specs.Tick.{isAccepted, noVerdict, tickOf}
 use Rattle.host.proofs.Refused.{refused-call}
-use Rattle.host_c.specs.declared.state.RunState.{RunState}
-use Rattle.host_c.specs.Call.{keptOf, callOf}
-use Rattle.host_c.specs.State.{stateOut}
-use Rattle.host_c.specs.Verdict.{verdictOut}
+use Rattle.host_layout.specs.declared.state.RunState.{RunState}
+use Rattle.host_c.specs.Call.{steppedOf, keptOf, callOf, answerOf}
+use Rattle.host_layout.specs.State.{stateOut}
+use Rattle.host_layout.specs.Verdict.{verdictOut}
 
 -- the number of the cause, no verdict, and every field of the run state
 pub refused-fields : (before : RunState) (s : Settings) (rt : FuseRt) (inp : TickInput) (out : Outcome) (pos vel aux ext chunk : List Float) → isAccepted (checkOf s) ≡ false
@@ -27,11 +27,24 @@ refused-fields before s rt inp out pos vel aux ext chunk bad =
     let t = tickOf s rt inp out pos vel aux ext chunk in
     (e .0, ap verdictOut (e .1), ap (λ (n : ℕ). keptOf n before (stateOut (t .rt))) (e .0) ∙ ap (λ (b : Bool). cond b (stateOut (t .rt)) before) bad)
 
--- a call with another number than 0 gives back the run state that it got, so that nothing has to be stored
-by-test : (b : Bool) (before after : RunState) → T (not b) → cond b after before ≡ before
-by-test true before after other = absurd other
-by-test false before after other = refl
+-- a call with the number 0 gives what the fuse gives, and one with another number the run state that it got, so that nothing has to be stored
+by-test : (b : Bool) (before after : RunState) → T b → after ≡ cond b after before
+by-test true before after zero = refl
+by-test false before after zero = absurd zero
 
-pub nothing-stored : (before : RunState) (t : Ticked) → T (not (eqb (callOf before t .number) 0)) → callOf before t .rt ≡ before
-unfolding callOf keptOf
-nothing-stored before t = by-test (eqb (checkNumber (t .check)) 0) before (stateOut (t .rt))
+by-other : (b : Bool) (before after : RunState) → T (not b) → before ≡ cond b after before
+by-other true before after other = absurd other
+by-other false before after other = refl
+
+pub all-stored : (before : RunState) (t : Ticked) → T (eqb (steppedOf t .number) 0) → steppedOf t .rt ≡ callOf before t .rt
+unfolding steppedOf callOf keptOf
+all-stored before t = by-test (eqb (checkNumber (t .check)) 0) before (stateOut (t .rt))
+
+pub nothing-stored : (before : RunState) (t : Ticked) → T (not (eqb (steppedOf t .number) 0)) → before ≡ callOf before t .rt
+unfolding steppedOf callOf keptOf
+nothing-stored before t = by-other (eqb (checkNumber (t .check)) 0) before (stateOut (t .rt))
+
+-- number and verdict are those of the fuse
+pub answer-same : (before : RunState) (t : Ticked) → answerOf (steppedOf t) ≡ answerOf (callOf before t)
+unfolding steppedOf callOf
+answer-same before t = refl

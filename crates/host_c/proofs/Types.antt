@@ -1,5 +1,5 @@
--- The library's types as a walk takes them (the crate `host`, `Data.antt`), how the by-value call's result and the answer lie, and how the result's number is tested.
---     S, G, I, O   the run state, the settings, a tick's numbers, the outcome.        R, Z     the result of `disklorva_call`, and the answer of `disklorva_tick`
+-- The library's types as a walk takes them (the crate `host`, `Data.antt`), how the result of a step and the answer lie, how the result's number is tested, and how the two are put together.
+--     S, G, I, O   the run state, the settings, a tick's numbers, the outcome.        R, Z     the result of `stepped` and of `disklorva_call`, and the answer of `disklorva_tick`
 -- Assumes nothing.
 use mathlib.Core.Path.{refl}
 use lib.Dec.{eqb}
@@ -8,17 +8,18 @@ use mir.Val.{vint}
 use denote.Struct.Laws as LL
 use Rattle.host.proofs.Call.{Parts, Tested}
 use Rattle.host.proofs.Data.{Data, struct, vals}
+use Rattle.host.proofs.Lending.{Joined}
 use Rattle.host_c.specs.Call.{answerOf}
-use Rattle.host_c.proofs.state.RunState as St
-use Rattle.host_c.proofs.state.RunState.Laws as St′
-use Rattle.host_c.proofs.input.Settings as Se
-use Rattle.host_c.proofs.input.Settings.Laws as Se′
-use Rattle.host_c.proofs.input.Input as In
-use Rattle.host_c.proofs.input.Input.Laws as In′
-use Rattle.host_c.proofs.input.Outcome as Oc
-use Rattle.host_c.proofs.input.Outcome.Laws as Oc′
-use Rattle.host_c.proofs.verdict.Verdict as Ve
-use Rattle.host_c.proofs.verdict.Verdict.Laws as Ve′
+use Rattle.host_layout.proofs.state.RunState as St
+use Rattle.host_layout.proofs.state.RunState.Laws as St′
+use Rattle.host_layout.proofs.input.Settings as Se
+use Rattle.host_layout.proofs.input.Settings.Laws as Se′
+use Rattle.host_layout.proofs.input.Input as In
+use Rattle.host_layout.proofs.input.Input.Laws as In′
+use Rattle.host_layout.proofs.input.Outcome as Oc
+use Rattle.host_layout.proofs.input.Outcome.Laws as Oc′
+use Rattle.host_layout.proofs.verdict.Verdict as Ve
+use Rattle.host_layout.proofs.verdict.Verdict.Laws as Ve′
 use Rattle.host_c.proofs.Called as Ca
 use Rattle.host_c.proofs.Called.Laws as Ca′
 use Rattle.host_c.proofs.Answer as An
@@ -62,3 +63,11 @@ parts = record {
 
 abbrev pub tested : Tested S R Z parts
 tested = record { is-zero = λ r. eqb (r .number) 0; may = λ r. tt; tests = λ r. refl }
+
+abbrev pub joined : Joined S R Z parts
+joined = record {
+  both = λ a z. record { number = a .number; rt = z; verdict = a .verdict };
+  both-of = λ a z a-of z-of. LL.owes Ca.the-type Ca′.the-laws (record { number = a .number; rt = z; verdict = a .verdict }) (LL.owed An.the-type An′.the-laws a (vals Z a) a-of .0, (z-of, (LL.owed An.the-type An′.the-laws a (vals Z a) a-of .1 .0, tt)));
+  an-both = λ a z. refl;
+  st-both = λ a z. refl;
+}

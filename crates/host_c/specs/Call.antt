@@ -7,9 +7,13 @@ use Rattle.lictor_core.specs.Settings.{checkNumber}
 use Rattle.lictor_fuse.specs.declared.tick.Ticked.{Ticked}
 use Rattle.host_c.specs.declared.Answer.{Answer}
 use Rattle.host_c.specs.declared.Called.{Called}
-use Rattle.host_c.specs.declared.state.RunState.{RunState}
-use Rattle.host_c.specs.State.{stateIn, stateOut}
-use Rattle.host_c.specs.Verdict.{verdictOut}
+use Rattle.host_layout.specs.declared.state.RunState.{RunState}
+use Rattle.host_layout.specs.State.{stateIn, stateOut}
+use Rattle.host_layout.specs.Verdict.{verdictOut}
+
+-- what the fuse gives, as numbers
+unfoldable pub steppedOf : Ticked → Called
+steppedOf t = record { number = checkNumber (t .check); rt = stateOut (t .rt); verdict = verdictOut (t .verdict) }
 
 -- a refused call keeps every field of the run state, as it was lent
 unfoldable pub keptOf : ℕ → RunState → RunState → RunState

@@ -1,5 +1,1 @@
 pub mod Call
-pub mod Flags
-pub mod Input
-pub mod State
-pub mod Verdict

@@ -6,27 +6,23 @@ ghost use Rattle.fmath.specs.Root.{rootOf};
 ghost use Rattle.lictor_core.specs.Initial.{newOf};
 ghost use Rattle.lictor_core.specs.Settings.{checkOf, checkNumber};
 ghost use Rattle.lictor_fuse.specs.Tick.{tickOf, isAccepted, noVerdict};
-ghost use Rattle.host_c.specs.Call.{keptOf, callOf, answerOf, resetRun};
-ghost use Rattle.host_c.specs.Input.{settingsIn, inputIn, outcomeIn};
-ghost use Rattle.host_c.specs.State.{stateIn, stateOut};
-ghost use Rattle.host_c.specs.Verdict.{verdictOut};
-use crate::input::Input;
-use crate::input::Outcome;
-use crate::input::Settings;
-use crate::input::input_in;
-use crate::input::outcome_in;
-use crate::input::settings_in;
-use crate::state::RunState;
-use crate::state::state_in;
-use crate::state::state_out;
-use crate::verdict::Verdict;
-use crate::verdict::verdict_out;
+ghost use Rattle.host_c.specs.Call.{steppedOf, callOf, answerOf, resetRun};
+ghost use Rattle.host_layout.specs.Input.{settingsIn, inputIn, outcomeIn};
+ghost use Rattle.host_layout.specs.State.{stateIn, stateOut};
+ghost use Rattle.host_layout.specs.Verdict.{verdictOut};
+use host_layout::input::Input;
+use host_layout::input::Outcome;
+use host_layout::input::Settings;
+use host_layout::input::input_in;
+use host_layout::input::outcome_in;
+use host_layout::input::settings_in;
+use host_layout::state::RunState;
+use host_layout::state::state_in;
+use host_layout::state::state_out;
+use host_layout::verdict::Verdict;
+use host_layout::verdict::verdict_out;
 use lictor_core::settings::check_number;
 use lictor_fuse::tick::Ticked;
-
-pub mod input; // what a tick is given
-pub mod state; // the run state
-pub mod verdict; // what a tick gives
 
 // What a call answers: 0 and the verdict, or the number of a refusal of the settings.
 #[repr(C)]
@@ -43,24 +39,13 @@ pub struct Called {
     pub verdict: Verdict,
 }
 
-// The run state after a call: a refused one leaves every field as it was.
-fn kept(number: u8, before: RunState, after: RunState) -> RunState
-    ensures { λ r. ⌜ r ≡ keptOf number before after ⌝ }
-{
-    if number == 0 {
-        return after;
-    }
-    before
-}
-
-fn packed(before: RunState, t: Ticked) -> Called
-    ensures { λ r. ⌜ r ≡ callOf before t ⌝ }
+fn packed(t: Ticked) -> Called
+    ensures { λ r. ⌜ r ≡ steppedOf t ⌝ }
 {
     let c = t.check;
     let number = check_number(c);
     let z = t.rt;
-    let after = state_out(z);
-    let rt = kept(number, before, after);
+    let rt = state_out(z);
     let v = t.verdict;
     let verdict = verdict_out(v);
     Called {
@@ -68,6 +53,28 @@ fn packed(before: RunState, t: Ticked) -> Called
         rt,
         verdict,
     }
+}
+
+// One tick from numbers to numbers. Its run state is what the fuse gives, whatever the number: whether it is stored is for the caller to test.
+fn stepped(
+    s: Settings,
+    rt: RunState,
+    inp: Input,
+    out: Outcome,
+    pos: &[f64],
+    vel: &[f64],
+    aux: &[f64],
+    ext: &[f64],
+    chunk: &[f64],
+) -> Called
+    ensures { λ r. ⌜ r ≡ steppedOf (tickOf (settingsIn s) (stateIn rt) (inputIn inp) (outcomeIn out) (now (pos .entry)) (now (vel .entry)) (now (aux .entry)) (now (ext .entry)) (now (chunk .entry))) ⌝ }
+{
+    let g = settings_in(s);
+    let z = state_in(rt);
+    let i = input_in(inp);
+    let u = outcome_in(out);
+    let t = lictor_fuse::tick::tick(g, z, i, u, pos, vel, aux, ext, chunk);
+    packed(t)
 }
 
 fn restarted(rt: RunState) -> RunState
@@ -97,29 +104,6 @@ pub extern "C" fn disklorva_reset(rt: &mut RunState)
     *rt = restarted(*rt);
 }
 
-// One tick by value: the run state goes in and comes back, and nothing that is lent is changed.
-#[no_mangle]
-pub extern "C" fn disklorva_call(
-    s: Settings,
-    rt: RunState,
-    inp: Input,
-    out: Outcome,
-    pos: &[f64],
-    vel: &[f64],
-    aux: &[f64],
-    ext: &[f64],
-    chunk: &[f64],
-) -> Called
-    ensures { λ r. ⌜ r ≡ callOf rt (tickOf (settingsIn s) (stateIn rt) (inputIn inp) (outcomeIn out) (now (pos .entry)) (now (vel .entry)) (now (aux .entry)) (now (ext .entry)) (now (chunk .entry))) ⌝ }
-{
-    let g = settings_in(s);
-    let z = state_in(rt);
-    let i = input_in(inp);
-    let u = outcome_in(out);
-    let t = lictor_fuse::tick::tick(g, z, i, u, pos, vel, aux, ext, chunk);
-    packed(rt, t)
-}
-
 // One tick of the lent run state. Where the settings are refused, the answer has the number of the cause and no verdict, and nothing is written: not even the bytes between the fields change.
 #[no_mangle]
 pub extern "C" fn disklorva_tick(
@@ -137,13 +121,37 @@ pub extern "C" fn disklorva_tick(
         × (now (rt .exit) ≡ callOf (now (rt .entry)) (tickOf (settingsIn s) (stateIn (now (rt .entry))) (inputIn inp) (outcomeIn out) (now (pos .entry)) (now (vel .entry)) (now (aux .entry)) (now (ext .entry)) (now (chunk .entry))) .rt)
         × (isAccepted (checkOf (settingsIn s)) ≡ false → (r .number ≡ checkNumber (checkOf (settingsIn s))) × (r .verdict ≡ verdictOut noVerdict) × (now (rt .exit) ≡ now (rt .entry))) ⌝ }
 {
-    let t = disklorva_call(s, *rt, inp, out, pos, vel, aux, ext, chunk);
+    let t = stepped(s, *rt, inp, out, pos, vel, aux, ext, chunk);
     if t.number == 0 {
         *rt = t.rt;
     }
     Answer {
         number: t.number,
         verdict: t.verdict,
+    }
+}
+
+// One tick by value: the run state goes in and comes back, and nothing that is lent is changed. It lends a copy.
+#[no_mangle]
+pub extern "C" fn disklorva_call(
+    s: Settings,
+    rt: RunState,
+    inp: Input,
+    out: Outcome,
+    pos: &[f64],
+    vel: &[f64],
+    aux: &[f64],
+    ext: &[f64],
+    chunk: &[f64],
+) -> Called
+    ensures { λ r. ⌜ r ≡ callOf rt (tickOf (settingsIn s) (stateIn rt) (inputIn inp) (outcomeIn out) (now (pos .entry)) (now (vel .entry)) (now (aux .entry)) (now (ext .entry)) (now (chunk .entry))) ⌝ }
+{
+    let mut lent = rt;
+    let a = disklorva_tick(&mut lent, s, inp, out, pos, vel, aux, ext, chunk);
+    Called {
+        number: a.number,
+        rt: lent,
+        verdict: a.verdict,
     }
 }
 

@@ -1,4 +1,4 @@
-use Rattle.host_c.specs.Call.{callOf}
+use Rattle.host_c.specs.Call.{steppedOf}
 use borrow.Author.Needs.{needs}
 use Rattle.host_c.proofs.packed.Statement.{statement}
 use Rattle.host_c.proofs.packed.Tie as tie
@@ -9,17 +9,12 @@ check-number-requires c κs = search needs
 state-out-requires : tie.Need-state-out-requires
 state-out-requires c κs = search needs
 
-kept-requires : tie.Need-kept-requires
-kept-requires c κs = search needs
-
 verdict-out-requires : tie.Need-verdict-out-requires
 verdict-out-requires c κs = search needs
 
 returns : tie.Need-returns
-unfolding callOf
+unfolding steppedOf
 returns c = cc
 
 pub packed-spec : {M : Type 1} → statement M
-packed-spec =
-    tie.close
-    (tie.spec check-number-requires state-out-requires kept-requires verdict-out-requires returns)
+packed-spec = tie.close (tie.spec check-number-requires state-out-requires verdict-out-requires returns)

@@ -1,0 +1,10 @@
+use Rattle.host_layout.specs.Input.{settingsIn}
+use Rattle.host_layout.proofs.input.settings_in.Statement.{statement}
+use Rattle.host_layout.proofs.input.settings_in.Tie as tie
+
+returns : tie.Need-returns
+unfolding settingsIn
+returns c = cc
+
+pub settings-in-spec : {M : Type 1} → statement M
+settings-in-spec = tie.close (tie.spec returns)

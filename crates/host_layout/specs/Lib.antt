@@ -1,0 +1,4 @@
+pub mod Flags
+pub mod Input
+pub mod State
+pub mod Verdict

@@ -1,0 +1,113 @@
+// What a tick gives, as numbers in the layout of C. Codes are those of the journal, and a flag is 0 or 1.
+ghost use mathlib.Core.Path.{_≡_};
+ghost use Rattle.host_layout.specs.Flags.{flagCode};
+ghost use Rattle.host_layout.specs.Verdict.{handoffSet, handoffNumber, verdictOut};
+use lictor_core::reason::reason_code;
+use lictor_core::state::Time;
+use lictor_core::state::state_code;
+use lictor_core::verdict::MaybeHandoff;
+use lictor_core::verdict::SafetyVerdict;
+use lictor_core::verdict::source_code;
+use lictor_core::verdict::status_code;
+
+#[repr(C)]
+pub struct Verdict {
+    pub seq: u32,
+    pub t: Time,
+    pub status: u8,
+    pub state: u8,
+    pub prev_state: u8,
+    pub trips: u32,
+    pub action: [f64; 8],
+    pub action_dim: u16,
+    pub action_src: u8,
+    pub substituted: u8,
+    pub clamped_dims: u32,
+    pub z: [f64; 12],
+    pub s: f64,
+    pub valid: u32,
+    pub fired: u32,
+    pub tau: f64,
+    pub window: u64,
+    pub window_hits: u8,
+    pub brake_margin: f64,
+    pub reason: u8,
+    pub handoff_set: u8,
+    pub handoff_seq: u32,
+    pub ack_consumed: u8,
+    pub violation_reached_env: u8,
+}
+
+pub fn code(b: bool) -> u8
+    ensures { λ r. ⌜ r ≡ flagCode b ⌝ }
+{
+    if b { 1 } else { 0 }
+}
+
+fn handoff_set(h: MaybeHandoff) -> u8
+    ensures { λ r. ⌜ r ≡ handoffSet h ⌝ }
+{
+    match h {
+        MaybeHandoff::NoHandoff => 0,
+        MaybeHandoff::Begun(n) => 1,
+    }
+}
+
+fn handoff_number(h: MaybeHandoff) -> u32
+    ensures { λ r. ⌜ r ≡ handoffNumber h ⌝ }
+{
+    match h {
+        MaybeHandoff::NoHandoff => 0,
+        MaybeHandoff::Begun(n) => n,
+    }
+}
+
+pub fn verdict_out(v: SafetyVerdict) -> Verdict
+    ensures { λ r. ⌜ r ≡ verdictOut v ⌝ }
+{
+    let st = v.status;
+    let to = v.state;
+    let from = v.prev_state;
+    let src = v.action_src;
+    let why = v.reason;
+    let h = v.handoff_seq;
+    let sc = v.scores;
+    let action = v.action;
+    let z = sc.z;
+    let status = status_code(st);
+    let state = state_code(to);
+    let prev_state = state_code(from);
+    let action_src = source_code(src);
+    let reason = reason_code(why);
+    let handoff_set = handoff_set(h);
+    let handoff_seq = handoff_number(h);
+    let substituted = code(v.substituted);
+    let ack_consumed = code(v.ack_consumed);
+    let violation_reached_env = code(v.violation_reached_env);
+    Verdict {
+        seq: v.seq,
+        t: v.t,
+        status,
+        state,
+        prev_state,
+        trips: v.trips,
+        action,
+        action_dim: v.action_dim,
+        action_src,
+        substituted,
+        clamped_dims: v.clamped_dims,
+        z,
+        s: sc.s,
+        valid: sc.valid,
+        fired: sc.fired,
+        tau: v.tau,
+        window: v.window,
+        window_hits: v.window_hits,
+        brake_margin: v.brake_margin,
+        reason,
+        handoff_set,
+        handoff_seq,
+        ack_consumed,
+        violation_reached_env,
+    }
+}
