@@ -65,19 +65,14 @@ fn restart(run: Run) -> Run
     Run { config, rt }
 }
 
-// Where each list begins in the lent memory, and how many values it can hold.
-const BASE: [usize; 5] = [0, 512, 528, 544, 560];
-
-const CAPACITY: [usize; 5] = [512, 16, 16, 16, 16];
-
 // The values of a list.
 fn values(seen: Seen, lists: &[f64], c: usize) -> &[f64]
     requires { ⌜ (c < 5) × (length (now lists) ≡ 576) ⌝ }
     ensures { λ r. ⌜ now r ≡ valuesOf seen (now (lists .entry)) c ⌝ }
 {
     let counts = seen.counts;
-    let n = lictor_core::num::least(counts[c], CAPACITY[c]);
-    let a = BASE[c];
+    let n = lictor_core::num::least(counts[c], judge::capacity(c));
+    let a = reader::base(c);
     let e = a + n;
     &lists[a..e]
 }
@@ -213,7 +208,13 @@ pub fn start() -> Run
 pub fn advance(rd: Reader, run: Run, lists: &mut [f64; 576], s: &[u8]) -> Advanced
     ensures { λ r. ⌜ (r ≡ advancedOf (wholeOf rd run (now (lists .entry))) (now (s .entry))) × (now (lists .exit) ≡ listsAfter (wholeOf rd run (now (lists .entry))) (now (s .entry))) ⌝ }
 {
-    let mut t = take_step(rd, run, lists, s, 0);
+    let mut t = Step {
+        reader: rd,
+        run,
+        at: 0,
+        how: How::Waits,
+        more: true,
+    };
     while t.more {
         let r = t.reader;
         let q = t.run;

@@ -3,9 +3,10 @@
 ghost use mathlib.Core.Bool.{not, _&&_};
 ghost use mathlib.Core.Path.{_≡_};
 ghost use lib.Dec.{eqb, ltb};
+ghost use lib.ListN.{getD};
 ghost use Rattle.bytes_le.specs.Little.{byteAt};
 ghost use Rattle.records.specs.Kinds.{journalKinds};
-ghost use Rattle.judge.specs.Causes.{unknownKind, bodyCut, beforeSettings, notBelow, again as Causes·again, listFull, notReady};
+ghost use Rattle.judge.specs.Causes.{capacities, unknownKind, bodyCut, beforeSettings, notBelow, again as Causes·again, listFull, notReady};
 ghost use Rattle.judge.specs.Table.{numberOf, judgedOf, contentsOf};
 use bytes_le::byte;
 use lictor_core::settings::SettingsCheck;
@@ -39,8 +40,15 @@ pub enum Judged {
     Refused(Refusal),
 }
 
-// How many values each list can hold.
-const CAPACITY: [usize; 5] = [512, 16, 16, 16, 16];
+// How many values a list can hold, 0 for one that is not listed.
+pub fn capacity(c: usize) -> usize
+    ensures { λ r. ⌜ r ≡ getD capacities c 0 ⌝ }
+{
+    if c == 0 {
+        return 512;
+    }
+    if c < 5 { 16 } else { 0 }
+}
 
 // The refusal's number.
 pub fn number(r: Refusal) -> u8
@@ -130,7 +138,7 @@ fn is_full(seen: Seen, b: &[u8]) -> bool
     let list = byte(b, 0);
     let i = list as usize;
     if i < 5 {
-        CAPACITY[i] <= counts[i]
+        capacity(i) <= counts[i]
     } else {
         true
     }

@@ -8,7 +8,7 @@ use lib.ListN.{length, take, drop, length-drop, getD}
 use lib.Seq.{drop-drop, getD-drop}
 use lib.Dec.{leb}
 use lib.Ieee.{Float}
-use borrow.Author.Tests.{leb-true}
+use borrow.Author.Tests.{leb-true, leb-false}
 use Rattle.bytes_le.specs.Little.{byteAt}
 use Rattle.lictor_core.specs.declared.fuse.TickInput.{TickInput}
 use Rattle.lictor_fuse.specs.declared.tick.Decided.{Decided}
@@ -19,7 +19,7 @@ use Rattle.reader.specs.declared.What.the-variants as W
 use Rattle.reader.specs.Stream.{Next, wait, halt, go, tell, waiting, halted, Settled, telling, settled, Advanced, advanced, goesOn}
 use Rattle.reader.specs.State.{State, emptied}
 use Rattle.reader.specs.Reading.{Instruction, begin, restart, tick, callOf, withReader, nextOf, whatOf}
-use Rattle.reader.proofs.Stream.{Ahead, ahead, settled-wait, settled-halt, settled-tell, tells-on}
+use Rattle.reader.proofs.Stream.{Ahead, ahead, settled-wait, settled-halt, settled-tell, tells-on, taken-advanced, taken-tell, taken-on}
 use Rattle.reader.proofs.Reading.{machine, ticks-is}
 use Rattle.journal.specs.declared.Run.{Run}
 use Rattle.journal.specs.declared.How.{How}
@@ -99,6 +99,10 @@ module _ (w : Whole) (s : List ℕ) (at : ℕ) (h : at ≤ length s) (a : J.Adva
   goes-there : settled replayOf w (drop at s) ≡ settled replayOf v (drop i s)
   goes-there = there .rest ∙ ap₂ (settled replayOf) (sym v-is) rest-is
 
+  -- the bytes up to there, alone
+  alone-there : settled replayOf w (take (a .used) (drop at s)) ≡ record { state = v; rest = []; told = []; end = waiting }
+  alone-there = rw (used-is, v-is) (taken-advanced replayOf replay w (drop at s))
+
   how-is : howOf (nextOf (v .state) (drop i s)) ≡ a .how
   unfolding advancedOf
   how-is = sym (ap (λ (x : J.Advanced). x .how) e ∙ ap₂ (λ (x : Whole) (u : List ℕ). howOf (nextOf (x .state) u)) (sym v-is) rest-is)
@@ -122,9 +126,11 @@ module _ (w : Whole) (s : List ℕ) (at : ℕ) (h : at ≤ length s) (a : J.Adva
       within = turn-within;
       from = omega arith;
       goes = goes-there;
+      alone = (let k : i - at ≡ a .used = omega arith in rw k alone-there);
       text = put-none out n;
       fits = z;
       stops = λ y. q;
+      none = λ y. absurd (let o : _≡_ {A = ℕ} 0 1 = cc in omega arith);
     }
 
     pub turned-waits : n ≤ length out → a .how ≡ Waits → Turned code w s at out n (record { reader = a .reader; run = a .run; at = i; n = n; ticked = false; refused = 0 }) l' out
@@ -169,6 +175,14 @@ module _ (w : Whole) (s : List ℕ) (at : ℕ) (h : at ≤ length s) (a : J.Adva
         ∙ settled-tell replayOf replay v (drop i s) next (suc (bodyLen journalKinds (byteAt s i))) decided tells
         ∙ ap (λ (u : List ℕ). telling (decided ∷ []) (settled replayOf next u)) (drop-drop (suc (bodyLen journalKinds (byteAt s i))) i s ∙ ap (λ (j : ℕ). drop j s) k)
 
+    alone-on : settled replayOf w (take (i + 1 + bodyLen journalKinds (byteAt s i) - at) (drop at s)) ≡ record { state = next; rest = []; told = decided ∷ []; end = waiting }
+    alone-on =
+        let n = suc (bodyLen journalKinds (byteAt s i)) in
+        let k : i + 1 + bodyLen journalKinds (byteAt s i) - at ≡ a .used + n = omega arith in
+        rw k
+        (taken-on replayOf replay w (drop at s) (a .used) n v [] _ alone-there
+        (ap (λ (u : List ℕ). settled replayOf v (take n u)) (drop-drop (a .used) at s) ∙ taken-tell replayOf replay v (drop i s) next n decided tells))
+
     pub turned-ticks : (code : ℕ) (out : List ℕ) (n : ℕ) (r : Turn) (out' : List ℕ)
         → n ≤ length out → length out' ≡ length out
         → tickedOf code (tickOf v inp) (i + 1 + bodyLen journalKinds (byteAt s i)) out n r out' → (Turned code w s at out n r l' out') × (r .ticked ≡ true → at < r .at)
@@ -179,9 +193,11 @@ module _ (w : Whole) (s : List ℕ) (at : ℕ) (h : at ≤ length s) (a : J.Adva
         within = rw (t .at-is) tick-fits;
         from = omega (arith, t .at-is);
         goes = rw (t .reader, t .run, t .at-is) goes-on;
+        alone = rw (t .reader, t .run, t .at-is) alone-on;
         text = rw (append-nil (eventText code (decided .verdict) (decided .rt))) (t .text);
         fits = put-within out n _ (r .n) out' o (t .text) k;
         stops = λ z. absurd (no (sym (t .ticked) ∙ z));
+        none = λ z. t .none;
       },
       λ z. omega (arith, t .at-is),
     )
@@ -205,6 +221,16 @@ unfolding with-told
 telling-telling es fs a = ap (with-told a) (sym (append-assoc es fs (a .told)))
 
 -- one turn behind others
+alone-further : (w : Whole) (s : List ℕ) (at : ℕ) (v : Whole) (at' : ℕ) (es : List Decided) (at'' : ℕ) (b : Settled Whole Decided Refusal) → at ≤ at' → at' ≤ at''
+    → settled replayOf w (take (at' - at) (drop at s)) ≡ record { state = v; rest = []; told = es; end = waiting } → settled replayOf v (take (at'' - at') (drop at' s)) ≡ b
+    → settled replayOf w (take (at'' - at) (drop at s)) ≡ telling es b
+alone-further w s at v at' es at'' b h k p q =
+    let d : at' - at + (at'' - at') ≡ at'' - at = omega arith in
+    let j : at + (at' - at) ≡ at' = omega arith in
+    ap (λ (n : ℕ). settled replayOf w (take n (drop at s))) (sym d)
+    ∙ taken-on replayOf replay w (drop at s) (at' - at) (at'' - at') v es b p
+    (ap (λ (u : List ℕ). settled replayOf v (take (at'' - at') u)) (drop-drop (at' - at) at s ∙ ap (λ (n : ℕ). drop n s) j) ∙ q)
+
 pub turned-on : (code : ℕ) (w : Whole) (s : List ℕ) (at : ℕ) (out : List ℕ) (n : ℕ) (r : Turn) (l : List Float) (out' : List ℕ) (r' : Turn) (l' : List Float) (out'' : List ℕ)
     → n ≤ length out → Turned code w s at out n r l out' → Turned code (wholeOf (r .reader) (r .run) l) s (r .at) out' (r .n) r' l' out'' → Turned code w s at out n r' l' out''
 turned-on code w s at out n r l out' r' l' out'' h p q = record {
@@ -212,9 +238,11 @@ turned-on code w s at out n r l out' r' l' out'' h p q = record {
   within = q .within;
   from = omega (arith, p .from, q .from);
   goes = p .goes ∙ ap (telling (p .told)) (q .goes) ∙ telling-telling (p .told) (q .told) (settled replayOf (wholeOf (r' .reader) (r' .run) l') (drop (r' .at) s));
+  alone = alone-further w s at _ (r .at) (p .told) (r' .at) _ (p .from) (q .from) (p .alone) (q .alone);
   text = rw (events-append code (p .told) (q .told)) (put-on out n (eventsText code (p .told)) (r .n) out' (eventsText code (q .told)) (r' .n) out'' h (p .text) (q .text));
   fits = q .fits;
   stops = q .stops;
+  none = q .none;
 }
 
 -- there are fewer bytes left, or no more turns
@@ -234,47 +262,64 @@ pub more-is : (t : Bool) (n room : ℕ) (m : Bool) → m ≡ goesOnOf t n room �
 unfolding goesOnOf
 more-is t n room m e y = more-by t n room (leb (n + 19200) room) refl (sym e ∙ y)
 
--- since the first turn
+-- nothing more to do behind a tick: there is no room
+full-by : (t : Bool) (n room : ℕ) (b : Bool) → leb (n + 19200) room ≡ b → cond b t false ≡ false → t ≡ true → room < n + 19200
+full-by t n room true e y z = absurd (let o : _≡_ {A = ℕ} 0 1 = cc in omega arith)
+full-by t n room false e y z = leb-false (n + 19200) room e
+
+full-is : (t : Bool) (n room : ℕ) (m : Bool) → m ≡ goesOnOf t n room → m ≡ false → t ≡ true → room < n + 19200
+unfolding goesOnOf
+full-is t n room m e y z = full-by t n room (leb (n + 19200) room) refl (sym e ∙ y) z
+
+-- ---- from the first byte
+
+-- before the first turn
+abbrev first : Whole → Turn
+first w = record { reader = w .state .reader; run = w .run; at = 0; n = 0; ticked = true; refused = 0 }
+
+turned-none : (code : ℕ) (w : Whole) (s out : List ℕ) → Turned code w s 0 out 0 (first w) (w .state .lists) out
+unfolding eventsText
+turned-none code w s out = record {
+  told = [];
+  within = omega arith;
+  from = omega arith;
+  goes = refl;
+  alone = settled-wait replayOf replay w [] (replay .idle w);
+  text = put-none out 0;
+  fits = omega arith;
+  stops = λ y. absurd (let z : _≡_ {A = ℕ} 0 1 = cc in omega arith);
+  none = λ y. refl;
+}
+
+-- what was played so far. Where there is more to do, there is room; where it is over behind a tick, some bytes were taken, and there is no room.
 pub record Since (code : ℕ) (l₀ : List Float) (s : List ℕ) (out₀ : List ℕ) (t₀ : Turn) (l : List Float) (out : List ℕ) (t : Turn) (more : Bool) : Type 0 where
   pub turned : Turned code (wholeOf (t₀ .reader) (t₀ .run) l₀) s (t₀ .at) out₀ (t₀ .n) t l out
   pub long : length out ≡ length out₀
-  pub further : t .ticked ≡ true → 0 < t .at
-  pub room : more ≡ true → (t .ticked ≡ true) × (t .n + 19200 ≤ length out)
+  pub further : more ≡ false → t .ticked ≡ true → 0 < t .at
+  pub room : more ≡ true → t .n + 19200 ≤ length out
+  pub full : more ≡ false → t .ticked ≡ true → length out < t .n + 19200
 
-pub since-first : (code : ℕ) (w : Whole) (s : List ℕ) (at : ℕ) (o : List ℕ) (n : ℕ) (t : Turn) (l : List Float) (out : List ℕ) (more : Bool)
-    → Turned code w s at o n t l out → (t .ticked ≡ true → at < t .at) → (more ≡ true → (t .ticked ≡ true) × (t .n + 19200 ≤ length out)) → Since code l s out t l out t more
-unfolding eventsText
-since-first code w s at o n t l out more p f y = record {
-  turned = record { told = []; within = p .within; from = omega arith; goes = refl; text = put-none out (t .n); fits = p .fits; stops = p .stops };
+pub since-first : (code : ℕ) (w : Whole) (s : List ℕ) (out : List ℕ) → 19200 ≤ length out → Since code (w .state .lists) s out (first w) (w .state .lists) out (first w) true
+since-first code w s out h = record {
+  turned = turned-none code w s out;
   long = refl;
-  further = λ z. omega (arith, f z);
-  room = y;
+  further = λ y. absurd (let z : _≡_ {A = ℕ} 0 1 = cc in omega arith);
+  room = λ y. h;
+  full = λ y. absurd (let z : _≡_ {A = ℕ} 0 1 = cc in omega arith);
 }
 
 pub since-more : (code : ℕ) (l₀ : List Float) (s : List ℕ) (out₀ : List ℕ) (t₀ : Turn) (l : List Float) (out : List ℕ) (t : Turn) (more : Bool) (r : Turn) (l' : List Float)
     (out' : List ℕ) (more' : Bool) → t₀ .n ≤ length out₀ → length out' ≡ length out → Since code l₀ s out₀ t₀ l out t more
-    → Turned code (wholeOf (t .reader) (t .run) l) s (t .at) out (t .n) r l' out' → (r .ticked ≡ true → t .at < r .at) → (more' ≡ true → (r .ticked ≡ true) × (r .n + 19200 ≤ length out'))
+    → Turned code (wholeOf (t .reader) (t .run) l) s (t .at) out (t .n) r l' out' → (r .ticked ≡ true → t .at < r .at) → more' ≡ goesOnOf (r .ticked) (r .n) (length out')
     → Since code l₀ s out₀ t₀ l' out' r more'
 since-more code l₀ s out₀ t₀ l out t more r l' out' more' h k i q f y = record {
   turned = turned-on code _ s (t₀ .at) out₀ (t₀ .n) t l out r l' out' h (i .turned) q;
   long = k ∙ i .long;
-  further = λ z. omega (arith, f z);
-  room = y;
+  further = λ m z. omega (arith, f z);
+  room = λ m. more-is (r .ticked) (r .n) (length out') more' y m .1;
+  full = full-is (r .ticked) (r .n) (length out') more' y;
 }
 
 -- nothing was done
-pub fed-none : (code : ℕ) (w : Whole) (s out : List ℕ) → length out < 19200
-    → Fed code w s out (record { reader = w .state .reader; run = w .run; at = 0; n = 0; ticked = true; refused = 0 }) (w .state .lists) out
-unfolding eventsText
-fed-none code w s out h = record {
-  turned = record {
-    told = [];
-    within = omega arith;
-    from = omega arith;
-    goes = refl;
-    text = put-none out 0;
-    fits = omega arith;
-    stops = λ y. absurd (let z : _≡_ {A = ℕ} 0 1 = cc in omega arith);
-  };
-  further = λ k y. omega arith;
-}
+pub fed-none : (code : ℕ) (w : Whole) (s out : List ℕ) → length out < 19200 → Fed code w s out (first w) (w .state .lists) out
+fed-none code w s out h = record { turned = turned-none code w s out; further = λ k y. omega arith; full = λ y. h }

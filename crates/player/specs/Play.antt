@@ -2,10 +2,10 @@
 use mathlib.Core.Bool.{Bool, true, false, cond}
 use mathlib.Core.List.{List, [], _∷_, _++_}
 use mathlib.Core.Path.{_≡_}
-use Prim.Native.Nat.{ℕ, _+_, _≤_, _<_}
+use Prim.Native.Nat.{ℕ, _+_, _-_, _≤_, _<_}
 use lib.Dec.{leb}
 use lib.Ieee.{Float}
-use lib.ListN.{length, drop}
+use lib.ListN.{length, take, drop}
 use Rattle.lictor_fuse.specs.declared.tick.Decided.{Decided}
 use Rattle.judge.specs.declared.Refusal.{Refusal}
 use Rattle.judge.specs.Table.{numberOf}
@@ -41,23 +41,29 @@ pub record tickedOf (code : ℕ) (t : Ticked) (at : ℕ) (out : List ℕ) (n : �
   pub run : r .run ≡ t .run
   pub at-is : r .at ≡ at
   pub ticked : r .ticked ≡ true
+  pub none : r .refused ≡ 0
   pub text : Put out n (eventText code (t .verdict) (t .run .rt)) (r .n) out'
 
--- from place `at` of s some records were played: the ticks `told`, whose text stands behind n bytes; and no more is to be had of s, unless the last was a tick
+-- From place `at` of s some records were played: the ticks `told`, whose text stands behind n bytes; and no more is to be had of s, unless the last was a tick. The bytes that were
+-- taken, alone, say which ticks these are and what journal is left.
 pub record Turned (code : ℕ) (w : Whole) (s : List ℕ) (at : ℕ) (out : List ℕ) (n : ℕ) (r : Turn) (l' : List Float) (out' : List ℕ) : Type 0 where
   pub told : List Decided
   pub within : r .at ≤ length s
   pub from : at ≤ r .at
   pub goes : settled replayOf w (drop at s) ≡ telling told (settled replayOf (wholeOf (r .reader) (r .run) l') (drop (r .at) s))
+  pub alone : settled replayOf w (take (r .at - at) (drop at s)) ≡ record { state = wholeOf (r .reader) (r .run) l'; rest = []; told = told; end = waiting }
   pub text : Put out n (eventsText code told) (r .n) out'
   pub fits : r .n ≤ length out'
   pub stops : r .ticked ≡ false → Rests (wholeOf (r .reader) (r .run) l') (drop (r .at) s) (r .refused)
+  pub none : r .ticked ≡ true → r .refused ≡ 0
 
 -- whether there is more to do, and room for its text
 unfoldable pub goesOnOf : Bool → ℕ → ℕ → Bool
 goesOnOf ticked n room = cond (leb (n + 19200) room) ticked false
 
--- from the first byte of s, with the text at the front of `out`; where there is room, and it ends with a tick, some bytes were taken
+-- From the first byte of s, with the text at the front of `out`. It ends behind a tick only where the room for the text of one more is lacking, and where there was room for one,
+-- some bytes were taken. How many are taken before it ends so is the program's choice, since a text may be shorter than the room for it; all else follows from that number.
 pub record Fed (code : ℕ) (w : Whole) (s : List ℕ) (out : List ℕ) (r : Turn) (l' : List Float) (out' : List ℕ) : Type 0 where
   pub turned : Turned code w s 0 out 0 r l' out'
   pub further : 19200 ≤ length out → r .ticked ≡ true → 0 < r .at
+  pub full : r .ticked ≡ true → length out < r .n + 19200

@@ -124,8 +124,15 @@ fn feed_all(
     requires { ⌜ 19200 ≤ length (now out) ⌝ }
     ensures { λ r. ⌜ Fed code (wholeOf rd run (now (lists .entry))) (now (s .entry)) (now (out .entry)) r (now (lists .exit)) (now (out .exit)) ⌝ }
 {
-    let mut t = play_turn(code, rd, run, lists, s, 0, out, 0);
-    let mut more = goes_on(t.ticked, t.n, out.len());
+    let mut t = Turn {
+        reader: rd,
+        run,
+        at: 0,
+        n: 0,
+        ticked: true,
+        refused: 0,
+    };
+    let mut more = true;
     while more {
         let q = t.reader;
         let u = t.run;

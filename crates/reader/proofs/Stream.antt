@@ -196,6 +196,17 @@ module _ {R E H : Type 0} (next : R → List ℕ → Next R E H) (m : Machine ne
   first-is : (r : R) (s : List ℕ) (n p : ℕ) → takes (next r s) ≡ true → size (next r s) ≡ n → next r (take (n + p) s) ≡ next r s
   first-is r s n p y e = ap (next r) (take-add n p s) ∙ rw e at (alone r s (take p (drop n s)) y)
 
+  before-go : (r : R) (s : List ℕ) (r' : R) (n : ℕ) → next r s ≡ go r' n → (p : ℕ) → settled next r (take (n + p) s) ≡ settled next r' (take p (drop n s))
+  before-go r s r' n e p =
+      settled-go r (take (n + p) s) r' n (first-is r s n p (ap takes e) (ap size e) ∙ e)
+      ∙ ap (settled next r') (drop-front s n p (goes r s r' n e .1))
+
+  before-tell : (r : R) (s : List ℕ) (r' : R) (n : ℕ) (t : E) → next r s ≡ tell r' n t → (p : ℕ)
+      → settled next r (take (n + p) s) ≡ telling (t ∷ []) (settled next r' (take p (drop n s)))
+  before-tell r s r' n t e p =
+      settled-tell r (take (n + p) s) r' n t (first-is r s n p (ap takes e) (ap size e) ∙ e)
+      ∙ ap (λ (u : List ℕ). telling (t ∷ []) (settled next r' u)) (drop-front s n p (tells-on r s r' n t e .1))
+
   front-go : (r : R) (s : List ℕ) (r' : R) (n : ℕ) (a : Settled R E H) → next r s ≡ go r' n → Front r' (drop n s) a → Front r s a
   front-go r s r' n a e f =
       let b = goes r s r' n e in
@@ -204,10 +215,7 @@ module _ {R E H : Type 0} (next : R → List ℕ → Next R E H) (m : Machine ne
         place = n + p;
         within = omega (arith, f .within, length-drop n s, b .1);
         rest-is = f .rest-is ∙ drop-drop p n s;
-        before =
-            settled-go r (take (n + p) s) r' n (first-is r s n p (ap takes e) (ap size e) ∙ e)
-            ∙ ap (settled next r') (drop-front s n p (b .1))
-            ∙ f .before;
+        before = before-go r s r' n e p ∙ f .before;
       }
 
   front-tell : (r : R) (s : List ℕ) (r' : R) (n : ℕ) (t : E) (a : Settled R E H) → next r s ≡ tell r' n t → Front r' (drop n s) a → Front r s (telling (t ∷ []) a)
@@ -218,10 +226,7 @@ module _ {R E H : Type 0} (next : R → List ℕ → Next R E H) (m : Machine ne
         place = n + p;
         within = omega (arith, f .within, length-drop n s, b .1);
         rest-is = f .rest-is ∙ drop-drop p n s;
-        before =
-            settled-tell r (take (n + p) s) r' n t (first-is r s n p (ap takes e) (ap size e) ∙ e)
-            ∙ ap (λ (u : List ℕ). telling (t ∷ []) (settled next r' u)) (drop-front s n p (b .1))
-            ∙ ap (telling (t ∷ [])) (f .before);
+        before = before-tell r s r' n t e p ∙ ap (telling (t ∷ [])) (f .before);
       }
 
   front-by : (f : ℕ) → ((r : R) (s : List ℕ) → length s < f → Front r s (settle next f r s))
@@ -317,6 +322,45 @@ module _ {R E H : Type 0} (next : R → List ℕ → Next R E H) (m : Machine ne
   pub ahead : (r : R) (s : List ℕ) → Ahead r s (advanced next r s)
   unfolding advanced
   ahead r s = ahead-at (suc (length s)) r s (omega arith)
+
+  -- ---- the bytes up to there, alone
+
+  -- they were taken, with these told, and nothing is left of them
+  abbrev pub all-taken : R → List E → Settled R E H
+  all-taken r es = record { state = r; rest = []; told = es; end = waiting }
+
+  taken-none : (r : R) → settled next r [] ≡ all-taken r []
+  taken-none r = settled-wait r [] (m .idle r)
+
+  taken-by : (f : ℕ) → ((r : R) (s : List ℕ) → length s < f → settled next r (take (advance next f r s .used) s) ≡ all-taken (advance next f r s .state) [])
+      → (r : R) (s : List ℕ) → length s ≤ f → (x : Next R E H) → next r s ≡ x
+      → settled next r (take (advance next (suc f) r s .used) s) ≡ all-taken (advance next (suc f) r s .state) []
+  taken-by f ih r s p wait e = rw (turn-is f r s wait e) (taken-none r)
+  taken-by f ih r s p (halt h) e = rw (turn-is f r s (halt h) e) (taken-none r)
+  taken-by f ih r s p (go r' n) e =
+      let b = goes r s r' n e in
+      rw (turn-is f r s (go r' n) e) (before-go r s r' n e (advance next f r' (drop n s) .used) ∙ ih r' (drop n s) (omega (arith, length-drop n s)))
+  taken-by f ih r s p (tell r' n t) e = rw (turn-is f r s (tell r' n t) e) (taken-none r)
+
+  taken-at : (f : ℕ) (r : R) (s : List ℕ) → length s < f → settled next r (take (advance next f r s .used) s) ≡ all-taken (advance next f r s .state) []
+  taken-at zero r s p = absurd (omega arith)
+  taken-at (suc f) r s p = taken-by f (λ r' u q. taken-at f r' u q) r s (omega arith) (next r s) refl
+
+  -- those up to the first thing told
+  pub taken-advanced : (r : R) (s : List ℕ) → settled next r (take (advanced next r s .used) s) ≡ all-taken (advanced next r s .state) []
+  unfolding advanced
+  taken-advanced r s = taken-at (suc (length s)) r s (omega arith)
+
+  -- those of one record that tells something
+  pub taken-tell : (r : R) (s : List ℕ) (r' : R) (n : ℕ) (t : E) → next r s ≡ tell r' n t → settled next r (take n s) ≡ all-taken r' (t ∷ [])
+  taken-tell r s r' n t e =
+      let z : n + 0 ≡ n = omega arith in
+      ap (λ (k : ℕ). settled next r (take k s)) (sym z) ∙ before-tell r s r' n t e 0 ∙ ap (telling (t ∷ [])) (taken-none r')
+
+  -- and what stands behind them
+  pub taken-on : (r : R) (s : List ℕ) (n k : ℕ) (r' : R) (es : List E) (a : Settled R E H)
+      → settled next r (take n s) ≡ all-taken r' es → settled next r' (take k (drop n s)) ≡ a → settled next r (take (n + k) s) ≡ telling es a
+  taken-on r s n k r' es a p q = ap (settled next r) (take-add n k s) ∙ joined r (take n s) (take k (drop n s)) ∙ rw p (ap (telling es) q)
 
   -- ---- from place to place
 

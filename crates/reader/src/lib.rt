@@ -9,7 +9,7 @@ ghost use Rattle.lictor_core.specs.declared.ack.MaybeAck.the-variants as MaybeA
 ghost use Rattle.lictor_core.specs.declared.chunk.MaybeChunk.the-variants as MaybeChunk;
 ghost use Rattle.judge.specs.Causes.{capacities, countOf};
 ghost use Rattle.judge.specs.Table.{isCut};
-ghost use Rattle.reader.specs.State.{ackWaits, headWaits, valueWaits, stored, outcomeWaits, settingsCame, emptied as State·emptied, startReader, inputOf};
+ghost use Rattle.reader.specs.State.{bases, ackWaits, headWaits, valueWaits, stored, outcomeWaits, settingsCame, emptied as State·emptied, startReader, inputOf};
 ghost use Rattle.reader.specs.Reading.{lookAs, lookOf, readOf, listsAfter};
 ghost use Rattle.reader.specs.Steps.{Room, isSmall, Added, TookOne, Collected, Instructs, Turned};
 use judge::Judged;
@@ -64,8 +64,18 @@ pub struct Progress {
     pub what: What,
 }
 
-// Where each list begins in the lent memory.
-const BASE: [usize; 5] = [0, 512, 528, 544, 560];
+// Where a list begins in the lent memory, 0 for one that is not listed.
+pub fn base(c: usize) -> usize
+    ensures { λ r. ⌜ r ≡ getD bases c 0 ⌝ }
+{
+    match c {
+        1 => 512,
+        2 => 528,
+        3 => 544,
+        4 => 560,
+        _ => 0,
+    }
+}
 
 fn is_cut(r: Refusal) -> bool
     ensures { λ t. ⌜ t ≡ isCut r ⌝ }
@@ -149,7 +159,7 @@ fn store(lists: &mut [f64; 576], seen: Seen, c: u8, x: f64) -> usize
 {
     let i = c as usize;
     let counts = seen.counts;
-    let at = BASE[i] + counts[i];
+    let at = base(i) + counts[i];
     lists[at] = x;
     at
 }
@@ -244,7 +254,12 @@ fn collect(w: Waiting, lists: &mut [f64; 576], s: &[u8], at: usize) -> Took
     requires { ⌜ at ≤ length (now s) ⌝ }
     ensures { λ r. ⌜ Collected w (now (lists .entry)) (now (s .entry)) at r (now (lists .exit)) ⌝ }
 {
-    let mut t = take_one(w, lists, s, at);
+    let mut t = Took {
+        waiting: w,
+        at,
+        look: Look::Waits,
+        more: true,
+    };
     while t.more {
         let next = t.waiting;
         let i = t.at;
@@ -461,7 +476,12 @@ pub fn start() -> Reader
 pub fn read(rd: Reader, lists: &mut [f64; 576], s: &[u8]) -> Progress
     ensures { λ r. ⌜ (r ≡ readOf (record { reader = rd; lists = now (lists .entry) }) (now (s .entry))) × (now (lists .exit) ≡ listsAfter (record { reader = rd; lists = now (lists .entry) }) (now (s .entry))) ⌝ }
 {
-    let mut t = take_turn(rd, lists, s, 0);
+    let mut t = Turn {
+        reader: rd,
+        at: 0,
+        what: What::Waits,
+        more: true,
+    };
     while t.more {
         let next = t.reader;
         let i = t.at;

@@ -1,6 +1,6 @@
 use borrow.Author.Needs.{needs}
-use Prim.Native.Nat.{ℕ, _+_, _-_, min}
-use mathlib.Core.Path.{ap, _∙_}
+use Prim.Native.Nat.{ℕ, min}
+use mathlib.Core.Path.{ap}
 use native.Mathlib.Nat.{add-sub-cancel-left}
 use native.Mathlib.Omega.{arith}
 use lib.ListN.{getD, take, drop}
@@ -16,26 +16,22 @@ mul-least c = search needs
 array-read-least : tie.Need-array-read-least
 array-read-least c = search needs
 
-mul-least-2 : tie.Need-mul-least-2
-mul-least-2 c = search needs
-
-array-read-least-2 : tie.Need-array-read-least-2
-array-read-least-2 c = search needs
+capacity-requires : tie.Need-capacity-requires
+capacity-requires c κs = search needs
 
 least-requires : tie.Need-least-requires
 least-requires c κs = search needs
 
-mul-a : tie.Need-mul-a
-mul-a c = search needs
-
-array-read-a : tie.Need-array-read-a
-array-read-a c = search needs
+base-requires : tie.Need-base-requires
+base-requires c κs = search needs
 
 add-e : tie.Need-add-e
-add-e c = let a = c .before .before .before .args in omega (arith, list-fits (a .c) (c .before .before .before .pre .0), c .least .ensures)
+add-e c =
+    let s = c .before .before .before .before .before in omega (arith, c .base .ensures, c .before .least .ensures, c .before .before .capacity .ensures, list-fits (s .args .c) (s .pre .0))
 
 mul-result : tie.Need-mul-result
-mul-result c = let a = c .before .before .before .args in omega (arith, list-fits (a .c) (c .before .before .before .pre .0), c .least .ensures)
+mul-result c =
+    let s = c .before .before .before .before .before in omega (arith, c .base .ensures, c .before .least .ensures, c .before .before .capacity .ensures, list-fits (s .args .c) (s .pre .0))
 
 sub-result : tie.Need-sub-result
 sub-result c = search needs
@@ -44,16 +40,16 @@ part-result-start : tie.Need-part-result-start
 part-result-start c = search needs
 
 part-result-end : tie.Need-part-result-end
-part-result-end c = let a = c .before .before .before .args in omega (arith, list-fits (a .c) (c .before .before .before .pre .0), c .least .ensures)
+part-result-end c =
+    let s = c .before .before .before .before .before in omega (arith, c .base .ensures, c .before .least .ensures, c .before .before .capacity .ensures, list-fits (s .args .c) (s .pre .0))
 
 returns : tie.Need-returns
 unfolding valuesOf
 returns c =
-    let a = c .before .before .before .before .args in
-    let l = a .lists .now in
+    let a = c .before .before .before .before .before .before .args in
     let base = getD bases (a .c) 0 in
-    ap (λ (n : ℕ). take (base + n - base) (drop base l)) (c .before .least .ensures)
-    ∙ ap (λ (n : ℕ). take n (drop base l)) (add-sub-cancel-left base (min (countOf (a .seen) (a .c)) (getD capacities (a .c) 0)))
+    rw (c .before .base .ensures, c .before .before .least .ensures, c .before .before .before .capacity .ensures)
+    (ap (λ (n : ℕ). take n (drop base (a .lists .now))) (add-sub-cancel-left base (min (countOf (a .seen) (a .c)) (getD capacities (a .c) 0))))
 
 pub values-spec : {M : Type 1} → statement M
 values-spec =
@@ -61,11 +57,9 @@ values-spec =
     (tie.spec
     mul-least
     array-read-least
-    mul-least-2
-    array-read-least-2
+    capacity-requires
     least-requires
-    mul-a
-    array-read-a
+    base-requires
     add-e
     mul-result
     sub-result

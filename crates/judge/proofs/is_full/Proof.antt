@@ -1,12 +1,11 @@
 -- A list that is not listed has no room.
-use Prim.Native.Nat.{ℕ, _≤_}
-use mathlib.Core.Path.{ap, sym}
+use Prim.Native.Nat.{_≤_}
+use mathlib.Core.Path.{refl, sym}
 use borrow.Author.Tests.{le-leb}
 use native.Mathlib.Omega.{arith}
-use lib.Dec.{leb}
 use lib.ListN.{getD, List·getD-eq-default}
 use Rattle.bytes_le.specs.Little.{byteAt}
-use Rattle.judge.specs.Causes.{capacities, countOf, listFull}
+use Rattle.judge.specs.Causes.{capacities, listFull}
 use borrow.Author.Needs.{needs}
 use Rattle.judge.proofs.is_full.Statement.{statement}
 use Rattle.judge.proofs.is_full.Tie as tie
@@ -17,21 +16,18 @@ byte-requires c κs = search needs
 cast-i : tie.Need-cast-i
 cast-i c = search needs
 
+capacity-requires : tie.Need-capacity-requires
+capacity-requires c κs = search needs
+
 mul-result : tie.Need-mul-result
 mul-result c = search needs
 
 array-read-result : tie.Need-array-read-result
 array-read-result c = search needs
 
-mul-result-2 : tie.Need-mul-result-2
-mul-result-2 c = search needs
-
-array-read-result-2 : tie.Need-array-read-result-2
-array-read-result-2 c = search needs
-
 returns : tie.Need-returns
 unfolding listFull
-returns c = ap (λ (n : ℕ). leb (getD capacities n 0) (countOf (c .before .before .before .before .args .seen) n)) (c .before .byte .ensures)
+returns c = rw (c .capacity .ensures, c .before .before .byte .ensures) refl
 
 returns-2 : tie.Need-returns-2
 unfolding listFull
@@ -46,9 +42,8 @@ is-full-spec =
     (tie.spec
     byte-requires
     cast-i
+    capacity-requires
     mul-result
     array-read-result
-    mul-result-2
-    array-read-result-2
     returns
     returns-2)

@@ -28,6 +28,7 @@ returns c =
       run = ap (λ (x : Ticked). x .run) t;
       at-is = refl;
       ticked = refl;
+      none = refl;
       text = rw t at (put-is _ _ _ (omega arith) _ _ (m .0) (m .1));
     }
 

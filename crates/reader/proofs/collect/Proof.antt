@@ -1,12 +1,14 @@
 -- Each turn takes one small record, or finds that there is none.
 use Prim.Native.Nat.{ℕ, _+_, _-_, _≤_}
+use native.Mathlib.Omega.{arith}
 use mathlib.Core.Path.{_≡_}
-use mathlib.Core.Bool.{false, cond}
+use mathlib.Core.Bool.{true, false, cond}
 use mathlib.Core.List.{List}
 use lib.ListN.{length, drop}
 use lib.Ieee.{Float}
 use Rattle.lictor_core.specs.declared.outcome.Outcome.{Outcome}
 use Rattle.reader.specs.declared.Waiting.{Waiting}
+use Rattle.reader.specs.declared.Look.the-variants as L
 use Rattle.reader.specs.declared.Took.{Took}
 use Rattle.reader.specs.Stream.{Reached}
 use Rattle.reader.specs.Reading.{lookOf, nextOf}
@@ -17,17 +19,27 @@ use Rattle.reader.proofs.Steps.{took-reached, took-within, took-look, t
 use Rattle.reader.proofs.collect.Statement.{statement}
 use Rattle.reader.proofs.collect.Tie as tie
 
--- what was taken since the first record, and what stands there where nothing more is taken
+-- before the first record
+abbrev first : Waiting → ℕ → Took
+first w at = record { waiting = w; at = at; look = L.Waits; more = true }
+
+-- what was taken so far, and what stands there where nothing more is taken
 record Kept (l₀ : List Float) (s : List ℕ) (t₀ : Took) (l : List Float) (t : Took) : Type 0 where
   pub reached : (o : Outcome) → Reached nextOf (stateOf (t₀ .waiting) o l₀) s (t₀ .at) (stateOf (t .waiting) o l) (t .at)
   pub within : t .at ≤ length s
   pub other : t .more ≡ false → looksSmall (t .look) ≡ false
   pub look : t .more ≡ false → t .look ≡ lookOf (t .waiting .seen) (drop (t .at) s)
 
-kept-first : (w : Waiting) (l : List Float) (s : List ℕ) (at : ℕ) → at ≤ length s → (r : Took) (l' : List Float) → TookOne w l s at r l' → Kept l' s r l' r
-kept-first w l s at h r l' t =
-    let v = took-within w l s at h r l' t in
-    record { reached = λ o. reached-none nextOf machine (stateOf (r .waiting) o l') s (r .at) v; within = v; other = t .other; look = took-look w l s at h r l' t }
+kept-first : (w : Waiting) (l : List Float) (s : List ℕ) (at : ℕ) → at ≤ length s → Kept l s (first w at) l (first w at)
+kept-first w l s at h = record {
+  reached = λ o. reached-none nextOf machine (stateOf w o l) s at h;
+  within = h;
+  other = λ y. absurd (no y);
+  look = λ y. absurd (no y);
+}
+  where
+    no : true ≡ false → ⊥
+    no y = let f : _≡_ {A = ℕ} 0 1 = cc in omega arith
 
 kept-more : (l₀ : List Float) (s : List ℕ) (t₀ : Took) (l : List Float) (t : Took) → Kept l₀ s t₀ l t → (r : Took) (l' : List Float) → TookOne (t .waiting) l s (t .at) r l'
     → Kept l₀ s t₀ l' r
@@ -38,36 +50,30 @@ kept-more l₀ s t₀ l t k r l' n = record {
   look = took-look (t .waiting) l s (t .at) (k .within) r l' n;
 }
 
-collected : (w : Waiting) (l : List Float) (s : List ℕ) (at : ℕ) → at ≤ length s → (t₀ : Took) (l₀ : List Float) → TookOne w l s at t₀ l₀ → (l' : List Float) (t : Took)
-    → Kept l₀ s t₀ l' t → t .more ≡ false → Collected w l s at t l'
-collected w l s at h t₀ l₀ n l' t k y =
-    record { reached = λ o. reached-on nextOf machine (took-reached w l s at h t₀ l₀ n o) (k .reached o); other = k .other y; look = k .look y }
-
 abbrev Inv-loop : tie.InvT-loop
 Inv-loop l₀ s at t₀ l t = Kept l₀ s t₀ l t
 
 abbrev μ-loop : tie.MeasureT-loop
 μ-loop l₀ s at t₀ l t = length s - t .at + cond (t .more) 1 0
 
+loop-holds : tie.Need-loop-holds Inv-loop μ-loop
+loop-holds c = kept-first _ _ _ _ (c .before .pre)
+
 take-one-requires : tie.Need-take-one-requires Inv-loop μ-loop
 take-one-requires c κs = tt
-
-loop-holds : tie.Need-loop-holds Inv-loop μ-loop
-loop-holds c = kept-first _ _ _ _ (c .before .before .before .pre) _ _ (c .take-one .ensures)
-
-take-one-requires-2 : tie.Need-take-one-requires-2 Inv-loop μ-loop
-take-one-requires-2 c κs = tt
 
 loop-less : tie.Need-loop-less Inv-loop μ-loop
 loop-less c =
     let k = c .before .before .before .before .loop .inv in
-    rw (c .before .before .before .loop-test .taken) (took-less _ _ _ _ (k .within) _ _ (c .take-one2 .ensures))
+    rw (c .before .before .before .loop-test .taken) (took-less _ _ _ _ (k .within) _ _ (c .take-one .ensures))
 
 loop-again : tie.Need-loop-again Inv-loop μ-loop
-loop-again c = kept-more _ _ _ _ _ (c .before .before .before .before .loop .inv) _ _ (c .take-one2 .ensures)
+loop-again c = kept-more _ _ _ _ _ (c .before .before .before .before .loop .inv) _ _ (c .take-one .ensures)
 
 returns : tie.Need-returns Inv-loop μ-loop
-returns c = collected _ _ _ _ (c .before .before .before .before .before .pre) _ _ (c .before .before .take-one .ensures) _ _ (c .before .loop .inv) (c .loop-test .left)
+returns c =
+    let k = c .before .loop .inv in
+    record { reached = k .reached; other = k .other (c .loop-test .left); look = k .look (c .loop-test .left) }
 
 pub collect-spec : {M : Type 1} → statement M
 collect-spec =
@@ -75,9 +81,8 @@ collect-spec =
     (tie.spec
     Inv-loop
     μ-loop
-    take-one-requires
     loop-holds
-    take-one-requires-2
+    take-one-requires
     loop-less
     loop-again
     returns)

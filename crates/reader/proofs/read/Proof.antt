@@ -1,14 +1,16 @@
 -- Turn by turn, up to what the reader comes to.
 use Prim.Native.Nat.{ℕ, _+_, _-_}
 use mathlib.Core.Path.{_≡_, sym, ap}
-use mathlib.Core.Bool.{false, cond}
+use mathlib.Core.Bool.{true, false, cond}
 use mathlib.Core.List.{List}
 use native.Mathlib.Omega.{arith}
 use lib.ListN.{length, drop}
 use lib.Ieee.{Float}
 use Rattle.judge.specs.declared.Refusal.{Refusal}
 use Rattle.reader.specs.declared.Progress.{Progress}
+use Rattle.reader.specs.declared.Reader.{Reader}
 use Rattle.reader.specs.declared.Turn.{Turn}
+use Rattle.reader.specs.declared.What.the-variants.{Waits}
 use Rattle.reader.specs.State.{State}
 use Rattle.reader.specs.Stream.{Advanced, Reached, goesOn}
 use Rattle.reader.specs.Reading.{Instruction, nextOf, whatOf, readOf, listsAfter}
@@ -22,24 +24,35 @@ use Rattle.reader.proofs.read.Tie as tie
 abbrev at-turn : Turn → List Float → State
 at-turn t l = record { reader = t .reader; lists = l }
 
--- what was taken since the first turn, and what stands there where nothing more is taken
+-- before the first turn
+abbrev first : Reader → Turn
+first rd = record { reader = rd; at = 0; what = Waits; more = true }
+
+-- what was taken so far, and what stands there where nothing more is taken
 record Kept (l₀ : List Float) (s : List ℕ) (t₀ : Turn) (l : List Float) (t : Turn) : Type 0 where
   pub reached : Reached nextOf (at-turn t₀ l₀) s (t₀ .at) (at-turn t l) (t .at)
   pub stops : t .more ≡ false → goesOn (nextOf (at-turn t l) (drop (t .at) s)) ≡ false
   pub what : t .more ≡ false → t .what ≡ whatOf (nextOf (at-turn t l) (drop (t .at) s))
 
-kept-first : (st : State) (s : List ℕ) (at : ℕ) (r : Turn) (l : List Float) → Turned st s at r l → Kept l s r l r
-kept-first st s at r l t = record { reached = reached-none nextOf machine (at-turn r l) s (r .at) (t .reached .within); stops = t .stops; what = t .what }
+kept-first : (rd : Reader) (s : List ℕ) (l : List Float) → Kept l s (first rd) l (first rd)
+kept-first rd s l = record {
+  reached = reached-none nextOf machine (at-turn (first rd) l) s 0 (omega arith);
+  stops = λ y. absurd (no y);
+  what = λ y. absurd (no y);
+}
+  where
+    no : true ≡ false → ⊥
+    no y = let f : _≡_ {A = ℕ} 0 1 = cc in omega arith
 
 kept-more : (l₀ : List Float) (s : List ℕ) (t₀ : Turn) (l : List Float) (t : Turn) → Kept l₀ s t₀ l t → (r : Turn) (l' : List Float) → Turned (at-turn t l) s (t .at) r l'
     → Kept l₀ s t₀ l' r
 kept-more l₀ s t₀ l t k r l' n = record { reached = reached-on nextOf machine (k .reached) (n .reached); stops = n .stops; what = n .what }
 
-finished : (st : State) (s : List ℕ) (t₀ : Turn) (l₀ : List Float) → Turned st s 0 t₀ l₀ → (l : List Float) (t : Turn) → Kept l₀ s t₀ l t → t .more ≡ false
-    → (_≡_ {A = Progress} (record { reader = t .reader; used = t .at; what = t .what }) (readOf st s)) × (l ≡ listsAfter st s)
+finished : (rd : Reader) (s : List ℕ) (l₀ l : List Float) (t : Turn) → Kept l₀ s (first rd) l t → t .more ≡ false
+    → (_≡_ {A = Progress} (record { reader = t .reader; used = t .at; what = t .what }) (readOf (at-turn (first rd) l₀) s)) × (l ≡ listsAfter (at-turn (first rd) l₀) s)
 unfolding readOf listsAfter
-finished st s t₀ l₀ n l t k y =
-    let e = reached-end nextOf machine st s (at-turn t l) (t .at) (reached-on nextOf machine (n .reached) (k .reached)) (k .stops y) in (
+finished rd s l₀ l t k y =
+    let e = reached-end nextOf machine (at-turn (first rd) l₀) s (at-turn t l) (t .at) (k .reached) (k .stops y) in (
       rw (e, k .what y),
       ap (λ (a : Advanced State Instruction Refusal). a .state .lists) (sym e),
     )
@@ -50,23 +63,20 @@ Inv-loop l₀ s t₀ l t = Kept l₀ s t₀ l t
 abbrev μ-loop : tie.MeasureT-loop
 μ-loop l₀ s t₀ l t = length s - t .at + cond (t .more) 1 0
 
-take-turn-requires : tie.Need-take-turn-requires Inv-loop μ-loop
-take-turn-requires c κs = omega arith
-
 loop-holds : tie.Need-loop-holds Inv-loop μ-loop
-loop-holds c = kept-first _ _ _ _ _ (c .take-turn .ensures)
+loop-holds c = kept-first _ _ _
 
-take-turn-requires-2 : tie.Need-take-turn-requires-2 Inv-loop μ-loop
-take-turn-requires-2 c κs = c .before .before .before .loop .inv .reached .within
+take-turn-requires : tie.Need-take-turn-requires Inv-loop μ-loop
+take-turn-requires c κs = c .before .before .before .loop .inv .reached .within
 
 loop-less : tie.Need-loop-less Inv-loop μ-loop
-loop-less c = rw (c .before .before .before .loop-test .taken) (turn-less _ _ _ _ _ (c .take-turn2 .ensures))
+loop-less c = rw (c .before .before .before .loop-test .taken) (turn-less _ _ _ _ _ (c .take-turn .ensures))
 
 loop-again : tie.Need-loop-again Inv-loop μ-loop
-loop-again c = kept-more _ _ _ _ _ (c .before .before .before .before .loop .inv) _ _ (c .take-turn2 .ensures)
+loop-again c = kept-more _ _ _ _ _ (c .before .before .before .before .loop .inv) _ _ (c .take-turn .ensures)
 
 returns : tie.Need-returns Inv-loop μ-loop
-returns c = finished _ _ _ _ (c .before .before .before .take-turn .ensures) _ _ (c .before .before .loop .inv) (c .before .loop-test .left)
+returns c = finished _ _ _ _ _ (c .before .before .loop .inv) (c .before .loop-test .left)
 
 pub read-spec : {M : Type 1} → statement M
 read-spec =
@@ -74,9 +84,8 @@ read-spec =
     (tie.spec
     Inv-loop
     μ-loop
-    take-turn-requires
     loop-holds
-    take-turn-requires-2
+    take-turn-requires
     loop-less
     loop-again
     returns)
