@@ -11,7 +11,7 @@ new-requires c κs = search needs
 
 returns : tie.Need-returns
 unfolding begunOf
-returns c = cc
+returns c = rw (c .new .ensures, c .before .config .ensures)
 
 pub begin-spec : {M : Type 1} → statement M
 begin-spec = tie.close (tie.spec config-requires new-requires returns)

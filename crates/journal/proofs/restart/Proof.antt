@@ -8,7 +8,7 @@ reset-requires c κs = search needs
 
 returns : tie.Need-returns
 unfolding restartedOf
-returns c = cc
+returns c = rw (c .reset .ensures)
 
 pub restart-spec : {M : Type 1} → statement M
 restart-spec = tie.close (tie.spec reset-requires returns)

@@ -14,7 +14,7 @@ begin-requires c κs = search needs
 
 returns : tie.Need-returns
 unfolding startRun
-returns c = cc
+returns c = rw (c .begin .ensures, c .before .read-settings .ensures)
 
 pub start-spec : {M : Type 1} → statement M
 start-spec =

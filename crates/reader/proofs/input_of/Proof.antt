@@ -11,7 +11,7 @@ ack-of-requires c κs = search needs
 
 returns : tie.Need-returns
 unfolding inputOf
-returns c = cc
+returns c = rw (c .ack-of .ensures, c .before .chunk-of .ensures)
 
 pub input-of-spec : {M : Type 1} → statement M
 input-of-spec = tie.close (tie.spec chunk-of-requires ack-of-requires returns)

@@ -14,7 +14,7 @@ read-outcome-requires c κs = search needs
 
 returns : tie.Need-returns
 unfolding startReader ackOf headOf decisionOf leAt
-returns c = cc
+returns c = rw (c .read-outcome .ensures)
 
 pub start-spec : {M : Type 1} → statement M
 start-spec = tie.close (tie.spec slice-aggregate-read-outcome read-outcome-requires returns)

@@ -20,7 +20,7 @@ le32-requires c κs = search needs
 
 returns : tie.Need-returns
 unfolding ackOf
-returns c = cc
+returns c = rw (c .le32 .ensures, c .before .le64 .ensures, c .before .before .byte2 .ensures, c .before .before .before .decision-of .ensures, c .before .before .before .before .byte .ensures)
 
 pub read-ack-spec : {M : Type 1} → statement M
 read-ack-spec =

@@ -11,7 +11,7 @@ f64-at-requires c κs = search needs
 
 returns : tie.Need-returns
 unfolding calibrationOf
-returns c = cc
+returns c = rw (c .f64-at .ensures, c .before .le32 .ensures)
 
 pub read-calibration-spec : {M : Type 1} → statement M
 read-calibration-spec = tie.close (tie.spec le32-requires f64-at-requires returns)

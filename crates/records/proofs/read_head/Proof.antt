@@ -20,7 +20,7 @@ le16-requires-3 c κs = search needs
 
 returns : tie.Need-returns
 unfolding headOf
-returns c = cc
+returns c = rw (c .le163 .ensures, c .before .le162 .ensures, c .before .before .le16 .ensures, c .before .before .before .le322 .ensures, c .before .before .before .before .le32 .ensures)
 
 pub read-head-spec : {M : Type 1} → statement M
 read-head-spec =

@@ -44,7 +44,7 @@ byte-requires-6 c κs = search needs
 
 returns : tie.Need-returns
 unfolding limitsOf
-returns c = cc
+returns c = rw (c .byte6 .ensures, c .before .le32 .ensures, c .before .before .le164 .ensures, c .before .before .before .byte5 .ensures, c .before .before .before .before .le163 .ensures, c .before .before .before .before .before .le162 .ensures, c .before .before .before .before .before .before .f64-at2 .ensures, c .before .before .before .before .before .before .before .byte4 .ensures, c .before .before .before .before .before .before .before .before .le16 .ensures, c .before .before .before .before .before .before .before .before .before .byte3 .ensures, c .before .before .before .before .before .before .before .before .before .before .byte2 .ensures, c .before .before .before .before .before .before .before .before .before .before .before .f64-at .ensures, c .before .before .before .before .before .before .before .before .before .before .before .before .byte .ensures)
 
 pub read-limits-spec : {M : Type 1} → statement M
 read-limits-spec =

@@ -17,7 +17,7 @@ le32-requires-2 c κs = search needs
 
 returns : tie.Need-returns
 unfolding scoresOf
-returns c = cc
+returns c = rw (c .le322 .ensures, c .before .le32 .ensures, c .before .before .f64-at .ensures, c .before .before .before .twelve .ensures)
 
 pub read-scores-spec : {M : Type 1} → statement M
 read-scores-spec =

@@ -26,7 +26,7 @@ set-requires-2 c κs = search needs
 
 returns : tie.Need-returns
 unfolding tickOf
-returns c = cc
+returns c = rw (c .set2 .ensures, c .before .byte3 .ensures, c .before .before .set .ensures, c .before .before .before .byte2 .ensures, c .before .before .before .before .byte .ensures, c .before .before .before .before .before .le16 .ensures, c .before .before .before .before .before .before .le32 .ensures)
 
 pub read-tick-spec : {M : Type 1} → statement M
 read-tick-spec =
