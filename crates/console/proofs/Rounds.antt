@@ -4,10 +4,9 @@ use mathlib.Core.Path.{_≡_, refl, sym, ap, ap₂, _∙_}
 use mathlib.Core.List.{List, [], _∷_, _++_, append-nil, append-assoc}
 use mathlib.Core.Bool.{Bool, true, false}
 use native.Mathlib.Omega.{arith}
-use lib.ListN.{length, take, drop, length-append, length-drop, length-take}
-use lib.Seq.{take-add, drop-at, take-at, length-take-le, take-length, take-paste}
+use lib.ListN.{length, take, drop, length-append, length-drop}
+use lib.Seq.{take-at, length-take-le, take-length, take-paste}
 use lib.Ieee.{Float}
-use borrow.Rule.Slice.PartMut.{putMid}
 use Rattle.lictor_fuse.specs.declared.tick.Decided.{Decided}
 use Rattle.judge.specs.declared.Refusal.{Refusal}
 use Rattle.judge.specs.Table.{numberOf}
@@ -20,58 +19,26 @@ use Rattle.journal.specs.Journal.{Whole, wholeOf, replayOf}
 use Rattle.journal.proofs.Replay.{replay}
 use Rattle.journal.proofs.Ends.{waits-as}
 use Rattle.render.specs.Text.{Put}
+use Rattle.intake.specs.Intake.{movedDown, Came}
 use Rattle.player.specs.declared.Turn.{Turn}
 use Rattle.console.specs.declared.Round.{Round}
 use Rattle.player.specs.Play.{eventsText, numberAt, Rests, Turned, Fed}
-use Rattle.console.specs.Console.{Taken, Came, Rounded}
+use Rattle.console.specs.Console.{Taken, Rounded}
 use Rattle.player.proofs.Turns.{telling-telling}
 
 -- ---- memory
 
--- the first e bytes, without the first u of them
-pub drop-take : (u e : ℕ) (l : List ℕ) → u ≤ e → e ≤ length l → drop u (take e l) ≡ take (e - u) (drop u l)
-drop-take u e l p q =
-    let x : e ≡ u + (e - u) = omega arith in
-    let s : take e l ≡ take u l ++ take (e - u) (drop u l) = ap (λ (k : ℕ). take k l) x ∙ take-add u (e - u) l in
-    ap (drop u) s ∙ drop-at (take u l) (take (e - u) (drop u l)) u (length-take-le u l (omega arith))
-
--- memory b, of which a read changed the bytes from `have` on
-module _ (b : List ℕ) (have : ℕ) (h : have ≤ length b) (y : List ℕ) (l : length y ≡ length (take (length b - have) (drop have b))) where
-  abbrev pub after-read : List ℕ
-  after-read = putMid have (length b - have) b y
-
-  pub read-long : length after-read ≡ length b
-  read-long =
-      omega (
-        arith,
-        length-append (take have b) (y ++ drop (length b - have) (drop have b)),
-        length-append y (drop (length b - have) (drop have b)),
-        length-take-le have b h,
-        l,
-        length-take (length b - have) (drop have b),
-        length-drop have b,
-        length-drop (length b - have) (drop have b),
-      )
-
-  read-front : take have after-read ≡ take have b
-  read-front = take-at (take have b) (y ++ drop (length b - have) (drop have b)) have (length-take-le have b h)
-
-  pub came-is : (n : ℕ) → n ≤ length b - have → Came (take have b) (have + n) after-read
-  came-is n k =
-      let t : take (have + n) after-read ≡ take have b ++ take n (drop have after-read)
-      = take-add have n after-read ∙ ap (λ (x : List ℕ). x ++ take n (drop have after-read)) read-front in
-      record {
-        came = take n (drop have after-read);
-        within = omega (arith, read-long);
-        count = sym (length-take-le (have + n) after-read (omega (arith, read-long))) ∙ ap length t;
-        bytes = t;
-      }
+-- the bytes of a part that were moved down stand at the front
+moved-front : (at have : ℕ) (b : List ℕ) → have ≤ length b → take (have - at) (movedDown at have b) ≡ drop at (take have b)
+unfolding movedDown
+moved-front at have b h =
+    let s = drop at (take have b) in
+    take-at s (drop (length s) b) (have - at) (omega (arith, length-drop at (take have b), length-take-le have b h))
 
 pub taken-is : (code : ℕ) (w : Whole) (b : List ℕ) (have : ℕ) (out : List ℕ) (r : Turn) (l' : List Float) (b' out' : List ℕ) → have ≤ length b → 19200 ≤ length out
-    → Fed code w (take have b) out r l' out' → take (have - r .at) b' ≡ take (have - r .at) (drop (r .at) b) → Taken code w (take have b) out r l' b' out'
+    → Fed code w (take have b) out r l' out' → b' ≡ movedDown (r .at) have b → Taken code w (take have b) out r l' b' out'
 taken-is code w b have out r l' b' out' h o t m =
-    let k = length-take-le have b h in
-    record { turned = t .turned; further = t .further o; moved = rw k (m ∙ sym (drop-take (r .at) have b (omega (arith, t .turned .within)) h)) }
+    record { turned = t .turned; further = t .further o; moved = rw (length-take-le have b h, m) (moved-front (r .at) have b h) }
 
 -- ---- where a journal rests
 

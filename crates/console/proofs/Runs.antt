@@ -1,6 +1,6 @@
 -- A run: what was read so far, and how it ends.
 use Prim.Native.Nat.{ℕ, zero, suc, _+_, _-_, _*_, _≤_, _<_}
-use mathlib.Core.Path.{_≡_, refl, sym, ap, subst, _∙_}
+use mathlib.Core.Path.{_≡_, refl, sym, ap, _∙_}
 use mathlib.Core.List.{List, [], _∷_, _++_, append-nil}
 use mathlib.Core.Bool.{Bool, true, false, cond}
 use native.Mathlib.Omega.{arith}
@@ -38,10 +38,6 @@ pub record Before (rd : Reader) (run : Run) (l : List Float) (b : List ℕ) (hav
   pub count : place + have ≡ length past
   pub bound : place + have + reads * 65536 ≤ 140737488355328 * 65536
 
-pub before-first : (b : List ℕ) (rd : Reader) (run : Run) (l : List Float) → rd ≡ startReader → run ≡ startRun → l ≡ zeros 576 → Before rd run l b 0 0 140737488355328
-unfolding startWhole
-before-first b rd run l e f g = record { past = []; told = []; within = omega arith; goes = rw (e, f, g) refl; count = refl; bound = omega arith }
-
 -- after a round
 pub record Come (b₀ : List ℕ) (r : Round) (l : List Float) (b : List ℕ) (place : ℕ) : Type 0 where
   pub long : length b ≡ length b₀
@@ -76,12 +72,17 @@ module _ (code : ℕ) (rd : Reader) (run : Run) (l : List Float) (b : List ℕ) 
     over = n .over;
   }
 
--- the first round
-pub come-first : (code : ℕ) (rd : Reader) (run : Run) (l : List Float) (b : List ℕ) (r : Round) (l' : List Float) (b' out' : List ℕ) → rd ≡ startReader → run ≡ startRun → l ≡ zeros 576
-    → Rounded code (wholeOf rd run l) (take 0 b) 140737488355328 r l' b' out' → Come b' r l' b' (r .taken)
-come-first code rd run l b r l' b' out' e f g n =
-    subst (λ (p : ℕ). Come b' r l' b' p) (let z : 0 + r .taken ≡ r .taken = omega arith in z)
-    (come-on code rd run l b 0 0 140737488355328 (before-first b rd run l e f g) r l' b' out' n b' refl)
+-- before the first round
+abbrev first : Reader → Run → Round
+first rd run = record { reader = rd; run = run; taken = 0; have = 0; n = 0; refused = 0; reads = 140737488355328; more = true }
+
+pub come-first : (b : List ℕ) (rd : Reader) (run : Run) (l : List Float) → rd ≡ startReader → run ≡ startRun → l ≡ zeros 576 → Come b (first rd run) l b 0
+unfolding startWhole
+come-first b rd run l e f g = record {
+  long = refl;
+  before = record { past = []; told = []; within = omega arith; goes = rw (e, f, g) refl; count = refl; bound = omega arith };
+  over = λ y. absurd (let z : _≡_ {A = ℕ} 0 1 = cc in omega arith);
+}
 
 -- ---- the end
 

@@ -38,13 +38,6 @@ pub record Taken (code : ℕ) (w : Whole) (s : List ℕ) (out : List ℕ) (r : T
   pub further : r .ticked ≡ true → 0 < r .at
   pub moved : take (length s - r .at) buf' ≡ drop (r .at) s
 
--- the bytes `came` were read, and the first r bytes of memory are s and these
-pub record Came (s : List ℕ) (r : ℕ) (buf' : List ℕ) : Type 0 where
-  pub came : List ℕ
-  pub within : r ≤ length buf'
-  pub count : r ≡ length (s ++ came)
-  pub bytes : take r buf' ≡ s ++ came
-
 -- a round that came to t, with so many bytes at hand and reads left
 unfoldable pub roundOf : Turn → ℕ → ℕ → Bool → Round
 roundOf t have reads more = record { reader = t .reader; run = t .run; taken = t .at; have = have; n = t .n; refused = t .refused; reads = reads; more = more }

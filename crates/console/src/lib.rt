@@ -1,33 +1,20 @@
 // Plays a journal from standard input to its end or its first refusal, in constant memory, and writes the text of its ticks and its last line.
 ghost use mathlib.Core.Path.{_≡_};
-ghost use Prim.Native.Nat.{_-_, _<_, _≤_};
-ghost use lib.ListN.{length, take, drop};
+ghost use Prim.Native.Nat.{_<_, _≤_};
+ghost use lib.ListN.{length, take};
 ghost use Rattle.lictor_core.specs.Initial.{zeros};
 ghost use Rattle.text.specs.Line.{lineOf};
 ghost use Rattle.journal.specs.Journal.{wholeOf};
-ghost use Rattle.console.specs.Console.{Taken, Came, roundOf, Rounded, endedOf, Ran, lastOf};
+ghost use Rattle.intake.specs.Intake.{Came};
+ghost use Rattle.console.specs.Console.{Taken, roundOf, Rounded, endedOf, Ran, lastOf};
 use journal::Run;
 use judge::Refusal;
-use libc::STDIN_FILENO;
 use libc::STDOUT_FILENO;
 use player::Turn;
 use reader::Reader;
 use text::Line;
 
 // ---- part by part
-
-// Moves the bytes from `at` to `have` down to the front.
-fn move_down(buf: &mut [u8], at: usize, have: usize)
-    requires { ⌜ (at ≤ have) × (have ≤ length (now buf)) ⌝ }
-    ensures { λ _. ⌜ take (have - at) (now (buf .exit)) ≡ take (have - at) (drop at (now (buf .entry))) ⌝ }
-{
-    let n = have - at;
-    let mut i: usize = 0;
-    while i < n {
-        buf[i] = buf[at + i];
-        i += 1;
-    }
-}
 
 fn write_part(out: &[u8], n: usize)
     requires { ⌜ n ≤ length (now out) ⌝ }
@@ -50,17 +37,16 @@ fn take_in(
 {
     let t = player::feed(code, rd, run, lists, &buf[..have], out);
     write_part(out, t.n);
-    move_down(buf, t.at, have);
+    intake::move_down(buf, t.at, have);
     t
 }
 
-// Reads once behind the first `have` bytes, and answers how many are there then.
-fn read_more(buf: &mut [u8], have: usize) -> usize
+// Reads once behind the first `have` bytes, where there is room.
+fn read_on(buf: &mut [u8], have: usize) -> usize
     requires { ⌜ have < length (now buf) ⌝ }
     ensures { λ r. ⌜ Came (take have (now (buf .entry))) r (now (buf .exit)) ⌝ }
 {
-    let got = libc::read(STDIN_FILENO, &mut buf[have..]);
-    have + io::count(got, &buf[have..])
+    intake::read_more(buf, have)
 }
 
 struct Round {
@@ -121,7 +107,7 @@ fn play_round(
     if reads == 0 {
         return round_of(t, left, reads, false);
     }
-    let e = read_more(buf, left);
+    let e = read_on(buf, left);
     round_of(t, e, reads - 1, left < e)
 }
 
@@ -171,8 +157,17 @@ fn run_rounds(code: u8, lists: &mut [f64; 576], buf: &mut [u8], out: &mut [u8]) 
 {
     let rd = reader::start();
     let run = journal::start();
-    let mut r = play_round(code, rd, run, lists, buf, 0, out, READS);
-    let mut place = r.taken as u64;
+    let mut r = Round {
+        reader: rd,
+        run,
+        taken: 0,
+        have: 0,
+        n: 0,
+        refused: 0,
+        reads: READS,
+        more: true,
+    };
+    let mut place: u64 = 0;
     while r.more {
         let q = r.reader;
         let u = r.run;

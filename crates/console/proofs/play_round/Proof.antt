@@ -53,8 +53,8 @@ returns-3 : tie.Need-returns-3
 unfolding roundOf
 returns-3 c = rw (c .round-of3 .ensures) (round-over _ _ _ _ _ _ _ _ (c .before .before .before .before .before .before .before .before .before .before .take-in .ensures) _ (length-take-le _ _ (c .before .before .before .before .before .before .before .before .before .before .before .before .before .before .before .before .pre .0)) _ (omega (arith, taken-within _ _ _ _ _ _ _ _ (c .before .before .before .before .before .before .before .before .before .before .take-in .ensures) _ (length-take-le _ _ (c .before .before .before .before .before .before .before .before .before .before .before .before .before .before .before .before .pre .0)), c .before .before .before .before .before .before .before .before .before .before .before .before .before .before .before .before .pre .0, c .before .before .before .before .before .before .before .before .before .before .take-in .kept .1 .1 .1 .1 .0)) (c .before .before .before .before .if1 .left))
 
-read-more-requires : tie.Need-read-more-requires
-read-more-requires c κs = omega (arith, left-short _ _ _ _ _ _ _ _ (c .before .before .before .before .before .before .before .before .before .before .take-in .ensures) _ (length-take-le _ _ (c .before .before .before .before .before .before .before .before .before .before .before .before .before .before .before .before .pre .0)) (c .before .before .before .before .if1 .left) (c .before .before .if2 .left), c .before .before .before .before .before .before .before .before .before .before .before .before .before .before .before .before .pre .1, c .before .before .before .before .before .before .before .before .before .before .take-in .kept .1 .1 .1 .1 .0)
+read-on-requires : tie.Need-read-on-requires
+read-on-requires c κs = omega (arith, left-short _ _ _ _ _ _ _ _ (c .before .before .before .before .before .before .before .before .before .before .take-in .ensures) _ (length-take-le _ _ (c .before .before .before .before .before .before .before .before .before .before .before .before .before .before .before .before .pre .0)) (c .before .before .before .before .if1 .left) (c .before .before .if2 .left), c .before .before .before .before .before .before .before .before .before .before .before .before .before .before .before .before .pre .1, c .before .before .before .before .before .before .before .before .before .before .take-in .kept .1 .1 .1 .1 .0)
 
 sub-round-of : tie.Need-sub-round-of
 sub-round-of c = search needs
@@ -63,7 +63,7 @@ round-of-requires-4 : tie.Need-round-of-requires-4
 round-of-requires-4 c κs = search needs
 
 same-length-7 : tie.Need-same-length-7
-same-length-7 c = c .before .before .before .read-more .kept .0 ∙ c .before .before .before .before .before .before .before .before .before .before .before .before .before .before .take-in .kept .1 .1 .1 .1 .0
+same-length-7 c = c .before .before .before .read-on .kept .0 ∙ c .before .before .before .before .before .before .before .before .before .before .before .before .before .before .take-in .kept .1 .1 .1 .1 .0
 
 same-length-8 : tie.Need-same-length-8
 same-length-8 c = search needs
@@ -71,8 +71,8 @@ same-length-8 c = search needs
 returns-4 : tie.Need-returns-4
 unfolding roundOf
 returns-4 c =
-    let b = c .before .before .before .read-more .kept .0 ∙ c .before .before .before .before .before .before .before .before .before .before .before .before .before .before .take-in .kept .1 .1 .1 .1 .0 ∙ sym (c .before .before .before .before .before .before .before .before .before .before .before .before .before .before .before .before .before .before .before .before .pre .1) in
-    rw (c .round-of4 .ensures) (round-read _ _ _ _ _ _ _ _ (c .before .before .before .before .before .before .before .before .before .before .before .before .before .before .take-in .ensures) _ (length-take-le _ _ (c .before .before .before .before .before .before .before .before .before .before .before .before .before .before .before .before .before .before .before .before .pre .0)) _ (omega (arith, c .before .before .before .before .before .if3 .left)) (c .before .before .before .before .before .before .before .before .if1 .left) _ _ b (c .before .before .before .read-more .ensures) _ (λ y. ltb-false _ _ y))
+    let b = c .before .before .before .read-on .kept .0 ∙ c .before .before .before .before .before .before .before .before .before .before .before .before .before .before .take-in .kept .1 .1 .1 .1 .0 ∙ sym (c .before .before .before .before .before .before .before .before .before .before .before .before .before .before .before .before .before .before .before .before .pre .1) in
+    rw (c .round-of4 .ensures) (round-read _ _ _ _ _ _ _ _ (c .before .before .before .before .before .before .before .before .before .before .before .before .before .before .take-in .ensures) _ (length-take-le _ _ (c .before .before .before .before .before .before .before .before .before .before .before .before .before .before .before .before .before .before .before .before .pre .0)) _ (omega (arith, c .before .before .before .before .before .if3 .left)) (c .before .before .before .before .before .before .before .before .if1 .left) _ _ b (c .before .before .before .read-on .ensures) _ (λ y. ltb-false _ _ y))
 
 pub play-round-spec : {M : Type 1} → statement M
 play-round-spec =
@@ -92,7 +92,7 @@ play-round-spec =
     same-length-5
     same-length-6
     returns-3
-    read-more-requires
+    read-on-requires
     sub-round-of
     round-of-requires-4
     same-length-7

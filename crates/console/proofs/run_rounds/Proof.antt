@@ -21,42 +21,35 @@ start-requires c κs = tt
 start-requires-2 : tie.Need-start-requires-2 Inv-loop μ-loop
 start-requires-2 c κs = tt
 
-play-round-requires : tie.Need-play-round-requires Inv-loop μ-loop
-play-round-requires c κs = let p = c .before .before .before .before .before .before .before .pre in (omega arith, p .1, p .2)
-
 loop-holds : tie.Need-loop-holds Inv-loop μ-loop
-loop-holds c = (
-  come-first _ _ _ _ (c .before .before .before .before .before .before .before .before .before .before .before .before .args .buf .now) _ _ _ _ (c .before .before .before .before .before .before .before .before .before .start .ensures) (c .before .before .before .before .before .before .before .before .start2 .ensures) (c .before .before .before .before .before .before .before .before .before .before .before .before .pre .0) (c .before .before .before .before .play-round .ensures),
-  refl,
-)
+loop-holds c = (come-first _ _ _ _ (c .before .start .ensures) (c .start2 .ensures) (c .before .before .before .before .pre .0), refl)
 
-play-round-requires-2 : tie.Need-play-round-requires-2 Inv-loop μ-loop
-play-round-requires-2 c κs =
+play-round-requires : tie.Need-play-round-requires Inv-loop μ-loop
+play-round-requires c κs =
     let i = c .before .before .before .before .before .before .loop .inv in
-    let k = c .before .before .before .before .before .before .before .before .before .before .before .play-round .kept in
-    let p = c .before .before .before .before .before .before .before .before .before .before .before .before .before .before .before .before .before .before .before .pre in
-    (i .0 .before .within, p .1 ∙ sym (i .0 .long ∙ k .1 .1 .1 .1 .0), omega (arith, i .1, k .1 .1 .1 .1 .1 .1 .0, p .2))
+    let p = c .before .before .before .before .before .before .before .before .before .before .before .pre in
+    (i .0 .before .within, p .1 ∙ sym (i .0 .long), omega (arith, i .1, p .2))
 
 add-place : tie.Need-add-place Inv-loop μ-loop
-add-place c = omega (arith, bounds _ _ _ _ _ _ _ _ (c .before .before .before .before .before .before .before .before .before .before .before .loop .inv .0 .before) _ _ _ _ (c .before .before .before .before .play-round2 .ensures))
+add-place c = omega (arith, bounds _ _ _ _ _ _ _ _ (c .before .before .before .before .before .before .before .before .before .before .before .loop .inv .0 .before) _ _ _ _ (c .before .before .before .before .play-round .ensures))
 
 loop-less : tie.Need-loop-less Inv-loop μ-loop
-loop-less c = round-less _ _ _ _ _ _ _ _ _ _ (length-take-le _ _ (c .before .before .before .before .before .before .before .before .before .before .before .loop .inv .0 .before .within)) (c .before .before .before .before .before .before .before .before .before .before .loop-test .taken) (c .before .before .before .before .play-round2 .ensures) _ refl
+loop-less c = round-less _ _ _ _ _ _ _ _ _ _ (length-take-le _ _ (c .before .before .before .before .before .before .before .before .before .before .before .loop .inv .0 .before .within)) (c .before .before .before .before .before .before .before .before .before .before .loop-test .taken) (c .before .before .before .before .play-round .ensures) _ refl
 
 loop-again : tie.Need-loop-again Inv-loop μ-loop
 loop-again c =
-    let k = c .before .before .before .before .play-round2 .kept in
+    let k = c .before .before .before .before .play-round .kept in
     let i = c .before .before .before .before .before .before .before .before .before .before .before .loop .inv in
-    (come-on _ _ _ _ _ _ _ _ (c .before .before .before .before .before .before .before .before .before .before .before .loop .inv .0 .before) _ _ _ _ (c .before .before .before .before .play-round2 .ensures) _ (k .1 .1 .1 .1 .0 ∙ i .0 .long), k .1 .1 .1 .1 .1 .1 .0 ∙ i .1)
+    (come-on _ _ _ _ _ _ _ _ (i .0 .before) _ _ _ _ (c .before .before .before .before .play-round .ensures) _ (k .1 .1 .1 .1 .0 ∙ i .0 .long), k .1 .1 .1 .1 .1 .1 .0 ∙ i .1)
 
 finish-requires : tie.Need-finish-requires Inv-loop μ-loop
 finish-requires c κs = tt
 
 same-length : tie.Need-same-length Inv-loop μ-loop
-same-length c = c .before .before .before .loop .inv .0 .long ∙ c .before .before .before .before .before .before .before .before .play-round .kept .1 .1 .1 .1 .0
+same-length c = c .before .before .before .loop .inv .0 .long
 
 same-length-2 : tie.Need-same-length-2 Inv-loop μ-loop
-same-length-2 c = c .before .before .before .loop .inv .1 ∙ c .before .before .before .before .before .before .before .before .play-round .kept .1 .1 .1 .1 .1 .1 .0
+same-length-2 c = c .before .before .before .loop .inv .1
 
 returns : tie.Need-returns Inv-loop μ-loop
 returns c = come-end _ _ _ _ _ (c .before .before .before .loop .inv .0) (c .before .before .loop-test .left) _ (c .finish .ensures)
@@ -69,9 +62,8 @@ run-rounds-spec =
     μ-loop
     start-requires
     start-requires-2
-    play-round-requires
     loop-holds
-    play-round-requires-2
+    play-round-requires
     add-place
     loop-less
     loop-again

@@ -1,5 +1,4 @@
 use mathlib.Core.Path.{sym}
-use native.Mathlib.Omega.{arith}
 use lib.Seq.{length-take-le}
 use Rattle.console.proofs.Rounds.{taken-is}
 use borrow.Author.Needs.{needs}
@@ -19,10 +18,7 @@ write-part-requires : tie.Need-write-part-requires
 write-part-requires c κs = search needs
 
 move-down-requires : tie.Need-move-down-requires
-move-down-requires c κs =
-    let a = c .before .before .before .before .before .before .before .before .before .before .before .args in
-    let h = c .before .before .before .before .before .before .before .before .before .before .before .pre .0 in
-    (omega (arith, c .before .before .before .before .before .feed .ensures .turned .within, length-take-le (a .have) (a .buf .now) h), h)
+move-down-requires c κs = search needs
 
 same-length : tie.Need-same-length
 same-length c = search needs
