@@ -1,7 +1,7 @@
-use Rattle.lictor_core.specs.Settings.{configOf}
+use Rattle.lictor_settings.specs.Settings.{configOf}
 use borrow.Author.Needs.{needs}
-use Rattle.lictor_core.proofs.settings.config.Statement.{statement}
-use Rattle.lictor_core.proofs.settings.config.Tie as tie
+use Rattle.lictor_settings.proofs.config.Statement.{statement}
+use Rattle.lictor_settings.proofs.config.Tie as tie
 
 mode-of-requires : tie.Need-mode-of-requires
 mode-of-requires c κs = search needs

@@ -1,8 +1,8 @@
 use Rattle.lictor_core.proofs.Branch.{branches}
-use Rattle.lictor_core.specs.Settings.{checkOf, firstRow, settingsTable}
+use Rattle.lictor_settings.specs.Settings.{checkOf, firstRow, settingsTable}
 use borrow.Author.Needs.{needs}
-use Rattle.lictor_core.proofs.settings.check.Statement.{statement}
-use Rattle.lictor_core.proofs.settings.check.Tie as tie
+use Rattle.lictor_settings.proofs.check.Statement.{statement}
+use Rattle.lictor_settings.proofs.check.Tie as tie
 
 bad-code-requires : tie.Need-bad-code-requires
 bad-code-requires c κs = search needs

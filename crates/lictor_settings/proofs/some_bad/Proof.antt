@@ -1,6 +1,6 @@
 use borrow.Author.Needs.{needs}
-use Rattle.lictor_core.proofs.settings.some_bad.Statement.{statement}
-use Rattle.lictor_core.proofs.settings.some_bad.Tie as tie
+use Rattle.lictor_settings.proofs.some_bad.Statement.{statement}
+use Rattle.lictor_settings.proofs.some_bad.Tie as tie
 
 all-finite-requires : tie.Need-all-finite-requires
 all-finite-requires c κs = search needs

@@ -1,8 +1,8 @@
 use Rattle.lictor_core.proofs.Branch.{branches}
-use Rattle.lictor_core.specs.Settings.{badSize}
+use Rattle.lictor_settings.specs.Settings.{badSize}
 use borrow.Author.Needs.{needs}
-use Rattle.lictor_core.proofs.settings.bad_size.Statement.{statement}
-use Rattle.lictor_core.proofs.settings.bad_size.Tie as tie
+use Rattle.lictor_settings.proofs.bad_size.Statement.{statement}
+use Rattle.lictor_settings.proofs.bad_size.Tie as tie
 
 cast-outside : tie.Need-cast-outside
 cast-outside c = search needs

@@ -1,15 +1,15 @@
-// The check of settings, and the configuration that they mean.
+// The check of the settings, and the configuration that they mean.
 ghost use mathlib.Core.Path.{_≡_};
 ghost use mathlib.Core.Bool.{not};
 ghost use lib.Ieee.{isNan};
 ghost use Rattle.fmath.specs.Float.{allFinite};
-ghost use Rattle.lictor_core.specs.Settings.{outside as Spec·outside, badCode, badSize, badFloat, crossedOf, badBox, checkOf, checkNumber, configOf};
-use crate::chunk::kind_of;
-use crate::envelope::FuseConfig;
-use crate::envelope::Settings;
-use crate::envelope::clamp_mode_of;
-use crate::envelope::rearm_of;
-use crate::state::mode_of;
+ghost use Rattle.lictor_settings.specs.Settings.{outside as Spec·outside, badCode, badSize, badFloat, crossedOf, badBox, checkOf, checkNumber, configOf};
+use lictor_core::chunk::kind_of;
+use lictor_core::envelope::FuseConfig;
+use lictor_core::envelope::Settings;
+use lictor_core::envelope::clamp_mode_of;
+use lictor_core::envelope::rearm_of;
+use lictor_core::state::mode_of;
 
 // What the check answers: causes 1 to 4 of the refusal table by name.
 pub enum SettingsCheck {

@@ -6,11 +6,11 @@ use lib.Dec.{ltb, leb}
 use lib.ListN.{getD}
 use lib.Ieee.{Float, nan, isNan, lt}
 use Rattle.fmath.specs.Float.{allFinite}
 use Rattle.lictor_core.specs.declared.envelope.Settings.{Settings}
 use Rattle.lictor_core.specs.declared.envelope.FuseConfig.{FuseConfig}
-use Rattle.lictor_core.specs.declared.settings.SettingsCheck.{SettingsCheck}
-use Rattle.lictor_core.specs.declared.settings.SettingsCheck.the-variants.{Accepted, BadCode, BadSize, NotFinite, BoxCrossed}
+use Rattle.lictor_settings.specs.declared.SettingsCheck.{SettingsCheck}
+use Rattle.lictor_settings.specs.declared.SettingsCheck.the-variants.{Accepted, BadCode, BadSize, NotFinite, BoxCrossed}
 use Rattle.lictor_core.specs.Codes.{modeOf, kindOf, clampModeOf, rearmOf}
 
 -- n lies outside of low to high, both included
 abbrev pub outside : ℕ → ℕ → ℕ → Bool

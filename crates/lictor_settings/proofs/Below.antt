@@ -5,7 +5,7 @@ use Prim.Native.Nat.{ℕ, zero, suc, _+_, _<_}
 use native.Mathlib.Omega.{arith}
 use native.Mathlib.Numerals.{add-one}
 use native.Mathlib.Decide.{ℕ-discrete}
-use Rattle.lictor_core.specs.Settings.{anyBelow}
+use Rattle.lictor_settings.specs.Settings.{anyBelow}
 
 or-true : (a : Bool) → a || true ≡ true
 or-true true = refl

@@ -1,7 +1,7 @@
-use Rattle.lictor_core.specs.Settings.{badBox}
+use Rattle.lictor_settings.specs.Settings.{badBox}
 use borrow.Author.Needs.{needs}
-use Rattle.lictor_core.proofs.settings.bad_box.Statement.{statement}
-use Rattle.lictor_core.proofs.settings.bad_box.Tie as tie
+use Rattle.lictor_settings.proofs.bad_box.Statement.{statement}
+use Rattle.lictor_settings.proofs.bad_box.Tie as tie
 
 crossed-requires : tie.Need-crossed-requires
 crossed-requires c κs = search needs

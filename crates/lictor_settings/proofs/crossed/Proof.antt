@@ -4,11 +4,11 @@ use mathlib.Core.Bool.{false}
 use native.Mathlib.Omega.{arith}
 use lib.ListN.{getD}
 use lib.Ieee.{lt, nan}
-use Rattle.lictor_core.specs.Settings.{anyBelow, crossedOf}
-use Rattle.lictor_core.proofs.Below.{some-below, none-below, none-more}
+use Rattle.lictor_settings.specs.Settings.{anyBelow, crossedOf}
+use Rattle.lictor_settings.proofs.Below.{some-below, none-below, none-more}
 use borrow.Author.Needs.{needs}
-use Rattle.lictor_core.proofs.settings.crossed.Statement.{statement}
-use Rattle.lictor_core.proofs.settings.crossed.Tie as tie
+use Rattle.lictor_settings.proofs.crossed.Statement.{statement}
+use Rattle.lictor_settings.proofs.crossed.Tie as tie
 
 abbrev Inv-loop : tie.InvT-loop
 Inv-loop lo hi i₀ i = (i ≤ 8) × (anyBelow i (λ k. lt (getD hi k nan) (getD lo k nan)) ≡ false)

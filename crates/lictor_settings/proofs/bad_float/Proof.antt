@@ -1,8 +1,8 @@
 use Rattle.lictor_core.proofs.Branch.{branches}
-use Rattle.lictor_core.specs.Settings.{badFloat}
+use Rattle.lictor_settings.specs.Settings.{badFloat}
 use borrow.Author.Needs.{needs}
-use Rattle.lictor_core.proofs.settings.bad_float.Statement.{statement}
-use Rattle.lictor_core.proofs.settings.bad_float.Tie as tie
+use Rattle.lictor_settings.proofs.bad_float.Statement.{statement}
+use Rattle.lictor_settings.proofs.bad_float.Tie as tie
 
 slice-aggregate-some-bad : tie.Need-slice-aggregate-some-bad
 slice-aggregate-some-bad c = search needs
