@@ -11,8 +11,8 @@ use lib.Arith.{lt-of-le-ne}
 use lib.Ieee.{size, nearest}
 use lib.Ieee.Digits.{size-lt}
 use lib.Ieee.Nearest.{closest}
-use Rattle.fmath.specs.Root.{rootIn, wholeRoot}
-use Rattle.fmath.specs.Steps.{NearRoot}
+use Rattle.root.specs.Root.{rootIn, wholeRoot}
+use Rattle.root.specs.Steps.{NearRoot}
 
 -- ---- squares keep the order
 pub root-lt : {x y : ℕ} → x * x < y * y → x < y

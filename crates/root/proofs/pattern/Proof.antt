@@ -1,11 +1,11 @@
--- `fmath::pattern` meets its contract. Assumes nothing.
+-- `root::pattern` meets its contract. Assumes nothing.
 use Prim.Native.Nat.{_+_, _*_, _%_, _^_, _<_}
 use native.Mathlib.Omega.{arith}
 use borrow.Author.Needs.{needs}
-use Rattle.fmath.proofs.Steps.{doubled-lt}
-use Rattle.fmath.proofs.Whole.{digits-lt, written}
-use Rattle.fmath.proofs.pattern.Statement.{statement}
-use Rattle.fmath.proofs.pattern.Tie as tie
+use Rattle.root.proofs.Steps.{doubled-lt}
+use Rattle.root.proofs.Whole.{digits-lt, written}
+use Rattle.root.proofs.pattern.Statement.{statement}
+use Rattle.root.proofs.pattern.Tie as tie
 
 window-lt : (c : tie.Start) → c .args .m * (1 + c .args .e % 2) < 2 ^ 54
 window-lt c = doubled-lt (c .args .m) (c .args .e % 2) (c .pre .1) (omega arith)

@@ -1,11 +1,11 @@
--- `fmath::too_small` meets its contract. Assumes nothing.
+-- `root::too_small` meets its contract. Assumes nothing.
 use mathlib.Core.Path.{ap, _∙_}
 use Prim.Native.Nat.{ℕ}
 use lib.Dec.{ltb}
 use borrow.Author.Needs.{needs}
-use Rattle.fmath.proofs.Steps.{small-is}
-use Rattle.fmath.proofs.too_small.Statement.{statement}
-use Rattle.fmath.proofs.too_small.Tie as tie
+use Rattle.root.proofs.Steps.{small-is}
+use Rattle.root.proofs.too_small.Statement.{statement}
+use Rattle.root.proofs.too_small.Tie as tie
 
 add-high : tie.Need-add-high
 add-high c = search needs

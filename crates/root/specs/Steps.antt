@@ -4,7 +4,7 @@ use Prim.Native.Nat.{ℕ, _+_, _*_, _^_, _≤_, _<_}
 use mathlib.Core.Bool.{false, not}
 use lib.Dec.{T}
 use lib.Ieee.{binary64, round, ofBits, nanBits}
-use Rattle.fmath.specs.Root.{wholeRoot}
+use Rattle.root.specs.Root.{wholeRoot}
 
 -- m is t moved up by k places, and its top bit is bit 52
 pub record Normed (t m k : ℕ) : Type 0 where

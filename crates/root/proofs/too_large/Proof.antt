@@ -1,11 +1,11 @@
--- `fmath::too_large` meets its contract. Assumes nothing.
+-- `root::too_large` meets its contract. Assumes nothing.
 use mathlib.Core.Path.{ap, _∙_}
 use Prim.Native.Nat.{ℕ}
 use lib.Dec.{leb}
 use borrow.Author.Needs.{needs}
-use Rattle.fmath.proofs.Steps.{large-is}
-use Rattle.fmath.proofs.too_large.Statement.{statement}
-use Rattle.fmath.proofs.too_large.Tie as tie
+use Rattle.root.proofs.Steps.{large-is}
+use Rattle.root.proofs.too_large.Statement.{statement}
+use Rattle.root.proofs.too_large.Tie as tie
 
 sub-high : tie.Need-sub-high
 sub-high c = search needs

@@ -1,10 +1,10 @@
--- `fmath::normed` meets its contract. Assumes nothing.
+-- `root::normed` meets its contract. Assumes nothing.
 use Prim.Native.Nat.{_-_, _^_}
 use native.Mathlib.Omega.{arith}
 use lib.Pow.{pow-pos}
-use Rattle.fmath.proofs.Steps.{Moving, unmoved, up-one, moved-up, few-moves}
-use Rattle.fmath.proofs.normed.Statement.{statement}
-use Rattle.fmath.proofs.normed.Tie as tie
+use Rattle.root.proofs.Steps.{Moving, unmoved, up-one, moved-up, few-moves}
+use Rattle.root.proofs.normed.Statement.{statement}
+use Rattle.root.proofs.normed.Tie as tie
 
 abbrev Inv-loop : tie.InvT-loop
 Inv-loop t m₀ up₀ m up = Moving t m up

@@ -2,7 +2,7 @@
 use mathlib.Core.Path.{_≡_, refl}
 use mathlib.Core.Bool.{true, false}
 use lib.Ieee.{nan, inf, binary64, ofBits}
-use Rattle.fmath.specs.Root.{rootOf}
+use Rattle.root.specs.Root.{rootOf}
 
 -- 2.25 gives 1.5
 pub root-of-2·25 : rootOf (ofBits binary64 0x4002_0000_0000_0000) ≡ ofBits binary64 0x3ff8_0000_0000_0000

@@ -10,10 +10,10 @@ use lib.Ieee.{Float, nan, inf, fin, binary64, up, down, odd, round, ofFields, of
 use lib.Ieee.Bits.{ofBits-toBits, nanBits-is, nanBits-above, toBits-lt, is-true}
 use lib.Ieee.Exact.{HasValue, odd-sign}
 use lib.Ieee.Fits.{down-pos}
-use Rattle.fmath.specs.Root.{rootOf, wholeRoot}
-use Rattle.fmath.specs.Steps.{Normed, NearRoot, RootBits}
-use Rattle.fmath.proofs.Rounded.{rounded, g-lt, g-ge}
-use Rattle.fmath.proofs.Patterns.{is-nan, no-nan, no-nan-bits, ofBits-is, put, normal-value, low-value}
+use Rattle.root.specs.Root.{rootOf, wholeRoot}
+use Rattle.root.specs.Steps.{Normed, NearRoot, RootBits}
+use Rattle.root.proofs.Rounded.{rounded, g-lt, g-ge}
+use Rattle.root.proofs.Patterns.{is-nan, no-nan, no-nan-bits, ofBits-is, put, normal-value, low-value}
 
 -- ---- a NaN
 pub at-nan : (x : Float) → ne x x ≡ true → x ≡ rootOf x

@@ -1,9 +1,9 @@
--- `fmath::guess` meets its contract: the patterns are no NaN's, and the result has 53 binary digits at most. Assumes nothing.
+-- `root::guess` meets its contract: the patterns are no NaN's, and the result has 53 binary digits at most. Assumes nothing.
 use native.Mathlib.Omega.{arith}
 use borrow.Author.Needs.{needs}
-use Rattle.fmath.proofs.Patterns.{no-nan, no-nan-bits}
-use Rattle.fmath.proofs.guess.Statement.{statement}
-use Rattle.fmath.proofs.guess.Tie as tie
+use Rattle.root.proofs.Patterns.{no-nan, no-nan-bits}
+use Rattle.root.proofs.guess.Statement.{statement}
+use Rattle.root.proofs.guess.Tie as tie
 
 mul-b : tie.Need-mul-b
 mul-b c = search needs

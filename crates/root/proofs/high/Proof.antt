@@ -1,9 +1,9 @@
--- `fmath::high` meets its contract. Assumes nothing.
+-- `root::high` meets its contract. Assumes nothing.
 use Prim.Native.Nat.{_*_, _/_, _%_, _^_, _≤_}
 use native.Mathlib.Omega.{arith}
-use Rattle.fmath.proofs.Steps.{high-is, product-lt}
-use Rattle.fmath.proofs.high.Statement.{statement}
-use Rattle.fmath.proofs.high.Tie as tie
+use Rattle.root.proofs.Steps.{high-is, product-lt}
+use Rattle.root.proofs.high.Statement.{statement}
+use Rattle.root.proofs.high.Tie as tie
 
 -- the four products of halves
 high-low : (c : tie.Start) → c .args .x / 2 ^ 26 * (c .args .y % 2 ^ 26) ≤ 2 ^ 56

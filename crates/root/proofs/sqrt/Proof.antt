@@ -1,14 +1,14 @@
--- `fmath::sqrt` meets its contract. Each way out is a law of `proofs/Whole.antt`. Assumes nothing.
-use mathlib.Core.Path.{sym, _∙_, subst}
+-- `root::sqrt` meets its contract. Each way out is a law of `proofs/Whole.antt`. Assumes nothing.
+use mathlib.Core.Path.{sym, subst}
 use Prim.Native.Nat.{_<_}
 use native.Mathlib.Omega.{arith}
 use borrow.Author.Needs.{needs}
 use lib.Dec.{T}
-use lib.Ieee.{binary64, fits, toBits}
-use Rattle.fmath.proofs.Patterns.{no-nan}
-use Rattle.fmath.proofs.Whole.{at-nan, at-minus-zero, at-below, at-plus-zero, at-infinity, pattern-lt, at-normal, at-low, field-zero, digits-pos, field-pos}
-use Rattle.fmath.proofs.sqrt.Statement.{statement}
-use Rattle.fmath.proofs.sqrt.Tie as tie
+use lib.Ieee.{binary64, fits, toBits, div, ofBits}
+use Rattle.root.proofs.Patterns.{no-nan}
+use Rattle.root.proofs.Whole.{at-nan, at-minus-zero, at-below, at-plus-zero, at-infinity, pattern-lt, at-normal, at-low, field-zero, digits-pos, field-pos}
+use Rattle.root.proofs.sqrt.Statement.{statement}
+use Rattle.root.proofs.sqrt.Tie as tie
 
 -- what owning an `f64` tells: the format holds it
 held : (c : tie.Start) → T (fits binary64 (c .args .x))
@@ -23,11 +23,9 @@ float-to-bits-b c = no-nan (c .before .args .x) (c .if1 .left)
 returns-2 : tie.Need-returns-2
 returns-2 c = let s = c .before .before in at-minus-zero (s .args .x) (held s) (c .if2 .taken)
 
-nan-requires : tie.Need-nan-requires
-nan-requires c κs = search needs
-
 returns-3 : tie.Need-returns-3
-returns-3 c = let s = c .before .before .before .before in c .nan .ensures ∙ at-below (s .args .x) (held s) (c .before .if3 .taken)
+unfolding div ofBits
+returns-3 c = let s = c .before .before .before in at-below (s .args .x) (held s) (c .if3 .taken)
 
 returns-4 : tie.Need-returns-4
 returns-4 c = let s = c .before .before .before .before in at-plus-zero (s .args .x) (held s) (c .if4 .taken)
@@ -86,7 +84,6 @@ sqrt-spec =
     returns
     float-to-bits-b
     returns-2
-    nan-requires
     returns-3
     returns-4
     returns-5

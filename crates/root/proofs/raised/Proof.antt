@@ -1,10 +1,10 @@
--- `fmath::raised` meets its contract: r rises, and stays not too large. Assumes nothing.
+-- `root::raised` meets its contract: r rises, and stays not too large. Assumes nothing.
 use mathlib.Core.Path.{sym, _∙_}
 use Prim.Native.Nat.{_+_, _-_, _*_, _^_, _≤_, _<_}
 use native.Mathlib.Omega.{arith}
-use Rattle.fmath.proofs.Steps.{small-less, small-next, found}
-use Rattle.fmath.proofs.raised.Statement.{statement}
-use Rattle.fmath.proofs.raised.Tie as tie
+use Rattle.root.proofs.Steps.{small-less, small-next, found}
+use Rattle.root.proofs.raised.Statement.{statement}
+use Rattle.root.proofs.raised.Tie as tie
 
 abbrev Inv-loop : tie.InvT-loop
 Inv-loop g a r₀ r = (r ≤ 2 ^ 53) × (r * r < a * 2 ^ 52 + r)

@@ -11,10 +11,10 @@ use lib.Ieee.{inf, fin, binary64, size, odd, units, round, minus}
 use lib.Ieee.Digits.{size-lt, size-le}
 use lib.Ieee.Fits.{core, round-is}
 use lib.Ieee.Nearest.{closest, closest-same}
-use Rattle.fmath.specs.Root.{wholeRoot}
-use Rattle.fmath.specs.Steps.{NearRoot}
-use Rattle.fmath.proofs.Squares.{Scaled, is-root, s-ge, s-lt, rounds}
-use Rattle.fmath.proofs.Squares.{g-ge as Scaled·g-ge, g-lt as Scaled·g-lt}
+use Rattle.root.specs.Root.{wholeRoot}
+use Rattle.root.specs.Steps.{NearRoot}
+use Rattle.root.proofs.Squares.{Scaled, is-root, s-ge, s-lt, rounds}
+use Rattle.root.proofs.Squares.{g-ge as Scaled·g-ge, g-lt as Scaled·g-lt}
 
 -- ---- how many places `odd` is told of does not matter where they are enough
 none : (q : ℕ) → 0 < q → q < 1 → ⊥

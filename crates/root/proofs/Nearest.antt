@@ -16,12 +16,12 @@ use lib.Ieee.Fits.{up-pos, and-l, round-fits}
 use lib.Ieee.Order.{le-of-values}
 use lib.Ieee.Positive.{positive, positive-of-value, positive-finite, value-pos}
 use lib.Ieee.Scale.{finite}
-use Rattle.fmath.specs.Root.{rootOf, wholeRoot, unitsOf, plusZero, NearestRoot}
-use Rattle.fmath.specs.Steps.{NearRoot}
-use Rattle.fmath.proofs.Squares.{root-lt, square-lt, some-near}
-use Rattle.fmath.proofs.Rounded.{rounded, g-ge}
-use Rattle.fmath.proofs.Whole.{Window, window, root-at}
-use Rattle.fmath.proofs.Units.{Units, units-of, own-units, value-units, zero-units, on-grid}
+use Rattle.root.specs.Root.{rootOf, wholeRoot, unitsOf, plusZero, NearestRoot}
+use Rattle.root.specs.Steps.{NearRoot}
+use Rattle.root.proofs.Squares.{root-lt, square-lt, some-near}
+use Rattle.root.proofs.Rounded.{rounded, g-ge}
+use Rattle.root.proofs.Whole.{Window, window, root-at}
+use Rattle.root.proofs.Units.{Units, units-of, own-units, value-units, zero-units, on-grid}
 
 lt-or-le : (x y : ℕ) → (x < y) ⊎ (y ≤ x)
 lt-or-le x y = go (ltb x y) (ltb→lt x y) (nltb→le x y)

@@ -1,11 +1,11 @@
--- `fmath::lowered` meets its contract: r falls, and stays above 0 since 1 is never too large. Assumes nothing.
+-- `root::lowered` meets its contract: r falls, and stays above 0 since 1 is never too large. Assumes nothing.
 use mathlib.Core.Path.{sym, _∙_}
 use Prim.Native.Nat.{_^_, _≤_, _<_}
 use native.Mathlib.Omega.{arith}
 use borrow.Author.Tests.{leb-false}
-use Rattle.fmath.proofs.Steps.{large-more}
-use Rattle.fmath.proofs.lowered.Statement.{statement}
-use Rattle.fmath.proofs.lowered.Tie as tie
+use Rattle.root.proofs.Steps.{large-more}
+use Rattle.root.proofs.lowered.Statement.{statement}
+use Rattle.root.proofs.lowered.Tie as tie
 
 abbrev Inv-loop : tie.InvT-loop
 Inv-loop g a r₀ r = (0 < r) × (r ≤ 2 ^ 53)

@@ -8,8 +8,8 @@ use mathlib.Core.Bool.{Bool, true, false}
 use borrow.Author.Tests.{le-leb, lt-leb, leb-true, leb-false, ltb-true, ltb-false}
 use lib.Dec.{leb, ltb}
 use lib.Pow.{pow-mono}
-use Rattle.fmath.specs.Steps.{Normed, NearRoot}
-use Rattle.fmath.proofs.Squares.{root-lt}
+use Rattle.root.specs.Steps.{Normed, NearRoot}
+use Rattle.root.proofs.Squares.{root-lt}
 
 -- ---- t moved up
 pub record Moving (t m k : ℕ) : Type 0 where

@@ -10,7 +10,7 @@ use lib.Pow.{pow-add, pow-pos, pow-mono, pow-lt, shl-lt}
 use lib.Ieee.{Float, nan, inf, fin, binary64, up, down, fits}
 use lib.Ieee.Exact.{HasValue}
 use lib.Ieee.Fits.{down-pos, and-l, and-r}
-use Rattle.fmath.specs.Root.{inUnits, unitsOf}
+use Rattle.root.specs.Root.{inUnits, unitsOf}
 
 -- ---- m * 2 ^ e is m * 2 ^ j units, exactly
 pow-le-back : (a l : ℕ) → 2 ^ a ≤ 2 ^ l → a ≤ l
