@@ -13,7 +13,7 @@ use Rattle.lictor_core.specs.declared.fuse.Control.{Control}
 use Rattle.lictor_core.specs.declared.fuse.FuseRt.{FuseRt}
 use Rattle.lictor_core.specs.declared.state.FuseState.the-variants.{Fault}
 use Rattle.lictor_core.specs.Masks.{anyOf, nonfinite, schema, watchdog, faultBits}
-use Rattle.lictor_core.specs.Settings.{configOf}
+use Rattle.lictor_settings.specs.Settings.{configOf}
 use Rattle.lictor_guard.specs.Guard.{clockBad, schemaBad, bitIf, guardOf}
 use Rattle.lictor_stages.specs.Ingest.{faultMotion}
 use Rattle.lictor_stages.specs.Judge.{faultInput}

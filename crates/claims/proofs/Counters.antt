@@ -25,7 +25,7 @@ use Rattle.lictor_core.specs.declared.state.FuseState.the-variants.{Idle, Armed
 use Rattle.lictor_core.specs.Cases.{byDecision}
 use Rattle.lictor_core.specs.Masks.{anyOf, faultBits}
 use Rattle.lictor_core.specs.Num.{satUp, wrapUp}
-use Rattle.lictor_core.specs.Settings.{configOf}
+use Rattle.lictor_settings.specs.Settings.{configOf}
 use Rattle.lictor_stages.specs.Judge.{machineInput}
 use Rattle.lictor_verdict.specs.Verdict.{eventsOf, noEvents}
 use Rattle.lictor_table.specs.declared.FsmInput.{FsmInput}

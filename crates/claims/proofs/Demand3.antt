@@ -16,7 +16,7 @@ use Rattle.lictor_core.specs.declared.fuse.FuseRt.{FuseRt}
 use Rattle.lictor_core.specs.declared.state.FuseState.{FuseState}
 use Rattle.lictor_core.specs.Initial.{freshControl, resetOf}
 use Rattle.lictor_core.specs.Masks.{anyOf, faultBits}
-use Rattle.lictor_core.specs.Settings.{configOf}
+use Rattle.lictor_settings.specs.Settings.{configOf}
 use Rattle.lictor_stages.specs.Judge.{judgeOf, machineInput, faultInput}
 use Rattle.lictor_verdict.specs.Verdict.{verdictOf, faultVerdict}
 use Rattle.lictor_table.specs.declared.FsmInput.{FsmInput}

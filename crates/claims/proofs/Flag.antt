@@ -18,7 +18,7 @@ use Rattle.lictor_core.specs.declared.state.FuseState.{FuseState}
 use Rattle.lictor_core.specs.declared.state.FuseState.the-variants.{Idle, Armed, Watching, Clamped, Braking, Held, Escalated, Fault, Terminated}
 use Rattle.lictor_core.specs.Codes.{reasonCode}
 use Rattle.lictor_core.specs.Masks.{anyOf, faultBits}
-use Rattle.lictor_core.specs.Settings.{configOf}
+use Rattle.lictor_settings.specs.Settings.{configOf}
 use Rattle.lictor_stages.specs.Judge.{judgeOf, machineInput}
 use Rattle.lictor_verdict.specs.Verdict.{hasAck, consumedFlag, verdictOf, faultVerdict}
 use Rattle.lictor_table.specs.declared.FsmInput.{FsmInput}

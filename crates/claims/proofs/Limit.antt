@@ -24,7 +24,7 @@ use Rattle.lictor_core.specs.Codes.{stateCode, isState, modeOf, rearmOf}
 use Rattle.lictor_core.specs.Initial.{zeroFloat, zeros, freshControl, freshMotion, freshClock, resetOf}
 use Rattle.lictor_core.specs.Masks.{anyOf, faultBits}
 use Rattle.lictor_core.specs.Rows.{rowTo}
-use Rattle.lictor_core.specs.Settings.{badCode, badSize, badFloat, anyBelow, crossedOf, badBox, settingsTable, firstRow, checkOf, configOf}
+use Rattle.lictor_settings.specs.Settings.{badCode, badSize, badFloat, anyBelow, crossedOf, badBox, settingsTable, firstRow, checkOf, configOf}
 use Rattle.lictor_core.proofs.Rows.{row-length}
 use Rattle.lictor_guard.specs.Guard.{deliveredOf, nonFinite, lengthsOf, shapeBad, sizesBad, placeBad, headBad, deliveryBad, clockBad, schemaBad, bitIf, guardOf}
 use Rattle.lictor_stages.specs.Ingest.{takenRow, velocityOf, ingestOf}

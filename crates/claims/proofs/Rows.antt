@@ -18,7 +18,7 @@ use Rattle.lictor_core.specs.declared.state.FuseState.{FuseState}
 use Rattle.lictor_core.specs.declared.state.FuseState.the-variants.{Idle, Armed, Watching, Clamped, Braking, Held, Escalated, Fault, Terminated}
 use Rattle.lictor_core.specs.Cases.{byState, byAck}
 use Rattle.lictor_core.specs.Codes.{isState}
-use Rattle.lictor_core.specs.Settings.{configOf}
+use Rattle.lictor_settings.specs.Settings.{configOf}
 use Rattle.lictor_table.specs.Helpers.{to}
 use Rattle.lictor_table.specs.Consumed.{takenIn}
 use Rattle.lictor_table.proofs.Lines.{by-test}

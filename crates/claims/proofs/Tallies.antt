@@ -9,7 +9,7 @@ use Rattle.lictor_core.specs.declared.fuse.FuseRt.{FuseRt}
 use Rattle.lictor_core.specs.declared.state.FuseState.the-variants as S
 use Rattle.lictor_core.specs.declared.verdict.SafetyVerdict.{SafetyVerdict}
 use Rattle.lictor_core.specs.Initial.{resetOf}
-use Rattle.lictor_core.specs.Settings.{configOf}
+use Rattle.lictor_settings.specs.Settings.{configOf}
 use Rattle.lictor_stages.specs.Judge.{judgeOf}
 use Rattle.lictor_verdict.specs.Verdict.{verdictOf, faultVerdict, eventsOf}
 use Rattle.lictor_tally.specs.History as H

@@ -5,7 +5,7 @@ use lib.Dec.{T, T-not, eqb}
 use lib.Bits.{bitOr}
 use Rattle.lictor_core.specs.declared.fuse.FuseRt.{FuseRt}
 use Rattle.lictor_core.specs.Masks as M
-use Rattle.lictor_core.specs.Settings.{checkOf, configOf}
+use Rattle.lictor_settings.specs.Settings.{checkOf, configOf}
 use Rattle.lictor_guard.specs.Guard.{deliveredOf, bitIf, guardOf}
 use Rattle.lictor_stages.specs.declared.judge.Findings.{Findings}
 use Rattle.lictor_stages.specs.Ingest.{ingestOf, faultMotion}

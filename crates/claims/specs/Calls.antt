@@ -13,7 +13,7 @@ use Rattle.lictor_core.specs.declared.fuse.TickInput.{TickInput}
 use Rattle.lictor_core.specs.declared.outcome.Outcome.{Outcome}
 use Rattle.lictor_core.specs.declared.state.FuseState.{FuseState}
 use Rattle.lictor_core.specs.Masks.{anyOf, faultBits}
-use Rattle.lictor_core.specs.Settings.{checkOf, configOf}
+use Rattle.lictor_settings.specs.Settings.{checkOf, configOf}
 use Rattle.lictor_guard.specs.Guard.{guardOf}
 use Rattle.lictor_stages.specs.Judge.{maskedOf}
 use Rattle.lictor_table.specs.Helpers.{acceptedAck}

@@ -1,3 +1,2 @@
 pub mod Float
 pub mod Root
-pub mod Steps

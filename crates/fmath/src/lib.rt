@@ -1,25 +1,19 @@
 // The float helpers of fmath.rs. Every operation is IEEE 754's on binary64, one rounding each, and all NaNs count as one value.
 //
-// What Rust takes from its library, `is_finite`, `sqrt` and the special values, is worked out from the bits:
+// What Rust takes from its library, `is_finite`, `sqrt` (in the crate `root`) and the special values, is worked out from the bits:
 // bit 63 is the sign, bits 52 to 62 are the exponent field, and bits 0 to 51 are the stored digits.
 ghost use mathlib.Core.Path.{_≡_};
 ghost use mathlib.Core.Bool.{true, false};
-ghost use Prim.Native.Nat.{_+_, _*_, _/_, _%_, _^_, _≤_, _<_, min as Nat·min};
-ghost use lib.Dec.{leb, ltb};
+ghost use Prim.Native.Nat.{min as Nat·min};
 ghost use lib.Ieee.{inf, nan as Ieee·nan};
 ghost use lib.Ieee.Scale.{finite};
 ghost use Rattle.fmath.specs.Float.{minOf, maxOf, clampOf, allFinite, normOf};
 ghost use Rattle.fmath.specs.Root.{rootOf};
-ghost use Rattle.fmath.specs.Steps.{Normed, NearRoot, RootBits};
 
-// 2 ^ 52: the place of the exponent field, and of the digit that a normal number does not store.
+// 2 ^ 52: the place of the exponent field.
 const PLACE: u64 = 0x10_0000_0000_0000;
 
-// The patterns of 1, of -0, and of the two infinities.
-const ONE: u64 = 0x3ff0_0000_0000_0000;
-
-const MINUS_ZERO: u64 = 0x8000_0000_0000_0000;
-
+// The patterns of the two infinities.
 const INF: u64 = 0x7ff0_0000_0000_0000;
 
 const MINUS_INF: u64 = 0xfff0_0000_0000_0000;
@@ -118,144 +112,11 @@ pub fn norm(v: &[f64], n: usize) -> f64
 }
 
 // ---- square root
-//
-// A number above zero is brought to the form a * 2 ^ 52 * 4 ^ k with an a of 53 or 54 binary digits. Its root is 2 ^ k
-// times the root of a * 2 ^ 52, and the whole number g nearest to that has the 53 digits that binary64 keeps.
-// g is guessed in floats, of which nothing is proved, and then moved to its place by exact tests.
-
-struct Moved {
-    m: u64,
-    up: u64,
-}
-
-// t moved up until its top bit is bit 52.
-fn normed(t: u64) -> Moved
-    requires { ⌜ (0 < t) × (t < 2 ^ 52) ⌝ }
-    ensures { λ r. ⌜ Normed t (r .m) (r .up) ⌝ }
-{
-    let mut m = t;
-    let mut up: u64 = 0;
-    while m < PLACE {
-        m = m * 2;
-        up += 1;
-    }
-    Moved { m, up }
-}
-
-// x * y / 2 ^ 52, cut to a whole number, from the halves of x and y: the product itself may have 108 binary digits.
-fn high(x: u64, y: u64) -> u64
-    requires { ⌜ (x ≤ 2 ^ 54) × (y ≤ 2 ^ 54) ⌝ }
-    ensures { λ r. ⌜ r ≡ x * y / 2 ^ 52 ⌝ }
-{
-    let xh = x / 0x400_0000;
-    let xl = x % 0x400_0000;
-    let yh = y / 0x400_0000;
-    let yl = y % 0x400_0000;
-    let middle = xh * yl + xl * yh + xl * yl / 0x400_0000;
-    xh * yh + middle / 0x400_0000
-}
-
-// Whether g is above the root of a * 2 ^ 52 by a half or more.
-fn too_large(g: u64, a: u64) -> bool
-    requires { ⌜ (0 < g) × (g ≤ 2 ^ 53) ⌝ }
-    ensures { λ r. ⌜ r ≡ leb (a * 2 ^ 52 + g) (g * g) ⌝ }
-{
-    a <= high(g, g - 1)
-}
-
-// Whether g is below the root of a * 2 ^ 52 by a half or more.
-fn too_small(g: u64, a: u64) -> bool
-    requires { ⌜ g ≤ 2 ^ 53 ⌝ }
-    ensures { λ r. ⌜ r ≡ ltb (g * g + g) (a * 2 ^ 52) ⌝ }
-{
-    high(g, g + 1) < a
-}
-
-// A guess at the root of m * 2 ^ (52 + odd), for an m whose top bit is bit 52. x is that number times 2 ^ -104, from 1 up
-// to 4. To take half its pattern from a constant halves the exponent and turns its sign, which is 1 / root but for some
-// hundredths; three steps of Newton's method, and a last one for the root itself, bring it to the last digit or next to
-// it. The promise says only how large it is: whatever it is, `lowered` and `raised` find the right number from there.
-fn guess(m: u64, odd: u64) -> u64
-    requires { ⌜ odd ≤ 1 ⌝ }
-    ensures { λ r. ⌜ (0 < r) × (r ≤ 2 ^ 53) ⌝ }
-{
-    let b = ONE + odd * PLACE + m % PLACE;
-    let x = f64::from_bits(b);
-    let half = 0.5 * x;
-    let r0 = f64::from_bits(0x5fe6_eb50_c7b5_37a9 - b / 2);
-    let r1 = r0 * (1.5 - half * r0 * r0);
-    let r2 = r1 * (1.5 - half * r1 * r1);
-    let r3 = r2 * (1.5 - half * r2 * r2);
-    let s = x * r3;
-    let y = s + 0.5 * r3 * (x - s * s);
-    if y != y {
-        return PLACE;
-    }
-    PLACE + f64::to_bits(y) % PLACE
-}
-
-// g moved down until it is not too large.
-fn lowered(g: u64, a: u64) -> u64
-    requires { ⌜ (0 < g) × (g ≤ 2 ^ 53) × (0 < a) ⌝ }
-    ensures { λ r. ⌜ (r ≤ 2 ^ 53) × (r * r < a * 2 ^ 52 + r) ⌝ }
-{
-    let mut r = g;
-    while too_large(r, a) {
-        r -= 1;
-    }
-    r
-}
-
-// g, which is not too large, moved up until it is not too small.
-fn raised(g: u64, a: u64) -> u64
-    requires { ⌜ (g ≤ 2 ^ 53) × (g * g < a * 2 ^ 52 + g) × (a < 2 ^ 54) ⌝ }
-    ensures { λ r. ⌜ NearRoot (a * 2 ^ 52) r ⌝ }
-{
-    let mut r = g;
-    while too_small(r, a) {
-        r += 1;
-    }
-    r
-}
-
-// The pattern of the root of m * 2 ^ (e - 2148), for an m whose top bit is bit 52.
-fn pattern(m: u64, e: u64) -> u64
-    requires { ⌜ (2 ^ 52 ≤ m) × (m < 2 ^ 53) × (1022 ≤ e) × (e < 3120) ⌝ }
-    ensures { λ r. ⌜ RootBits m e r ⌝ }
-{
-    let odd = e % 2;
-    let a = m * (1 + odd);
-    let g = raised(lowered(guess(m, odd), a), a);
-    (e / 2 - 26) * PLACE + g
-}
 
 // The square root, rounded to the nearest; of the infinity, of +0 and of -0 the argument itself, and of a NaN and of what
 // is below zero a NaN.
 pub fn sqrt(x: f64) -> f64
     ensures { λ r. ⌜ r ≡ rootOf x ⌝ }
 {
-    if x != x {
-        return x;
-    }
-    let b = f64::to_bits(x);
-    if b == MINUS_ZERO {
-        return x;
-    }
-    if MINUS_ZERO < b {
-        return nan();
-    }
-    if b == 0 {
-        return x;
-    }
-    if b == INF {
-        return x;
-    }
-    let field = b / PLACE;
-    let t = b % PLACE;
-    if field == 0 {
-        let n = normed(t);
-        f64::from_bits(pattern(n.m, 1074 - n.up))
-    } else {
-        f64::from_bits(pattern(PLACE + t, field + 1073))
-    }
+    root::sqrt(x)
 }

@@ -12,8 +12,8 @@ use Rattle.lictor_core.proofs.fuse.TickInput as Ti
 use Rattle.lictor_core.proofs.fuse.TickInput.Laws as Ti′
 use Rattle.lictor_core.proofs.outcome.Outcome as Oc
 use Rattle.lictor_core.proofs.outcome.Outcome.Laws as Oc′
-use Rattle.lictor_core.proofs.settings.SettingsCheck as Ck
-use Rattle.lictor_core.proofs.settings.SettingsCheck.Laws as Ck′
+use Rattle.lictor_settings.proofs.SettingsCheck as Ck
+use Rattle.lictor_settings.proofs.SettingsCheck.Laws as Ck′
 use Rattle.lictor_core.proofs.verdict.SafetyVerdict as Ve
 use Rattle.lictor_core.proofs.verdict.SafetyVerdict.Laws as Ve′
 use Rattle.lictor_fuse.proofs.tick.Ticked as Tk

@@ -1,6 +1,6 @@
 -- What a host's call answers.
 use Prim.Native.Nat.{ℕ}
-use Rattle.lictor_core.specs.Settings.{checkNumber}
+use Rattle.lictor_settings.specs.Settings.{checkNumber}
 use Rattle.lictor_fuse.specs.declared.tick.Ticked.{Ticked}
 use Rattle.host.specs.declared.Answer.{Answer}
 

@@ -2,15 +2,15 @@
 ghost use mathlib.Core.Path.{_≡_};
 ghost use mathlib.Core.Bool.{false};
 ghost use Rattle.lictor_core.specs.Initial.{resetOf};
-ghost use Rattle.lictor_core.specs.Settings.{checkOf, checkNumber};
+ghost use Rattle.lictor_settings.specs.Settings.{checkOf, checkNumber};
 ghost use Rattle.lictor_fuse.specs.Tick.{tickOf, isAccepted, noVerdict};
 ghost use Rattle.host.specs.Host.{answerOf, numberOf};
 use lictor_core::envelope::Settings;
 use lictor_core::fuse::FuseRt;
 use lictor_core::fuse::TickInput;
 use lictor_core::outcome::Outcome;
-use lictor_core::settings::SettingsCheck;
 use lictor_core::verdict::SafetyVerdict;
+use lictor_settings::SettingsCheck;
 
 pub mod example; // a local run state, lent for a few ticks
 

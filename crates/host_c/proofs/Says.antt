@@ -3,7 +3,7 @@
 -- Assumes nothing.
 use mathlib.Core.Path.{_≡_, _∙_}
 use mathlib.Core.Bool.{false}
-use Rattle.lictor_core.specs.Settings.{checkOf, checkNumber}
+use Rattle.lictor_settings.specs.Settings.{checkOf, checkNumber}
 use Rattle.lictor_fuse.specs.declared.tick.Ticked.{Ticked}
 use Rattle.lictor_fuse.specs.Tick.{tickOf, isAccepted, noVerdict}
 use Rattle.host.proofs.Call.{Fs}

@@ -6,7 +6,7 @@ use mathlib.Core.Bool.{Bool, true, false, cond}
 use mathlib.Core.List.{List}
 use lib.Ieee.{Float}
 use Rattle.lictor_core.specs.Initial.{resetOf}
-use Rattle.lictor_core.specs.Settings.{checkOf, checkNumber}
+use Rattle.lictor_settings.specs.Settings.{checkOf, checkNumber}
 use Rattle.lictor_core.specs.declared.envelope.Settings.{Settings}
 use Rattle.lictor_core.specs.declared.fuse.FuseRt.{FuseRt}
 use Rattle.lictor_core.specs.declared.fuse.TickInput.{TickInput}

@@ -3,7 +3,7 @@ use mathlib.Core.Bool.{cond}
 use Prim.Native.Nat.{ℕ}
 use lib.Dec.{eqb}
 use Rattle.lictor_core.specs.Initial.{resetOf}
-use Rattle.lictor_core.specs.Settings.{checkNumber}
+use Rattle.lictor_settings.specs.Settings.{checkNumber}
 use Rattle.lictor_fuse.specs.declared.tick.Ticked.{Ticked}
 use Rattle.host_c.specs.declared.Answer.{Answer}
 use Rattle.host_c.specs.declared.Called.{Called}

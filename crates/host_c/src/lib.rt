@@ -4,7 +4,7 @@ ghost use mathlib.Core.Path.{_≡_};
 ghost use mathlib.Core.Bool.{false};
 ghost use Rattle.fmath.specs.Root.{rootOf};
 ghost use Rattle.lictor_core.specs.Initial.{newOf};
-ghost use Rattle.lictor_core.specs.Settings.{checkOf, checkNumber};
+ghost use Rattle.lictor_settings.specs.Settings.{checkOf, checkNumber};
 ghost use Rattle.lictor_fuse.specs.Tick.{tickOf, isAccepted, noVerdict};
 ghost use Rattle.host_c.specs.Call.{steppedOf, callOf, answerOf, resetRun};
 ghost use Rattle.host_layout.specs.Input.{settingsIn, inputIn, outcomeIn};
@@ -21,8 +21,8 @@ use host_layout::state::state_in;
 use host_layout::state::state_out;
 use host_layout::verdict::Verdict;
 use host_layout::verdict::verdict_out;
-use lictor_core::settings::check_number;
 use lictor_fuse::tick::Ticked;
+use lictor_settings::check_number;
 
 // What a call answers: 0 and the verdict, or the number of a refusal of the settings.
 #[repr(C)]

@@ -51,7 +51,7 @@ pub struct Ticked {
 fn begin(s: Settings) -> Run
     ensures { λ r. ⌜ r ≡ begunOf s ⌝ }
 {
-    let config = lictor_core::settings::config(s);
+    let config = lictor_settings::config(s);
     let rt = lictor_fuse::episode::new();
     Run { config, rt }
 }

@@ -7,9 +7,9 @@ use lib.Dec.{T, T-not}
 use Rattle.lictor_core.specs.declared.envelope.FuseConfig.{FuseConfig}
 use Rattle.lictor_core.specs.declared.envelope.Settings.{Settings}
 use Rattle.lictor_core.specs.declared.fuse.FuseRt.{FuseRt}
-use Rattle.lictor_core.specs.declared.settings.SettingsCheck.the-variants.{Accepted}
+use Rattle.lictor_settings.specs.declared.SettingsCheck.the-variants.{Accepted}
 use Rattle.lictor_core.specs.Initial.{freshControl, newOf}
-use Rattle.lictor_core.specs.Settings.{checkOf, configOf}
+use Rattle.lictor_settings.specs.Settings.{checkOf, configOf}
 use Rattle.lictor_fuse.specs.declared.tick.Decided.{Decided}
 use Rattle.lictor_fuse.specs.Tick.{givenOf}
 use Rattle.claims.specs.Runs.{All, Step, andThen}

@@ -7,8 +7,8 @@ use native.Mathlib.Omega.{arith}
 use lib.Dec.{eqb}
 use lib.ListN.{take, drop}
 use Rattle.lictor_core.specs.declared.envelope.Settings as S
-use Rattle.lictor_core.specs.declared.settings.SettingsCheck.the-variants as K
-use Rattle.lictor_core.specs.Settings.{settingsTable, firstRow, checkOf}
+use Rattle.lictor_settings.specs.declared.SettingsCheck.the-variants as K
+use Rattle.lictor_settings.specs.Settings.{settingsTable, firstRow, checkOf}
 use Rattle.claims.specs.Runs.{All}
 use Rattle.claims.specs.Demand3.{Sized}
 use Rattle.bytes_le.specs.Little.{byteAt, floatAt}

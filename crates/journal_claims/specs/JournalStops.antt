@@ -6,8 +6,8 @@ use mathlib.Core.Path.{_≡_}
 use Prim.Native.Nat.{ℕ, _<_}
 use Rattle.lictor_core.specs.declared.envelope.Settings.{Settings}
 use Rattle.lictor_core.specs.declared.fuse.FuseRt.{FuseRt}
-use Rattle.lictor_core.specs.declared.settings.SettingsCheck.the-variants.{Accepted}
-use Rattle.lictor_core.specs.Settings.{checkOf}
+use Rattle.lictor_settings.specs.declared.SettingsCheck.the-variants.{Accepted}
+use Rattle.lictor_settings.specs.Settings.{checkOf}
 use Rattle.lictor_fuse.specs.declared.tick.Decided.{Decided}
 use Rattle.lictor_fuse.specs.declared.tick.Ticked.{Ticked}
 use Rattle.claims.specs.Runs.{All, trace}

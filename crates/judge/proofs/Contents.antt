@@ -5,9 +5,9 @@ use mathlib.Core.Bool.{Bool, true, false, cond, _||_}
 use mathlib.Core.List.{List}
 use lib.ListN.{length}
 use Rattle.bytes_le.specs.Little.{byteAt}
-use Rattle.lictor_core.specs.declared.settings.SettingsCheck.{SettingsCheck}
-use Rattle.lictor_core.specs.declared.settings.SettingsCheck.the-variants as S
-use Rattle.lictor_core.specs.Settings.{badCode, badSize, badFloat, badBox, settingsTable, firstRow, checkOf}
+use Rattle.lictor_settings.specs.declared.SettingsCheck.{SettingsCheck}
+use Rattle.lictor_settings.specs.declared.SettingsCheck.the-variants as S
+use Rattle.lictor_settings.specs.Settings.{badCode, badSize, badFloat, badBox, settingsTable, firstRow, checkOf}
 use Rattle.records.specs.Body.{settingsOf}
 use Rattle.judge.specs.declared.Seen.{Seen}
 use Rattle.judge.specs.declared.Judged.{Judged}

@@ -6,7 +6,7 @@ use Prim.Native.Nat.{ℕ}
 use lib.Dec.{eqb, ltb, leb}
 use lib.ListN.{length, getD}
 use Rattle.bytes_le.specs.Little.{byteAt}
-use Rattle.lictor_core.specs.Settings.{badCode, badSize, badFloat, badBox}
+use Rattle.lictor_settings.specs.Settings.{badCode, badSize, badFloat, badBox}
 use Rattle.records.specs.Kinds.{isKnown, bodyLen, settingsKind, ackKind, headKind, valueKind, outcomeKind, tickKind}
 use Rattle.records.specs.Body.{settingsOf}
 use Rattle.judge.specs.declared.Seen.{Seen}

@@ -9,7 +9,7 @@ ghost use Rattle.records.specs.Kinds.{journalKinds};
 ghost use Rattle.judge.specs.Causes.{capacities, unknownKind, bodyCut, beforeSettings, notBelow, again as Causes·again, listFull, notReady};
 ghost use Rattle.judge.specs.Table.{numberOf, judgedOf, contentsOf};
 use bytes_le::byte;
-use lictor_core::settings::SettingsCheck;
+use lictor_settings::SettingsCheck;
 
 // What has been seen of a journal: whether its settings came, and what waits for a tick.
 pub struct Seen {
@@ -104,7 +104,7 @@ fn is_again(seen: Seen, k: u8, b: &[u8]) -> bool
 fn judge_settings(seen: Seen, b: &[u8]) -> Judged
     ensures { λ r. ⌜ r ≡ contentsOf seen 1 (now (b .entry)) ⌝ }
 {
-    let c = lictor_core::settings::check(records::read_settings(b));
+    let c = lictor_settings::check(records::read_settings(b));
     match c {
         SettingsCheck::Accepted => Judged::Accepted,
         SettingsCheck::BadCode => Judged::Refused(Refusal::BadCode),

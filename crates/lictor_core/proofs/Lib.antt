@@ -2,5 +2,3 @@
 pub mod Branch
 pub mod Counts
 pub mod Rows
-pub mod Below
-pub mod Nan

@@ -5,4 +5,3 @@ pub mod Num
 pub mod Cases
 pub mod Initial
 pub mod Rows
-pub mod Settings

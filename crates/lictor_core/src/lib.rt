@@ -9,7 +9,6 @@ pub mod outcome; // what the detectors found
 pub mod reason; // reason.rs
 pub mod zero; // rows of zeros
 pub mod scores; // scores.rs
-pub mod settings; // the check of the settings
 pub mod state; // state.rs
 pub mod tally; // tally.rs
 pub mod verdict; // verdict.rs

@@ -13,8 +13,8 @@ use Rattle.lictor_core.specs.declared.fuse.Motion.{Motion}
 use Rattle.lictor_core.specs.declared.fuse.TickInput.{TickInput}
 use Rattle.lictor_core.specs.declared.outcome.Outcome.{Outcome}
 use Rattle.lictor_core.specs.declared.reason.ReasonCode.the-variants.{Ok}
-use Rattle.lictor_core.specs.declared.settings.SettingsCheck.{SettingsCheck}
-use Rattle.lictor_core.specs.declared.settings.SettingsCheck.the-variants.{Accepted}
+use Rattle.lictor_settings.specs.declared.SettingsCheck.{SettingsCheck}
+use Rattle.lictor_settings.specs.declared.SettingsCheck.the-variants.{Accepted}
 use Rattle.lictor_core.specs.declared.state.FuseState.the-variants.{Idle}
 use Rattle.lictor_core.specs.declared.tally.Tally.{Tally}
 use Rattle.lictor_core.specs.declared.verdict.ActionSource.the-variants.{Hold}
@@ -23,7 +23,7 @@ use Rattle.lictor_core.specs.declared.verdict.SafetyVerdict.{SafetyVerdict}
 use Rattle.lictor_core.specs.declared.verdict.Status.the-variants.{Nominal}
 use Rattle.lictor_core.specs.Initial.{zeros}
 use Rattle.lictor_core.specs.Num.{satUp}
-use Rattle.lictor_core.specs.Settings.{checkOf, checkNumber, configOf}
+use Rattle.lictor_settings.specs.Settings.{checkOf, checkNumber, configOf}
 use Rattle.lictor_detect.specs.Brake.{holdAction}
 use Rattle.lictor_guard.specs.Guard.{deliveredOf, guardOf}
 use Rattle.lictor_stages.specs.Ingest.{ingestOf, faultMotion}

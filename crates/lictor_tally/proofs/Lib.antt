@@ -1,4 +1,3 @@
 -- Laws that belong to no one function.
-pub mod Places
 pub mod Laws
 pub mod History

@@ -14,8 +14,8 @@ use lib.Ieee.{Float, nan, inf, fin, binary64, isNan, toBits, ofBits, nanBits, ne
 use lib.Ieee.Bits.{nanBits-is, nanBits-above}
 use Rattle.io.specs.Digits.{digits, Fewest}
 use Rattle.fmath.specs.Root.{rootOf}
-use Rattle.fmath.proofs.Patterns.{no-nan}
-use Rattle.fmath.proofs.Patterns.{is-nan as Patterns·is-nan}
+use Rattle.root.proofs.Patterns.{no-nan}
+use Rattle.root.proofs.Patterns.{is-nan as Patterns·is-nan}
 use Rattle.roots.specs.declared.Read.{Read}
 use Rattle.roots.specs.declared.Read.the-variants.{Pattern, Bad}
 use Rattle.roots.specs.Text.{digitOf, readDigits, readOf, hexText, valueText, lineOf, badLine, byRead, answerTo, isBad, answers, someBad, lineCount, Put, Answered}

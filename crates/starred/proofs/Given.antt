@@ -7,7 +7,7 @@ use Rattle.lictor_core.specs.Codes.{modeOf, kindOf, clampModeOf, rearmOf, decis
 use Rattle.lictor_core.specs.Initial.{zeros, emptyTally, freshControl, freshMotion, freshClock, newOf, resetOf}
 use Rattle.lictor_core.specs.Masks.{anyOf}
 use Rattle.lictor_core.specs.Rows.{rowTo}
-use Rattle.lictor_core.specs.Settings.{badCode, badSize, badFloat, anyBelow, crossedOf, badBox, settingsTable, firstRow, checkOf, configOf}
+use Rattle.lictor_settings.specs.Settings.{badCode, badSize, badFloat, anyBelow, crossedOf, badBox, settingsTable, firstRow, checkOf, configOf}
 use Rattle.lictor_detect.specs.Brake.{component, boxedComponent, boxedRow, scaledComponent, scaledRow, boxedAction, scaledAction, eps, brakeFactor, brakeAction, holdAction}
 use Rattle.lictor_detect.specs.Window.{bitOf, pushOf, hitsOf, clearWindow, tripOf}
 use Rattle.lictor_guard.specs.Guard.{deliveredOf, nonFinite, lengthsOf, shapeBad, sizesBad, placeBad, headBad, deliveryBad, clockBad, schemaBad, bitIf, guardOf}

@@ -3,7 +3,7 @@ use mathlib.Core.Path.{sym, ap, subst}
 use lib.Dec.{T}
 use lib.Ieee.{binary64, fits}
 use lib.Ieee.Scale.{finite}
-use Rattle.fmath.proofs.Patterns.{is-nan, no-nan, finite-bits}
+use Rattle.root.proofs.Patterns.{is-nan, no-nan, finite-bits}
 use Rattle.fmath.proofs.is_finite.Statement.{statement}
 use Rattle.fmath.proofs.is_finite.Tie as tie
 

@@ -9,7 +9,7 @@ use Rattle.lictor_core.specs.declared.envelope.Settings.{Settings}
 use Rattle.lictor_core.specs.declared.fuse.FuseRt.{FuseRt}
 use Rattle.lictor_core.specs.declared.fuse.TickInput.{TickInput}
 use Rattle.lictor_core.specs.declared.outcome.Outcome.{Outcome}
-use Rattle.lictor_core.specs.Settings.{checkOf, checkNumber}
+use Rattle.lictor_settings.specs.Settings.{checkOf, checkNumber}
 use Rattle.lictor_fuse.specs.declared.tick.Ticked.{Ticked}
 use Rattle.lictor_fuse.specs.Tick.{tickOf, isAccepted, noVerdict}
 use Rattle.lictor_fuse.proofs.tick.tick as core

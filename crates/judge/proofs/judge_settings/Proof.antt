@@ -1,5 +1,5 @@
 use mathlib.Core.Path.{sym, ap, _∙_}
-use Rattle.lictor_core.specs.Settings.{checkOf}
+use Rattle.lictor_settings.specs.Settings.{checkOf}
 use Rattle.judge.proofs.Contents.{judgedBy, contents-settings}
 use borrow.Author.Needs.{needs}
 use Rattle.judge.proofs.judge_settings.Statement.{statement}

@@ -1,5 +1,5 @@
 -- `roots::put_value` meets its contract. Assumes nothing.
-use Rattle.fmath.proofs.Patterns.{no-nan}
+use Rattle.root.proofs.Patterns.{no-nan}
 use Rattle.roots.proofs.Laws.{value-nan, value-number}
 use borrow.Author.Needs.{needs}
 use Rattle.roots.proofs.put_value.Statement.{statement}

@@ -1,9 +1,0 @@
-use Rattle.lictor_core.proofs.Nan.{nan-told}
-use Rattle.lictor_core.proofs.settings.is_nan.Statement.{statement}
-use Rattle.lictor_core.proofs.settings.is_nan.Tie as tie
-
-returns : tie.Need-returns
-returns c = nan-told _
-
-pub is-nan-spec : {M : Type 1} → statement M
-is-nan-spec = tie.close (tie.spec returns)

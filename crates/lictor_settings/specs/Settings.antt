@@ -1,0 +1,94 @@
+-- The check of settings: causes 1 to 4 of the refusal table (01-scope.md, Journal), in the table's order, and the configuration that accepted settings mean.
+use mathlib.Core.Bool.{Bool, true, false, cond, not, _||_}
+use mathlib.Core.List.{List, [], _∷_}
+use Prim.Native.Nat.{ℕ, zero, suc}
+use lib.Dec.{ltb, leb}
+use lib.ListN.{getD}
+use lib.Ieee.{Float, nan, isNan, lt}
+use Rattle.fmath.specs.Float.{allFinite}
+use Rattle.lictor_core.specs.declared.envelope.Settings.{Settings}
+use Rattle.lictor_core.specs.declared.envelope.FuseConfig.{FuseConfig}
+use Rattle.lictor_settings.specs.declared.SettingsCheck.{SettingsCheck}
+use Rattle.lictor_settings.specs.declared.SettingsCheck.the-variants.{Accepted, BadCode, BadSize, NotFinite, BoxCrossed}
+use Rattle.lictor_core.specs.Codes.{modeOf, kindOf, clampModeOf, rearmOf}
+
+-- n lies outside of low to high, both included
+abbrev pub outside : ℕ → ℕ → ℕ → Bool
+outside low high n = ltb n low || ltb high n
+
+-- cause 1: a code not listed. There are 2 modes, 5 action kinds, 2 clamp modes and 2 rearm policies, numbered from 0.
+unfoldable pub badCode : Settings → Bool
+badCode s = leb 2 (s .mode) || (leb 5 (s .kind) || (leb 2 (s .clamp) || leb 2 (s .rearm)))
+
+-- cause 2: dim or pos_dim not 1 to 8, horizon not 1 to 64, exec not 1 to horizon
+unfoldable pub badSize : Settings → Bool
+badSize s = outside 1 8 (s .dim) || (outside 1 8 (s .«pos_dim») || (outside 1 64 (s .horizon) || outside 1 (s .horizon) (s .exec)))
+
+-- cause 3: a float not finite; of tau only a NaN is refused
+unfoldable pub badFloat : Settings → Bool
+badFloat s =
+    not (allFinite (s .dt ∷ s .«inv_dt» ∷ s .«a_max» ∷ s .hyst .«v_stop_eps» ∷ s .hyst .«warn_margin» ∷ []))
+    || (isNan (s .calib .tau) || (not (allFinite (s .«box_lo»)) || not (allFinite (s .«box_hi»))))
+
+-- some index below n passes the test
+unfoldable pub anyBelow : ℕ → (ℕ → Bool) → Bool
+anyBelow zero p = false
+anyBelow (suc n) p = anyBelow n p || p n
+
+-- a low end above its high end, among the 8 pairs
+unfoldable pub crossedOf : List Float → List Float → Bool
+crossedOf lo hi = anyBelow 8 (λ i. lt (getD hi i nan) (getD lo i nan))
+
+-- cause 4: a box_lo above its box_hi, whatever pos_dim is
+unfoldable pub badBox : Settings → Bool
+badBox s = crossedOf (s .«box_lo») (s .«box_hi»)
+
+-- a row of the table: what is answered where the cause is there
+pub record Row : Type 0 where
+  pub answer : SettingsCheck
+  pub cause : Settings → Bool
+
+infix 70 refuse_when_
+abbrev pub refuse_when_ : SettingsCheck → (Settings → Bool) → Row
+refuse_when_ a c = record { answer = a; cause = c }
+
+unfoldable pub settingsTable : List Row
+settingsTable = refuse BadCode when badCode ∷ refuse BadSize when badSize ∷ refuse NotFinite when badFloat ∷ refuse BoxCrossed when badBox ∷ []
+
+-- the first row whose cause is there decides; with none, the settings are accepted
+unfoldable pub firstRow : List Row → Settings → SettingsCheck
+firstRow [] s = Accepted
+firstRow (w ∷ ws) s = cond (w .cause s) (w .answer) (firstRow ws s)
+
+unfoldable pub checkOf : Settings → SettingsCheck
+checkOf s = firstRow settingsTable s
+
+-- the paper's number of each answer; accepted settings have none, and are 0 here
+abbrev pub checkNumber : SettingsCheck → ℕ
+checkNumber Accepted = 0
+checkNumber BadCode = 1
+checkNumber BadSize = 2
+checkNumber NotFinite = 3
+checkNumber BoxCrossed = 4
+
+-- the settings with their codes as cases
+unfoldable pub configOf : Settings → FuseConfig
+configOf s = record {
+  mode = modeOf (s .mode);
+  kind = kindOf (s .kind);
+  clamp = clampModeOf (s .clamp);
+  rearm = rearmOf (s .rearm);
+  dim = s .dim;
+  «pos_dim» = s .«pos_dim»;
+  horizon = s .horizon;
+  exec = s .exec;
+  dt = s .dt;
+  «inv_dt» = s .«inv_dt»;
+  «a_max» = s .«a_max»;
+  «box_lo» = s .«box_lo»;
+  «box_hi» = s .«box_hi»;
+  hyst = s .hyst;
+  «window_mask» = s .«window_mask»;
+  «tier0_enabled» = s .«tier0_enabled»;
+  calib = s .calib;
+}
