@@ -130,7 +130,7 @@ fn first(last: u32) -> FuseRt
     ensures { λ r. ⌜ r ≡ firstOf last ⌝ }
 {
     let nothing: [f64; 0] = [];
-    let rt = lictor_fuse::episode::reset(lictor_fuse::episode::new());
+    let rt = lictor_episode::reset(lictor_episode::new());
     let inp = input(last, 0, MaybeChunk::NoChunk);
     let d = lictor_fuse::tick::tick(
         settings(),

@@ -24,7 +24,7 @@ pub struct Answer {
 pub fn reset(rt: &mut FuseRt)
     ensures { λ _. ⌜ now (rt .exit) ≡ resetOf (now (rt .entry)) ⌝ }
 {
-    *rt = lictor_fuse::episode::reset(*rt);
+    *rt = lictor_episode::reset(*rt);
 }
 
 // One tick of the lent run state. Where the settings are refused, the answer has the number of the cause and no verdict, and the run state is as it was.

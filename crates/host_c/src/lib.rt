@@ -81,7 +81,7 @@ fn restarted(rt: RunState) -> RunState
     ensures { λ r. ⌜ r ≡ resetRun rt ⌝ }
 {
     let z = state_in(rt);
-    let n = lictor_fuse::episode::reset(z);
+    let n = lictor_episode::reset(z);
     state_out(n)
 }
 
@@ -92,7 +92,7 @@ fn restarted(rt: RunState) -> RunState
 pub extern "C" fn disklorva_new() -> RunState
     ensures { λ r. ⌜ r ≡ stateOut newOf ⌝ }
 {
-    let z = lictor_fuse::episode::new();
+    let z = lictor_episode::new();
     state_out(z)
 }
 

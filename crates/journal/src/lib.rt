@@ -52,7 +52,7 @@ fn begin(s: Settings) -> Run
     ensures { λ r. ⌜ r ≡ begunOf s ⌝ }
 {
     let config = lictor_settings::config(s);
-    let rt = lictor_fuse::episode::new();
+    let rt = lictor_episode::new();
     Run { config, rt }
 }
 
@@ -61,7 +61,7 @@ fn restart(run: Run) -> Run
 {
     let config = run.config;
     let old = run.rt;
-    let rt = lictor_fuse::episode::reset(old);
+    let rt = lictor_episode::reset(old);
     Run { config, rt }
 }
 

@@ -1,3 +1,2 @@
 // The fuse by value (fuse.rs): a new run state, reset, one tick.
-pub mod episode; // new, reset
 pub mod tick; // fault_tick, decide, and tick with its settings check

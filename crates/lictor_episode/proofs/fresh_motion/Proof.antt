@@ -1,7 +1,7 @@
 use Rattle.lictor_core.specs.Initial.{freshMotion}
 use borrow.Author.Needs.{needs}
-use Rattle.lictor_fuse.proofs.episode.fresh_motion.Statement.{statement}
-use Rattle.lictor_fuse.proofs.episode.fresh_motion.Tie as tie
+use Rattle.lictor_episode.proofs.fresh_motion.Statement.{statement}
+use Rattle.lictor_episode.proofs.fresh_motion.Tie as tie
 
 no-row-requires : tie.Need-no-row-requires
 no-row-requires c κs = search needs

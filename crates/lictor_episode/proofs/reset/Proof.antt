@@ -1,7 +1,7 @@
-use Rattle.lictor_core.specs.Initial.{newOf}
+use Rattle.lictor_core.specs.Initial.{resetOf}
 use borrow.Author.Needs.{needs}
-use Rattle.lictor_fuse.proofs.episode.new.Statement.{statement}
-use Rattle.lictor_fuse.proofs.episode.new.Tie as tie
+use Rattle.lictor_episode.proofs.reset.Statement.{statement}
+use Rattle.lictor_episode.proofs.reset.Tie as tie
 
 fresh-control-requires : tie.Need-fresh-control-requires
 fresh-control-requires c κs = search needs
@@ -16,11 +16,11 @@ empty-requires : tie.Need-empty-requires
 empty-requires c κs = search needs
 
 returns : tie.Need-returns
-unfolding newOf
+unfolding resetOf
 returns c = rw (c .empty .ensures, c .before .fresh-clock .ensures, c .before .before .fresh-motion .ensures, c .before .before .before .fresh-control .ensures)
 
-pub new-spec : {M : Type 1} → statement M
-new-spec =
+pub reset-spec : {M : Type 1} → statement M
+reset-spec =
     tie.close
     (tie.spec
     fresh-control-requires

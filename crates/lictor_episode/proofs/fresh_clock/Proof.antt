@@ -1,7 +1,7 @@
 use Rattle.lictor_core.specs.Initial.{freshClock}
 use borrow.Author.Needs.{needs}
-use Rattle.lictor_fuse.proofs.episode.fresh_clock.Statement.{statement}
-use Rattle.lictor_fuse.proofs.episode.fresh_clock.Tie as tie
+use Rattle.lictor_episode.proofs.fresh_clock.Statement.{statement}
+use Rattle.lictor_episode.proofs.fresh_clock.Tie as tie
 
 returns : tie.Need-returns
 unfolding freshClock

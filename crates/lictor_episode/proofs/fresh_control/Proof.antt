@@ -1,7 +1,7 @@
 use Rattle.lictor_core.specs.Initial.{freshControl}
 use borrow.Author.Needs.{needs}
-use Rattle.lictor_fuse.proofs.episode.fresh_control.Statement.{statement}
-use Rattle.lictor_fuse.proofs.episode.fresh_control.Tie as tie
+use Rattle.lictor_episode.proofs.fresh_control.Statement.{statement}
+use Rattle.lictor_episode.proofs.fresh_control.Tie as tie
 
 no-row-requires : tie.Need-no-row-requires
 no-row-requires c κs = search needs

@@ -1,7 +1,7 @@
-use Rattle.lictor_core.specs.Initial.{resetOf}
+use Rattle.lictor_core.specs.Initial.{newOf}
 use borrow.Author.Needs.{needs}
-use Rattle.lictor_fuse.proofs.episode.reset.Statement.{statement}
-use Rattle.lictor_fuse.proofs.episode.reset.Tie as tie
+use Rattle.lictor_episode.proofs.new.Statement.{statement}
+use Rattle.lictor_episode.proofs.new.Tie as tie
 
 fresh-control-requires : tie.Need-fresh-control-requires
 fresh-control-requires c κs = search needs
@@ -16,11 +16,11 @@ empty-requires : tie.Need-empty-requires
 empty-requires c κs = search needs
 
 returns : tie.Need-returns
-unfolding resetOf
+unfolding newOf
 returns c = rw (c .empty .ensures, c .before .fresh-clock .ensures, c .before .before .fresh-motion .ensures, c .before .before .before .fresh-control .ensures)
 
-pub reset-spec : {M : Type 1} → statement M
-reset-spec =
+pub new-spec : {M : Type 1} → statement M
+new-spec =
     tie.close
     (tie.spec
     fresh-control-requires
