@@ -1,4 +1,4 @@
-// The run state before and at the start of an episode (FuseRt::new, reset).
+// The run state before and at the start of an episode (fuse.rs, FuseRt::new and reset).
 ghost use mathlib.Core.Path.{_≡_};
 ghost use Rattle.lictor_core.specs.Initial.{freshControl, freshMotion, freshClock, newOf, resetOf};
 use lictor_core::fuse::Clock;
