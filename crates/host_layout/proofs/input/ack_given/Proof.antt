@@ -8,7 +8,7 @@ decision-of-requires c κs = search needs
 
 returns : tie.Need-returns
 unfolding ackGiven
-returns c = cc
+returns c = rw (c .decision-of .ensures)
 
 pub ack-given-spec : {M : Type 1} → statement M
 ack-given-spec = tie.close (tie.spec decision-of-requires returns)

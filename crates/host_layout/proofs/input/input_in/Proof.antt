@@ -17,7 +17,7 @@ ack-in-requires c κs = search needs
 
 returns : tie.Need-returns
 unfolding inputIn
-returns c = cc
+returns c = rw (c .ack-in .ensures, c .before .chunk-in .ensures, c .before .before .flag2 .ensures, c .before .before .before .flag .ensures)
 
 pub input-in-spec : {M : Type 1} → statement M
 input-in-spec =

@@ -8,7 +8,7 @@ sure-requires c κs = search needs
 
 returns : tie.Need-returns
 unfolding outcomeIn
-returns c = cc
+returns c = rw (c .sure .ensures)
 
 pub outcome-in-spec : {M : Type 1} → statement M
 outcome-in-spec = tie.close (tie.spec sure-requires returns)

@@ -11,7 +11,7 @@ flag-requires-2 c κs = search needs
 
 returns : tie.Need-returns
 unfolding clockIn
-returns c = cc
+returns c = rw (c .flag2 .ensures, c .before .flag .ensures)
 
 pub clock-in-spec : {M : Type 1} → statement M
 clock-in-spec = tie.close (tie.spec flag-requires flag-requires-2 returns)

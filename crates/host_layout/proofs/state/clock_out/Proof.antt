@@ -11,7 +11,7 @@ code-requires-2 c κs = search needs
 
 returns : tie.Need-returns
 unfolding clockOut
-returns c = cc
+returns c = rw (c .code2 .ensures, c .before .code .ensures)
 
 pub clock-out-spec : {M : Type 1} → statement M
 clock-out-spec = tie.close (tie.spec code-requires code-requires-2 returns)

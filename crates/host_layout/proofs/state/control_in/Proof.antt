@@ -11,7 +11,7 @@ flag-requires c κs = search needs
 
 returns : tie.Need-returns
 unfolding controlIn
-returns c = cc
+returns c = rw (c .flag .ensures, c .before .state-of .ensures)
 
 pub control-in-spec : {M : Type 1} → statement M
 control-in-spec = tie.close (tie.spec state-of-requires flag-requires returns)

@@ -11,7 +11,7 @@ code-requires c κs = search needs
 
 returns : tie.Need-returns
 unfolding controlOut
-returns c = cc
+returns c = rw (c .code .ensures, c .before .state-code .ensures)
 
 pub control-out-spec : {M : Type 1} → statement M
 control-out-spec = tie.close (tie.spec state-code-requires code-requires returns)

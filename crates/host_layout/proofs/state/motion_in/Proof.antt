@@ -8,7 +8,7 @@ flag-requires c κs = search needs
 
 returns : tie.Need-returns
 unfolding motionIn
-returns c = cc
+returns c = rw (c .flag .ensures)
 
 pub motion-in-spec : {M : Type 1} → statement M
 motion-in-spec = tie.close (tie.spec flag-requires returns)

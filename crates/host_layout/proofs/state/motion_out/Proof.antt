@@ -8,7 +8,7 @@ code-requires c κs = search needs
 
 returns : tie.Need-returns
 unfolding motionOut
-returns c = cc
+returns c = rw (c .code .ensures)
 
 pub motion-out-spec : {M : Type 1} → statement M
 motion-out-spec = tie.close (tie.spec code-requires returns)

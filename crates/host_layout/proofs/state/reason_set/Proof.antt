@@ -8,7 +8,7 @@ reason-code-requires c κs = search needs
 
 returns : tie.Need-returns
 unfolding reasonSet
-returns c = cc
+returns c = rw (c .reason-code .ensures)
 
 pub reason-set-spec : {M : Type 1} → statement M
 reason-set-spec = tie.close (tie.spec reason-code-requires returns)

@@ -17,7 +17,7 @@ tally-in-requires c κs = search needs
 
 returns : tie.Need-returns
 unfolding stateIn
-returns c = cc
+returns c = rw (c .tally-in .ensures, c .before .clock-in .ensures, c .before .before .motion-in .ensures, c .before .before .before .control-in .ensures)
 
 pub state-in-spec : {M : Type 1} → statement M
 state-in-spec =

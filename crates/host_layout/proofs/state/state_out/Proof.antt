@@ -17,7 +17,7 @@ tally-out-requires c κs = search needs
 
 returns : tie.Need-returns
 unfolding stateOut
-returns c = cc
+returns c = rw (c .tally-out .ensures, c .before .clock-out .ensures, c .before .before .motion-out .ensures, c .before .before .before .control-out .ensures)
 
 pub state-out-spec : {M : Type 1} → statement M
 state-out-spec =

@@ -35,7 +35,7 @@ code-requires-3 c κs = search needs
 
 returns : tie.Need-returns
 unfolding verdictOut
-returns c = cc
+returns c = rw (c .code3 .ensures, c .before .code2 .ensures, c .before .before .code .ensures, c .before .before .before .handoff-number .ensures, c .before .before .before .before .handoff-set .ensures, c .before .before .before .before .before .reason-code .ensures, c .before .before .before .before .before .before .source-code .ensures, c .before .before .before .before .before .before .before .state-code2 .ensures, c .before .before .before .before .before .before .before .before .state-code .ensures, c .before .before .before .before .before .before .before .before .before .status-code .ensures)
 
 pub verdict-out-spec : {M : Type 1} → statement M
 verdict-out-spec =
