@@ -1,0 +1,19 @@
+use Rattle.lictor_core.proofs.Branch.{branches}
+use Rattle.lictor_table.specs.Rows.{clearedOf}
+use borrow.Author.Needs.{needs}
+use Rattle.lictor_running.proofs.cleared.Statement.{statement}
+use Rattle.lictor_running.proofs.cleared.Tie as tie
+
+is-armed-requires : tie.Need-is-armed-requires
+is-armed-requires c κs = search needs
+
+returns : tie.Need-returns
+unfolding clearedOf
+returns c = search branches depth 12
+
+returns-2 : tie.Need-returns-2
+unfolding clearedOf
+returns-2 c = search branches depth 12
+
+pub cleared-spec : {M : Type 1} → statement M
+cleared-spec = tie.close (tie.spec is-armed-requires returns returns-2)
