@@ -6,9 +6,9 @@ use mathlib.Core.Bool.{Bool, true, false, cond}
 use native.Mathlib.Omega.{arith}
 use lib.ListN.{length, take, drop, length-drop, getD}
 use lib.Seq.{drop-drop, getD-drop}
-use lib.Dec.{leb}
+use lib.Dec.{leb, ltb}
 use lib.Ieee.{Float}
-use borrow.Author.Tests.{leb-true, leb-false}
+use borrow.Author.Tests.{leb-true, leb-false, le-ltb, lt-ltb}
 use Rattle.bytes_le.specs.Little.{byteAt}
 use Rattle.lictor_core.specs.declared.fuse.TickInput.{TickInput}
 use Rattle.lictor_fuse.specs.declared.tick.Decided.{Decided}
@@ -185,7 +185,7 @@ module _ (w : Whole) (s : List ℕ) (at : ℕ) (h : at ≤ length s) (a : J.Adva
 
     pub turned-ticks : (code : ℕ) (out : List ℕ) (n : ℕ) (r : Turn) (out' : List ℕ)
         → n ≤ length out → length out' ≡ length out
-        → tickedOf code (tickOf v inp) (i + 1 + bodyLen journalKinds (byteAt s i)) out n r out' → (Turned code w s at out n r l' out') × (r .ticked ≡ true → at < r .at)
+        → tickedOf code (tickOf v inp) (i + 1 + bodyLen journalKinds (byteAt s i)) out n r out' → (Turned code w s at out n r l' out') × (r .ticked ≡ true → at < r .at) × (r .ticked ≡ false → r .n ≡ n)
     unfolding eventsText tickOf after
     turned-ticks code out n r out' o k t = (
       record {
@@ -200,6 +200,7 @@ module _ (w : Whole) (s : List ℕ) (at : ℕ) (h : at ≤ length s) (a : J.Adva
         none = λ z. t .none;
       },
       λ z. omega (arith, t .at-is),
+      λ z. absurd (no (sym (t .ticked) ∙ z)),
     )
       where
         no : true ≡ false → ⊥
@@ -262,14 +263,16 @@ pub more-is : (t : Bool) (n room : ℕ) (m : Bool) → m ≡ goesOnOf t n room �
 unfolding goesOnOf
 more-is t n room m e y = more-by t n room (leb (n + 19200) room) refl (sym e ∙ y)
 
--- nothing more to do behind a tick: there is no room
-full-by : (t : Bool) (n room : ℕ) (b : Bool) → leb (n + 19200) room ≡ b → cond b t false ≡ false → t ≡ true → room < n + 19200
-full-by t n room true e y z = absurd (let o : _≡_ {A = ℕ} 0 1 = cc in omega arith)
-full-by t n room false e y z = leb-false (n + 19200) room e
+-- nothing more to do: it ends behind a tick just where there is no room
+full-by : (t : Bool) (n room : ℕ) → (t ≡ false → n + 19200 ≤ room) → (b : Bool) → leb (n + 19200) room ≡ b → cond b t false ≡ false → t ≡ ltb room (n + 19200)
+full-by true n room p true e y = absurd (let o : _≡_ {A = ℕ} 0 1 = cc in omega arith)
+full-by false n room p true e y = sym (le-ltb room (n + 19200) (leb-true (n + 19200) room e))
+full-by true n room p false e y = sym (lt-ltb room (n + 19200) (leb-false (n + 19200) room e))
+full-by false n room p false e y = absurd (omega (arith, p refl, leb-false (n + 19200) room e))
 
-full-is : (t : Bool) (n room : ℕ) (m : Bool) → m ≡ goesOnOf t n room → m ≡ false → t ≡ true → room < n + 19200
+full-is : (t : Bool) (n room : ℕ) (m : Bool) → m ≡ goesOnOf t n room → (t ≡ false → n + 19200 ≤ room) → m ≡ false → t ≡ ltb room (n + 19200)
 unfolding goesOnOf
-full-is t n room m e y z = full-by t n room (leb (n + 19200) room) refl (sym e ∙ y) z
+full-is t n room m e p y = full-by t n room p (leb (n + 19200) room) refl (sym e ∙ y)
 
 -- ---- from the first byte
 
@@ -291,13 +294,13 @@ turned-none code w s out = record {
   none = λ y. refl;
 }
 
--- what was played so far. Where there is more to do, there is room; where it is over behind a tick, some bytes were taken, and there is no room.
+-- what was played so far. Where there is more to do, there is room; where it is over, it ends behind a tick just where there is none, and then some bytes were taken.
 pub record Since (code : ℕ) (l₀ : List Float) (s : List ℕ) (out₀ : List ℕ) (t₀ : Turn) (l : List Float) (out : List ℕ) (t : Turn) (more : Bool) : Type 0 where
   pub turned : Turned code (wholeOf (t₀ .reader) (t₀ .run) l₀) s (t₀ .at) out₀ (t₀ .n) t l out
   pub long : length out ≡ length out₀
   pub further : more ≡ false → t .ticked ≡ true → 0 < t .at
   pub room : more ≡ true → t .n + 19200 ≤ length out
-  pub full : more ≡ false → t .ticked ≡ true → length out < t .n + 19200
+  pub full : more ≡ false → t .ticked ≡ ltb (length out₀) (t .n + 19200)
 
 pub since-first : (code : ℕ) (w : Whole) (s : List ℕ) (out : List ℕ) → 19200 ≤ length out → Since code (w .state .lists) s out (first w) (w .state .lists) out (first w) true
 since-first code w s out h = record {
@@ -309,17 +312,19 @@ since-first code w s out h = record {
 }
 
 pub since-more : (code : ℕ) (l₀ : List Float) (s : List ℕ) (out₀ : List ℕ) (t₀ : Turn) (l : List Float) (out : List ℕ) (t : Turn) (more : Bool) (r : Turn) (l' : List Float)
-    (out' : List ℕ) (more' : Bool) → t₀ .n ≤ length out₀ → length out' ≡ length out → Since code l₀ s out₀ t₀ l out t more
-    → Turned code (wholeOf (t .reader) (t .run) l) s (t .at) out (t .n) r l' out' → (r .ticked ≡ true → t .at < r .at) → more' ≡ goesOnOf (r .ticked) (r .n) (length out')
+    (out' : List ℕ) (more' : Bool) → more ≡ true → t₀ .n ≤ length out₀ → length out' ≡ length out → Since code l₀ s out₀ t₀ l out t more
+    → Turned code (wholeOf (t .reader) (t .run) l) s (t .at) out (t .n) r l' out' → (r .ticked ≡ true → t .at < r .at) → (r .ticked ≡ false → r .n ≡ t .n) → more' ≡ goesOnOf (r .ticked) (r .n) (length out')
     → Since code l₀ s out₀ t₀ l' out' r more'
-since-more code l₀ s out₀ t₀ l out t more r l' out' more' h k i q f y = record {
+since-more code l₀ s out₀ t₀ l out t more r l' out' more' e h k i q f g y = record {
   turned = turned-on code _ s (t₀ .at) out₀ (t₀ .n) t l out r l' out' h (i .turned) q;
   long = k ∙ i .long;
   further = λ m z. omega (arith, f z);
   room = λ m. more-is (r .ticked) (r .n) (length out') more' y m .1;
-  full = full-is (r .ticked) (r .n) (length out') more' y;
+  full = λ m.
+      full-is (r .ticked) (r .n) (length out') more' y (λ z. omega (arith, g z, i .room e, k)) m
+      ∙ ap (λ (room : ℕ). ltb room (r .n + 19200)) (k ∙ i .long);
 }
 
 -- nothing was done
 pub fed-none : (code : ℕ) (w : Whole) (s out : List ℕ) → length out < 19200 → Fed code w s out (first w) (w .state .lists) out
-fed-none code w s out h = record { turned = turned-none code w s out; further = λ k y. omega arith; full = λ y. h }
+fed-none code w s out h = record { turned = turned-none code w s out; further = λ k y. omega arith; full = sym (lt-ltb (length out) (0 + 19200) (omega arith)) }

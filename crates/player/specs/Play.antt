@@ -3,7 +3,7 @@ use mathlib.Core.Bool.{Bool, true, false, cond}
 use mathlib.Core.List.{List, [], _∷_, _++_}
 use mathlib.Core.Path.{_≡_}
 use Prim.Native.Nat.{ℕ, _+_, _-_, _≤_, _<_}
-use lib.Dec.{leb}
+use lib.Dec.{leb, ltb}
 use lib.Ieee.{Float}
 use lib.ListN.{length, take, drop}
 use Rattle.lictor_fuse.specs.declared.tick.Decided.{Decided}
@@ -61,9 +61,9 @@ pub record Turned (code : ℕ) (w : Whole) (s : List ℕ) (at : ℕ) (out : List
 unfoldable pub goesOnOf : Bool → ℕ → ℕ → Bool
 goesOnOf ticked n room = cond (leb (n + 19200) room) ticked false
 
--- From the first byte of s, with the text at the front of `out`. It ends behind a tick only where the room for the text of one more is lacking, and where there was room for one,
+-- From the first byte of s, with the text at the front of `out`. It ends behind a tick just where the room for the text of one more is lacking, and where there was room for one,
 -- some bytes were taken. How many are taken before it ends so is the program's choice, since a text may be shorter than the room for it; all else follows from that number.
 pub record Fed (code : ℕ) (w : Whole) (s : List ℕ) (out : List ℕ) (r : Turn) (l' : List Float) (out' : List ℕ) : Type 0 where
   pub turned : Turned code w s 0 out 0 r l' out'
   pub further : 19200 ≤ length out → r .ticked ≡ true → 0 < r .at
-  pub full : r .ticked ≡ true → length out < r .n + 19200
+  pub full : r .ticked ≡ ltb (length out) (r .n + 19200)

@@ -1,6 +1,6 @@
 // Plays the bytes of a journal that are at hand: its ticks, and their text in lent memory. Nothing here reads or writes a file.
 ghost use mathlib.Core.Path.{_≡_};
-ghost use mathlib.Core.Bool.{true};
+ghost use mathlib.Core.Bool.{true, false};
 ghost use Prim.Native.Nat.{_+_, _-_, _*_, _^_, _<_, _≤_};
 ghost use lib.ListN.{length, take, drop};
 ghost use Rattle.bytes_le.specs.Little.{byteAt};
@@ -68,7 +68,7 @@ fn play_turn(
     n: usize,
 ) -> Turn
     requires { ⌜ (at ≤ length (now s)) × (n + 19200 ≤ length (now out)) ⌝ }
-    ensures { λ r. ⌜ (Turned code (wholeOf rd run (now (lists .entry))) (now (s .entry)) at (now (out .entry)) n r (now (lists .exit)) (now (out .exit))) × (r .ticked ≡ true → at < r .at) ⌝ }
+    ensures { λ r. ⌜ (Turned code (wholeOf rd run (now (lists .entry))) (now (s .entry)) at (now (out .entry)) n r (now (lists .exit)) (now (out .exit))) × (r .ticked ≡ true → at < r .at) × (r .ticked ≡ false → r .n ≡ n) ⌝ }
 {
     let a = journal::advance(rd, run, lists, &s[at..]);
     let reader = a.reader;

@@ -35,13 +35,13 @@ loop-less c =
 loop-again : tie.Need-loop-again Inv-loop μ-loop
 loop-again c =
     let q = c .before .before .before .play-turn .ensures in
-    since-more _ _ _ _ _ _ _ _ _ _ _ _ _ (omega arith) (c .before .before .before .play-turn .kept .1 .1 .1 .1 .1 .1 .0) (c .before .before .before .before .before .before .before .before .before .loop .inv) (q .0) (q .1) (c .goes-on .ensures)
+    since-more _ _ _ _ _ _ _ _ _ _ _ _ _ (c .before .before .before .before .before .before .before .before .loop-test .taken) (omega arith) (c .before .before .before .play-turn .kept .1 .1 .1 .1 .1 .1 .0) (c .before .before .before .before .before .before .before .before .before .loop .inv) (q .0) (q .1) (q .2) (c .goes-on .ensures)
 
 same-length : tie.Need-same-length Inv-loop μ-loop
 same-length c = c .before .loop .inv .long
 
 returns : tie.Need-returns Inv-loop μ-loop
-returns c = let i = c .before .loop .inv in record { turned = i .turned; further = λ h y. i .further (c .loop-test .left) y; full = λ y. omega (arith, i .full (c .loop-test .left) y, i .long) }
+returns c = let i = c .before .loop .inv in record { turned = i .turned; further = λ h y. i .further (c .loop-test .left) y; full = i .full (c .loop-test .left) }
 
 pub feed-all-spec : {M : Type 1} → statement M
 feed-all-spec =

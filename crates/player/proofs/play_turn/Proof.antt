@@ -1,5 +1,5 @@
 use Prim.Native.Nat.{ℕ}
-use mathlib.Core.Path.{_≡_, ap}
+use mathlib.Core.Path.{_≡_, refl}
 use native.Mathlib.Omega.{arith}
 use lib.ListN.{length}
 use borrow.Author.Needs.{needs}
@@ -85,7 +85,7 @@ returns c =
     let a = c .before .before .before .before .before .before .before .before .before .before .args in
     let q = c .before .before .before .before .before .advance .ensures in
     let h = c .before .before .before .before .before .before .before .before .before .before .pre .0 in
-    (turned-waits _ (a .s .now) (a .at) h _ _ (q .0) (q .1) _ _ _ (omega (arith, c .before .before .before .before .before .before .before .before .before .before .pre .1)) (c .enum-told .given .1), λ y. absurd (let z : _≡_ {A = ℕ} 0 1 = cc in omega arith))
+    (turned-waits _ (a .s .now) (a .at) h _ _ (q .0) (q .1) _ _ _ (omega (arith, c .before .before .before .before .before .before .before .before .before .before .pre .1)) (c .enum-told .given .1), λ y. absurd (let z : _≡_ {A = ℕ} 0 1 = cc in omega arith), λ y. refl)
 
 -- src/lib.rt:47:1
 returns-2 : tie.Need-returns-2
@@ -93,7 +93,7 @@ returns-2 c =
     let a = c .before .before .before .before .before .before .before .before .before .before .before .before .args in
     let q = c .before .before .before .before .before .before .before .advance .ensures in
     let h = c .before .before .before .before .before .before .before .before .before .before .before .before .pre .0 in
-    (turned-refuses _ (a .s .now) (a .at) h _ _ (q .0) (q .1) _ _ _ (omega (arith, c .before .before .before .before .before .before .before .before .before .before .before .before .pre .1)) _ (c .before .before .how .given .1) _ (c .number .ensures), λ y. absurd (let z : _≡_ {A = ℕ} 0 1 = cc in omega arith))
+    (turned-refuses _ (a .s .now) (a .at) h _ _ (q .0) (q .1) _ _ _ (omega (arith, c .before .before .before .before .before .before .before .before .before .before .before .before .pre .1)) _ (c .before .before .how .given .1) _ (c .number .ensures), λ y. absurd (let z : _≡_ {A = ℕ} 0 1 = cc in omega arith), λ y. refl)
 
 -- src/lib.rt:47:1
 same-length : tie.Need-same-length
