@@ -13,7 +13,7 @@ use Rattle.judge.specs.Table.{numberOf}
 use Rattle.judge.proofs.Exactly.{numbers}
 use Rattle.reader.specs.Stream.{wait, End, waiting, halted, Settled, telling, settled}
 use Rattle.reader.specs.Reading.{nextOf}
-use Rattle.reader.proofs.Stream.{joined, settled-still}
+use Rattle.reader.proofs.Stream.{joined, settled-still, telling-telling}
 use Rattle.reader.proofs.Reading.{waits-short}
 use Rattle.journal.specs.Journal.{Whole, wholeOf, replayOf}
 use Rattle.journal.proofs.Replay.{replay}
@@ -24,7 +24,6 @@ use Rattle.player.specs.declared.Turn.{Turn}
 use Rattle.console.specs.declared.Round.{Round}
 use Rattle.player.specs.Play.{eventsText, numberAt, Rests, Turned, Fed}
 use Rattle.console.specs.Console.{Taken, Rounded}
-use Rattle.player.proofs.Turns.{telling-telling}
 
 -- ---- memory
 

@@ -26,7 +26,7 @@ use Rattle.console.specs.declared.Round.{Round}
 use Rattle.console.specs.declared.Ended.{Ended}
 use Rattle.player.specs.Play.{numberAt, Rests, eventsText}
 use Rattle.console.specs.Console.{lastText, Rounded, textOf, endedOf, endNumber, endPlace, Ran, lastOf}
-use Rattle.player.proofs.Turns.{telling-telling}
+use Rattle.reader.proofs.Stream.{telling-telling}
 use Rattle.console.proofs.Rounds.{more-bytes}
 
 -- the bytes that came so far: those before `place` were taken, those at the front of memory wait

@@ -19,7 +19,7 @@ use Rattle.reader.specs.declared.What.the-variants as W
 use Rattle.reader.specs.Stream.{Next, wait, halt, go, tell, waiting, halted, Settled, telling, settled, Advanced, advanced, goesOn}
 use Rattle.reader.specs.State.{State, emptied}
 use Rattle.reader.specs.Reading.{Instruction, begin, restart, tick, callOf, withReader, nextOf, whatOf}
-use Rattle.reader.proofs.Stream.{Ahead, ahead, settled-wait, settled-halt, settled-tell, tells-on, taken-advanced, taken-tell, taken-on}
+use Rattle.reader.proofs.Stream.{Ahead, ahead, settled-wait, settled-halt, settled-tell, tells-on, taken-advanced, taken-tell, taken-on, telling-telling}
 use Rattle.reader.proofs.Reading.{machine, ticks-is}
 use Rattle.journal.specs.declared.Run.{Run}
 use Rattle.journal.specs.declared.How.{How}
@@ -213,13 +213,6 @@ unfolding eventsText
 events-append code [] b = refl
 events-append code (d ∷ a) b =
     ap (λ (t : List ℕ). eventText code (d .verdict) (d .rt) ++ t) (events-append code a b) ∙ sym (append-assoc (eventText code (d .verdict) (d .rt)) (eventsText code a) (eventsText code b))
-
-with-told : Settled Whole Decided Refusal → List Decided → Settled Whole Decided Refusal
-with-told a es = record { state = a .state; rest = a .rest; told = es; end = a .end }
-
-pub telling-telling : (es fs : List Decided) (a : Settled Whole Decided Refusal) → telling es (telling fs a) ≡ telling (es ++ fs) a
-unfolding with-told
-telling-telling es fs a = ap (with-told a) (sym (append-assoc es fs (a .told)))
 
 -- one turn behind others
 alone-further : (w : Whole) (s : List ℕ) (at : ℕ) (v : Whole) (at' : ℕ) (es : List Decided) (at'' : ℕ) (b : Settled Whole Decided Refusal) → at ≤ at' → at' ≤ at''

@@ -8,6 +8,14 @@ use lib.ListN.{length, take, drop, length-append, length-drop}
 use lib.Seq.{drop-append-le, drop-drop, take-add, drop-at, length-take-le}
 use Rattle.reader.specs.Stream.{Next, wait, halt, go, tell, End, waiting, halted, Settled, telling, after, settle, settled, Advanced, past, upTo, advance, advanced, Reached, goesOn, takes, size, Machine, fed, whole}
 
+with-told : {R E H : Type 0} → Settled R E H → List E → Settled R E H
+with-told a es = record { state = a .state; rest = a .rest; told = es; end = a .end }
+
+-- what is told before what is told
+pub telling-telling : {R E H : Type 0} (es fs : List E) (a : Settled R E H) → telling es (telling fs a) ≡ telling (es ++ fs) a
+unfolding with-told
+telling-telling es fs a = ap (with-told a) (sym (append-assoc es fs (a .told)))
+
 module _ {R E H : Type 0} (next : R → List ℕ → Next R E H) (m : Machine next) where
   -- a record that is taken is there
   pub goes : (r : R) (s : List ℕ) (r' : R) (n : ℕ) → next r s ≡ go r' n → (0 < n) × (n ≤ length s)
@@ -82,13 +90,6 @@ module _ {R E H : Type 0} (next : R → List ℕ → Next R E H) (m : Machine ne
       let b = tells-on r s r' n t e in
       step-is (length s) r s (tell r' n t) e
       ∙ ap (telling (t ∷ [])) (fuel (length s) (suc (length (drop n s))) r' (drop n s) (omega (arith, length-drop n s)) (omega arith))
-
-  with-told : Settled R E H → List E → Settled R E H
-  with-told a es = record { state = a .state; rest = a .rest; told = es; end = a .end }
-
-  telling-telling : (es fs : List E) (a : Settled R E H) → telling es (telling fs a) ≡ telling (es ++ fs) a
-  unfolding with-told
-  telling-telling es fs a = ap (with-told a) (sym (append-assoc es fs (a .told)))
 
   -- to take in s and then t, behind what s left over, is to take in s ++ t
   abbrev Joined : ℕ → R → List ℕ → List ℕ → Type 0

@@ -1,3 +1,2 @@
 -- Laws that belong to no one function.
-pub mod Rows
-pub mod Parts
+mod Parts

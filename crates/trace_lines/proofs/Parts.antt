@@ -3,25 +3,14 @@ use mathlib.Core.Path.{_≡_, refl}
 use mathlib.Core.List.{_++_}
 use lib.ListN.{length}
 use Rattle.lictor_core.specs.declared.verdict.SafetyVerdict.{SafetyVerdict}
-use Rattle.lictor_core.specs.declared.tally.Tally.{Tally}
 use Rattle.lictor_core.specs.declared.fuse.Control.{Control}
 use Rattle.lictor_core.specs.declared.fuse.Motion.{Motion}
 use Rattle.lictor_core.specs.declared.fuse.Clock.{Clock}
 use Rattle.lictor_core.specs.declared.fuse.FuseRt.{FuseRt}
-use Rattle.trace_lines.specs.Trace.{headLines, actionLines, scoreLines, reasonLines, verdictLines, clockLines, motionLines, controlLines, handoffLines, runLines, stateLines, eventLines, markLines, lastLines, tallyLines, traceLines}
-use Rattle.trace_lines.proofs.Rows.{in-front, behind}
-
-pub verdict-6 : (v : SafetyVerdict) → length (headLines v) ≡ 6
-unfolding headLines
-verdict-6 v = refl
-
-pub verdict-11 : (v : SafetyVerdict) → length (headLines v ++ actionLines v) ≡ 11
-unfolding headLines actionLines
-verdict-11 v = refl
-
-pub verdict-15 : (v : SafetyVerdict) → length (headLines v ++ actionLines v ++ scoreLines (v .scores)) ≡ 15
-unfolding headLines actionLines scoreLines
-verdict-15 v = refl
+use Rattle.trace_verdict.specs.Lines.{headLines, actionLines, scoreLines, reasonLines, verdictLines}
+use Rattle.trace_tally.specs.Lines.{stateLines, eventLines, markLines, lastLines, tallyLines}
+use Rattle.trace_lines.specs.Trace.{clockLines, motionLines, controlLines, handoffLines, runLines, traceLines}
+use Rattle.trace_rows.proofs.Rows.{in-front, behind}
 
 pub run-6 : (k : Clock) (c : Control) → length (clockLines k c) ≡ 6
 unfolding clockLines
@@ -34,18 +23,6 @@ run-11 k c m = refl
 pub run-19 : (k : Clock) (c : Control) (m : Motion) → length (clockLines k c ++ motionLines m ++ controlLines c) ≡ 19
 unfolding clockLines motionLines controlLines
 run-19 k c m = refl
-
-pub tally-9 : (t : Tally) → length (stateLines t) ≡ 9
-unfolding stateLines
-tally-9 t = refl
-
-pub tally-16 : (t : Tally) → length (stateLines t ++ eventLines t) ≡ 16
-unfolding stateLines eventLines
-tally-16 t = refl
-
-pub tally-22 : (t : Tally) → length (stateLines t ++ eventLines t ++ markLines t) ≡ 22
-unfolding stateLines eventLines markLines
-tally-22 t = refl
 
 pub trace-23 : (v : SafetyVerdict) → length (verdictLines v) ≡ 23
 unfolding verdictLines headLines actionLines scoreLines reasonLines
@@ -61,10 +38,6 @@ unfolding traceLines verdictLines headLines actionLines scoreLines reasonLines r
 trace-74 v rt = refl
 
 -- a function that tests k and calls the part is closed by these
-pub ruleset of-verdict = (in-front, behind, verdict-6, verdict-11, verdict-15)
-
 pub ruleset of-run = (in-front, behind, run-6, run-11, run-19)
-
-pub ruleset of-tally = (in-front, behind, tally-9, tally-16, tally-22)
 
 pub ruleset of-trace = (in-front, behind, trace-23, trace-48)

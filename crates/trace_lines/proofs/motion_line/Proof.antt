@@ -1,7 +1,7 @@
 -- Each line by its number, and past the last the empty one.
 use borrow.Author.Needs.{needs}
 use Rattle.trace_lines.specs.Trace.{motionLines}
-use Rattle.trace_lines.proofs.Rows.{beyond}
+use Rattle.trace_rows.proofs.Rows.{beyond}
 use Rattle.trace_lines.proofs.motion_line.Statement.{statement}
 use Rattle.trace_lines.proofs.motion_line.Tie as tie
 

@@ -1,0 +1,39 @@
+use Rattle.text.proofs.Lines.{push-line}
+use Rattle.trace_rows.specs.Row.{row}
+use borrow.Author.Needs.{needs}
+use Rattle.trace_rows.proofs.none.Statement.{statement}
+use Rattle.trace_rows.proofs.none.Tie as tie
+
+empty-requires : tie.Need-empty-requires
+empty-requires c κs = search needs
+
+push-requires : tie.Need-push-requires
+push-requires c κs = search needs
+
+slice-aggregate-push : tie.Need-slice-aggregate-push
+slice-aggregate-push c = search needs
+
+push-requires-2 : tie.Need-push-requires-2
+push-requires-2 c κs = search needs
+
+slice-aggregate-push-2 : tie.Need-slice-aggregate-push-2
+slice-aggregate-push-2 c = search needs
+
+push-requires-3 : tie.Need-push-requires-3
+push-requires-3 c κs = search needs
+
+returns : tie.Need-returns
+unfolding row
+returns c = simp (c .push3 .ensures, c .before .before .push2 .ensures, c .before .before .before .before .push .ensures, c .before .before .before .before .before .empty .ensures, push-line)
+
+pub none-spec : {M : Type 1} → statement M
+none-spec =
+    tie.close
+    (tie.spec
+    empty-requires
+    push-requires
+    slice-aggregate-push
+    push-requires-2
+    slice-aggregate-push-2
+    push-requires-3
+    returns)

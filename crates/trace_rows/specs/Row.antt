@@ -1,0 +1,37 @@
+-- A line of the trace: `name=value`. Numbers and codes are decimal, flags 0 or 1, floats the 16 hexadecimal digits of their bits (every NaN `nan`), lists have commas, an absent mark is `none`.
+use Prim.Native.Nat.{ℕ}
+use mathlib.Core.Bool.{Bool, cond}
+use mathlib.Core.List.{List, _++_}
+use Rattle.text.specs.Ascii.{ascii}
+use Rattle.text.specs.Number.{decimalOf}
+use Rattle.lictor_core.specs.Codes.{stateCode, reasonCode}
+use Rattle.lictor_core.specs.Cases.{byMark, byReasonMark}
+use Rattle.lictor_core.specs.declared.reason.ReasonCode.{ReasonCode}
+use Rattle.lictor_core.specs.declared.state.FuseState.{FuseState}
+use Rattle.lictor_core.specs.declared.verdict.MaybeHandoff.{MaybeHandoff}
+use Rattle.lictor_core.specs.declared.verdict.MaybeHandoff.the-variants.{NoHandoff, Begun}
+use Rattle.lictor_core.specs.declared.tally.Mark.{Mark}
+use Rattle.lictor_core.specs.declared.tally.ReasonMark.{ReasonMark}
+
+abbrev pub flagText : Bool → List ℕ
+flagText b = decimalOf (cond b 1 0)
+
+abbrev pub stateText : FuseState → List ℕ
+stateText s = decimalOf (stateCode s)
+
+abbrev pub reasonText : ReasonCode → List ℕ
+reasonText w = decimalOf (reasonCode w)
+
+unfoldable pub handoffText : MaybeHandoff → List ℕ
+handoffText NoHandoff = ascii "none"
+handoffText (Begun n) = decimalOf n
+
+unfoldable pub markText : Mark → List ℕ
+markText m = byMark m (ascii "none") decimalOf
+
+unfoldable pub reasonMarkText : ReasonMark → List ℕ
+reasonMarkText m = byReasonMark m (ascii "none") reasonText
+
+-- the name with its `=`, the value, a newline
+unfoldable pub row : List ℕ → List ℕ → List ℕ
+row name value = name ++ value ++ ascii "\n"
