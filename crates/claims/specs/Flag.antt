@@ -1,5 +1,6 @@
 -- The verdict's flag `ack_consumed` says of every tick whether it consumes an acknowledgement, as the claim on acknowledgements has it.
 -- Proved in proofs/Flag, `flag-tells`.
+-- (01-scope.md, The list in demand 3, on what is consumed; fuse.rs, decide, `ack_consumed`).
 use mathlib.Core.Path.{_≡_}
 use mathlib.Core.Bool.{not}
 use lib.Dec.{T}

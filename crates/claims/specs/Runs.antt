@@ -1,4 +1,5 @@
 -- Words about lists, and a machine that is called again and again. Nothing here knows of the fuse.
+-- The claims of 00-demands.md, Demand 3, are written with these words.
 use mathlib.Core.List.{List, [], _∷_}
 use Prim.Native.Nat.{ℕ, zero, suc, _+_}
 

@@ -1,4 +1,5 @@
 -- What a program prints for a journal, and what a journal that is read in parts is played to.
+-- The text is that of 01-scope.md, Journal, the program `fuse`; `Taken`, `roundOf`, `Rounded` and `endedOf` join the code of `console` to it.
 use mathlib.Core.Bool.{Bool, true, false, cond}
 use mathlib.Core.List.{List, _++_}
 use mathlib.Core.Path.{_≡_}

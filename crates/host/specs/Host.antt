@@ -1,4 +1,5 @@
 -- What a host's call answers.
+-- The lent tick of 01-scope.md, Rust forms that need another form (fuse.rs, decide).
 use Prim.Native.Nat.{ℕ}
 use Rattle.lictor_settings.specs.Settings.{checkNumber}
 use Rattle.lictor_fuse.specs.declared.tick.Ticked.{Ticked}

@@ -1,4 +1,5 @@
 -- One call of the library.
+-- It joins numbers in the layout of C to the one tick of 01-scope.md (lictor_fuse, specs/Tick, tickOf) and to fuse.rs's reset.
 use mathlib.Core.Bool.{cond}
 use Prim.Native.Nat.{ℕ}
 use lib.Dec.{eqb}

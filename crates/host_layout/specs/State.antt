@@ -1,4 +1,5 @@
 -- The run state of the library and that of the fuse: field by field the same, but that the library's has a number for each code, mark and flag.
+-- It joins the layout of C to `FuseRt` of lictor_core (fuse.rs, FuseRt; tally.rs, Tally), with the codes of 01-scope.md, Modules 1.
 use mathlib.Core.Bool.{cond}
 use mathlib.Core.List.{List, [], _∷_}
 use Prim.Native.Nat.{ℕ}

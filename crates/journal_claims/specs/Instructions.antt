@@ -1,5 +1,6 @@
 -- A journal as a list of instructions, and what these do to one run state, one after the other. That this is what the journal means is proved
 -- (proofs/Instructions, events-played, run-played).
+-- The instructions are those of 01-scope.md, Journal: settings, reset and tick.
 use mathlib.Core.List.{List, [], _∷_, _++_}
 use Prim.Native.Nat.{ℕ}
 use Rattle.lictor_fuse.specs.declared.tick.Decided.{Decided}

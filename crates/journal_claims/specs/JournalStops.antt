@@ -1,6 +1,7 @@
 -- Demand 3 of journals: in every journal the ticks from a reset to the next, or to the end, stop close, under the journal's one settings record. The claim stands at
 -- the end of this file, and is proved in proofs/JournalStops, `journal-stops`. Of other files it names: demand 3 of a list of calls of `tick` (claims,
 -- specs/Demand3, with Calls and Runs); the meaning of a journal (journal, specs/Journal, journalOf); its instructions (Instructions).
+-- (00-demands.md, Demand 3; 01-scope.md, The list in demand 3 and Journal.)
 use mathlib.Core.List.{List, [], _∷_, _++_, map}
 use mathlib.Core.Path.{_≡_}
 use Prim.Native.Nat.{ℕ, _<_}

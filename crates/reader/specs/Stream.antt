@@ -1,4 +1,5 @@
 -- Machines over bytes that come in parts: such a machine takes whole records off the front of the bytes at hand, and waits where the last one is not there whole.
+-- A journal is such a list of bytes (01-scope.md, Journal). Nothing here knows of records; specs/Reading gives the machine.
 use Prim.Native.Nat.{ℕ, zero, suc, _+_, _-_, _≤_, _<_}
 use mathlib.Core.Bool.{Bool, true, false}
 use mathlib.Core.List.{List, [], _∷_, _++_}

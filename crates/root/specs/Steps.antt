@@ -1,4 +1,5 @@
 -- What the steps of `sqrt` promise each other. Definitions only.
+-- It joins the code of `sqrt` to specs/Root, and states nothing of the papers.
 use mathlib.Core.Path.{_≡_}
 use Prim.Native.Nat.{ℕ, _+_, _*_, _^_, _≤_, _<_}
 use mathlib.Core.Bool.{false, not}
