@@ -3,6 +3,7 @@ use mathlib.Core.Path.{_≡_, refl, sym, _∙_}
 use mathlib.Core.Bool.{Bool, true, false, _&&_}
 use mathlib.Core.List.{List}
 use Prim.Native.Nat.{ℕ, _+_, _-_, _^_, _≤_, _<_}
+use native.Mathlib.Nat.{zero-div}
 use native.Mathlib.Omega.{arith}
 use lib.Dec.{ltb}
 use lib.ListN.{length, getD, List·getD-eq-default}
@@ -13,7 +14,7 @@ use Rattle.lictor_core.specs.declared.reason.ReasonCode.{ReasonCode}
 use Rattle.lictor_core.specs.declared.tally.Mark.the-variants.{At}
 use Rattle.lictor_core.specs.declared.tally.ReasonMark.{ReasonMark}
 use Rattle.lictor_counts.specs.Counts.{count, bitOf, countBit, countBits, eachFrom, first, firstReason, mostAt, mostLive}
-use Rattle.lictor_counts.proofs.Places.{length-each, each-at}
+use Rattle.lictor_counts.proofs.Places.{length-each, each-at, each-same}
 
 -- ---- counts
 
@@ -46,6 +47,15 @@ bits-at mask l n b e = by-place (ltb b n) refl where
       let f : length (eachFrom 0 (countBit mask) l) ≤ b = omega (arith, length-each (countBit mask) 0 l) in
       List·getD-eq-default (eachFrom 0 (countBit mask) l) 0 f ∙ sym (List·getD-eq-default l 0 g)
 
+-- an empty mask has no bit, so that nothing moves
+pub no-bit : (mask b : ℕ) → mask ≡ 0 → bitOf mask b ≡ false
+unfolding bitOf
+no-bit mask b e = rw (e, zero-div (2 ^ b))
+
+pub bits-none : (mask : ℕ) (l : List ℕ) → mask ≡ 0 → l ≡ countBits mask l
+unfolding countBits countBit count
+bits-none mask l e = sym (each-same (countBit mask) 0 l (λ b n. rw (no-bit mask b e)))
+
 -- ---- marks
 
 -- a mark that is set stays, and so does the reason beside it
@@ -65,3 +75,8 @@ reason-stays false k w old = refl
 pub most-at : (live : ℕ) (z l : List Float) (j : ℕ) → j < length l → getD (mostLive live z l) j nan ≡ mostAt live z j (getD l j nan)
 unfolding mostLive
 most-at live z l j h = let i : 0 + j ≡ j = omega arith in rw i at (each-at (mostAt live z) 0 l j nan h)
+
+-- with no channel live they stay
+pub most-none : (live : ℕ) (z l : List Float) → live ≡ 0 → l ≡ mostLive live z l
+unfolding mostLive mostAt
+most-none live z l e = sym (each-same (mostAt live z) 0 l (λ j x. rw (no-bit live j e)))

@@ -48,3 +48,9 @@ module _ {X : Type 0} (f : ℕ → X → X) where
 
   pub each-done : (l g : List X) (k : ℕ) → g ≡ eachTo 0 k l → length l ≡ k → g ≡ eachFrom 0 f l
   each-done l g k p e = rw (p, ← e) (each-whole 0 l)
+
+  -- a rule that changes nothing
+  pub each-same : (i : ℕ) (l : List X) → ((k : ℕ) (x : X) → f k x ≡ x) → eachFrom i f l ≡ l
+  unfolding eachFrom
+  each-same i [] h = refl
+  each-same i (x ∷ l) h = rw (h i x, each-same (i + 1) l h)

@@ -66,10 +66,14 @@ fn count_bit(mask: u32, b: usize, n: u32) -> u32
     count_if(moves, n)
 }
 
+// Most masks are empty, and then no place is looked at.
 fn count_bits(mask: u32, l: &mut [u32])
     requires { ⌜ length (now l) ≤ 32 ⌝ }
     ensures { λ r. ⌜ now (l .exit) ≡ countBits mask (now (l .entry)) ⌝ }
 {
+    if mask == 0 {
+        return;
+    }
     let mut b: usize = 0;
     while b < l.len() {
         l[b] = count_bit(mask, b, l[b]);
@@ -148,6 +152,9 @@ pub fn most_live(tally: Tally, z: [f64; 12], live: u32) -> [f64; 12]
     ensures { λ r. ⌜ r ≡ mostLive live z (tally .«max_z») ⌝ }
 {
     let mut h = tally.max_z;
+    if live == 0 {
+        return h;
+    }
     let mut j: usize = 0;
     while j < 12 {
         h[j] = most_at(live, j, z[j], h[j]);

@@ -3,6 +3,7 @@ use mathlib.Core.Path.{_≡_}
 use lib.ListN.{length, length-set}
 use native.Mathlib.Omega.{arith}
 use Rattle.lictor_counts.proofs.Places.{eachTo, each-none, each-more, each-done}
+use Rattle.lictor_counts.proofs.Laws.{bits-none}
 use Rattle.lictor_counts.specs.Counts.{countBit, countBits}
 use borrow.Author.Needs.{needs}
 use Rattle.lictor_counts.proofs.count_bits.Statement.{statement}
@@ -13,6 +14,9 @@ Inv-loop mask l₀ b₀ l b = (b ≤ length l₀) × (length l ≡ length l₀) 
 
 abbrev μ-loop : tie.MeasureT-loop
 μ-loop mask l₀ b₀ l b = length l₀ - b
+
+returns : tie.Need-returns Inv-loop μ-loop
+returns c = bits-none _ _ (c .if1 .taken)
 
 loop-holds : tie.Need-loop-holds Inv-loop μ-loop
 loop-holds c = search (needs, each-none)
@@ -44,9 +48,9 @@ loop-again c = search (needs, each-more, length-set)
 same-length : tie.Need-same-length Inv-loop μ-loop
 same-length c = search needs
 
-returns : tie.Need-returns Inv-loop μ-loop
+returns-2 : tie.Need-returns-2 Inv-loop μ-loop
 unfolding countBits
-returns c = let q = c .before .loop in let e : length (c .before .before .before .args .l .now) ≡ q .b = omega arith in each-done (countBit _) _ _ _ (q .inv .2) e
+returns-2 c = let q = c .before .loop in let e : length (c .before .before .before .before .args .l .now) ≡ q .b = omega arith in each-done (countBit _) _ _ _ (q .inv .2) e
 
 pub count-bits-spec : {M : Type 1} → statement M
 count-bits-spec =
@@ -54,6 +58,7 @@ count-bits-spec =
     (tie.spec
     Inv-loop
     μ-loop
+    returns
     loop-holds
     mul-count-bit
     slice-read-count-bit
@@ -64,4 +69,4 @@ count-bits-spec =
     loop-less
     loop-again
     same-length
-    returns)
+    returns-2)

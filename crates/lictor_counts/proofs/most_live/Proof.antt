@@ -3,6 +3,7 @@ use mathlib.Core.Path.{_≡_}
 use lib.ListN.{length}
 use native.Mathlib.Omega.{arith}
 use Rattle.lictor_counts.proofs.Places.{eachTo, each-none, each-more, each-done}
+use Rattle.lictor_counts.proofs.Laws.{most-none}
 use Rattle.lictor_counts.specs.Counts.{mostAt, mostLive}
 use borrow.Author.Needs.{needs}
 use Rattle.lictor_counts.proofs.most_live.Statement.{statement}
@@ -13,6 +14,9 @@ Inv-loop live z h₀ j₀ h j = (j ≤ 12) × (length h₀ ≡ 12) × (h ≡ eac
 
 abbrev μ-loop : tie.MeasureT-loop
 μ-loop live z h₀ j₀ h j = 12 - j
+
+returns : tie.Need-returns Inv-loop μ-loop
+returns c = most-none _ _ _ (c .if1 .taken)
 
 loop-holds : tie.Need-loop-holds Inv-loop μ-loop
 loop-holds c = search (needs, each-none)
@@ -48,9 +52,9 @@ loop-again : tie.Need-loop-again Inv-loop μ-loop
 unfolding mostAt
 loop-again c = search (needs, each-more)
 
-returns : tie.Need-returns Inv-loop μ-loop
+returns-2 : tie.Need-returns-2 Inv-loop μ-loop
 unfolding mostLive
-returns c = let q = c .before .loop in let e : length (c .before .before .before .args .tally .«max_z») ≡ q .j = omega arith in each-done (mostAt _ _) _ _ _ (q .inv .2) e
+returns-2 c = let q = c .before .loop in let e : length (c .before .before .before .before .args .tally .«max_z») ≡ q .j = omega arith in each-done (mostAt _ _) _ _ _ (q .inv .2) e
 
 pub most-live-spec : {M : Type 1} → statement M
 most-live-spec =
@@ -58,6 +62,7 @@ most-live-spec =
     (tie.spec
     Inv-loop
     μ-loop
+    returns
     loop-holds
     mul-most-at
     array-read-most-at
@@ -69,4 +74,4 @@ most-live-spec =
     add-j
     loop-less
     loop-again
-    returns)
+    returns-2)
