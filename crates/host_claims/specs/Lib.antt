@@ -1,0 +1,2 @@
+-- Definitions that the theorem of this crate cites.
+pub mod HostRun
