@@ -1,4 +1,5 @@
-// A caller with plain parameters: a run state that is a local is lent for a tick. Whoever calls `once` has a function by value, and its proof needs no walk.
+// Two callers of `tick`, as an example and no part of the product: they show that the lent tick can be used and proved like any function by value.
+// `once` lends a local run state for one tick, and gives what the tick by value gives; `three` calls it three times, and its proof needs nothing more.
 ghost use mathlib.Core.Path.{_≡_};
 ghost use Rattle.lictor_fuse.specs.Tick.{tickOf};
 ghost use Rattle.host.specs.Example.{threeOf};

@@ -12,7 +12,7 @@ use lictor_core::outcome::Outcome;
 use lictor_core::verdict::SafetyVerdict;
 use lictor_settings::SettingsCheck;
 
-pub mod example; // a local run state, lent for a few ticks
+pub mod example; // shows how a caller uses `tick`; no host needs it
 
 // What a call answers: what the check of the settings says, and the verdict where it accepts them.
 pub struct Answer {
@@ -28,6 +28,7 @@ pub fn reset(rt: &mut FuseRt)
 }
 
 // One tick of the lent run state. Where the settings are refused, the answer has the number of the cause and no verdict, and the run state is as it was.
+// All NaNs are one value in this promise: which pattern a NaN has is left open, and nothing else depends on it.
 pub fn tick(
     rt: &mut FuseRt,
     s: Settings,

@@ -1,7 +1,6 @@
 // What a tick comes to after the state machine: its verdict, the clock, the count of chunks, and what the tally is told (fuse.rs, fault_tick and decide).
 // Internal: lictor_fuse puts the tick together.
 ghost use mathlib.Core.Path.{_≡_};
-ghost use mathlib.Core.Bool.{_||_};
 ghost use Rattle.lictor_tally.specs.Tally.{recordChunk};
 ghost use Rattle.lictor_verdict.specs.Verdict.{rejectedOf};
 ghost use Rattle.lictor_closing.specs.Clock.{nextChunk, cleanClock, chunkTally, faultClock};
@@ -45,22 +44,13 @@ fn next_chunk(boundary: bool, n: u32) -> u32
     if boundary { wrap_u32(n) } else { n }
 }
 
-fn either(a: bool, b: bool) -> bool
-    ensures { λ r. ⌜ r ≡ (a || b) ⌝ }
-{
-    if a {
-        return true;
-    }
-    b
-}
-
 fn clean_clock(k: Clock, inp: TickInput, ok: bool) -> Clock
     ensures { λ r. ⌜ r ≡ cleanClock k inp ok ⌝ }
 {
     let c = inp.chunk;
     let boundary = delivered(c);
     let n = next_chunk(boundary, k.next_chunk_seq);
-    let f = either(k.filled, boundary);
+    let f = k.filled || boundary;
     Clock {
         filled: f,
         seq: k.seq,

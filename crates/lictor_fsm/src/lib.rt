@@ -83,6 +83,7 @@ fn settled(t: Turn) -> Turn
     }
 }
 
+// The run state made anew, field by field: a store to a field that is an enum is not covered by the checker.
 fn with_state(rt: Control, s: FuseState) -> Control
     ensures { λ r. ⌜ r ≡ withState s rt ⌝ }
 {

@@ -91,6 +91,7 @@ fn decide_by(
 }
 
 // One tick under a configuration: the state goes in, and comes back with the verdict.
+// All NaNs are one value in this promise: which pattern a NaN has is left open, and nothing else depends on it.
 pub fn decide(
     cfg: FuseConfig,
     rt: FuseRt,
@@ -210,6 +211,7 @@ fn tick_by(
 }
 
 // One call: settings that fail the check answer that, and nothing changes; else one tick under them.
+// All NaNs are one value in this promise: which pattern a NaN has is left open, and nothing else depends on it.
 pub fn tick(
     s: Settings,
     rt: FuseRt,

@@ -73,6 +73,7 @@ pub fn empty() -> Tally
 // ---- a tick and a chunk
 
 // Tally::record: the verdict of a tick, once it is final, and its events.
+// All NaNs are one value in this promise: which pattern a NaN has is left open, and nothing else depends on it.
 pub fn record(tally: Tally, v: SafetyVerdict, ev: TickEvents) -> Tally
     ensures { λ r. ⌜ r ≡ recordOf tally v ev ⌝ }
 {

@@ -1,5 +1,5 @@
 -- The sum of the eight bytes, each times its weight, is the definition written out.
-use native.Mathlib.Omega.{arith}
+use mathlib.Core.Path.{sym}
 use Rattle.bytes_le.proofs.Laws.{leAt-8}
 use borrow.Author.Needs.{needs}
 use Rattle.bytes_le.proofs.eight.Statement.{statement}
@@ -119,7 +119,7 @@ add-result-7 c = search needs
 returns : tie.Need-returns
 returns c =
     let a = c .before .before .before .before .before .before .before .before .before .before .before .before .before .before .before .before .before .args in
-    omega (arith, leAt-8 (a .s .now) (a .at))
+    rw (c .wide8 .ensures .0, c .before .before .wide7 .ensures .0, c .before .before .before .before .wide6 .ensures .0, c .before .before .before .before .before .before .wide5 .ensures .0, c .before .before .before .before .before .before .before .before .wide4 .ensures .0, c .before .before .before .before .before .before .before .before .before .before .wide3 .ensures .0, c .before .before .before .before .before .before .before .before .before .before .before .before .wide2 .ensures .0, c .before .before .before .before .before .before .before .before .before .before .before .before .before .before .wide .ensures .0) (sym (leAt-8 (a .s .now) (a .at)))
 
 pub eight-spec : {M : Type 1} → statement M
 eight-spec =
