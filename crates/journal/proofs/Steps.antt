@@ -45,7 +45,7 @@ lifts-by f run ih st s p wait e = rw (advanced-wait nextOf machine st s e) (lift
 lifts-by f run ih st s p (halt r) e = rw (advanced-halt nextOf machine st s r e) (lifts-here run st s (halt r))
 lifts-by f run ih st s p (tell st' n i) e = rw (advanced-tell nextOf machine st s st' n i e) (lifts-here run st s (tell st' n i))
 lifts-by f run ih st s p (go st' n) e =
-    let b = goes nextOf machine st s st' n e in
+    let b = goes nextOf (machine .there) st s st' n e in
     let a = advanced nextOf st' (drop n s) in
     rw (advanced-go nextOf machine st s st' n e)
     (advanced-go replayOf replay (record { state = st; run = run }) s (record { state = st'; run = run }) n (replay-is (record { state = st; run = run }) s (go st' n) e)
@@ -188,7 +188,7 @@ module _ (rd : Reader) (run : Run) (l : List Float) (s : List ℕ) (at : ℕ) (h
       → nextOf st' (drop (at + p .used) s) ≡ tell st'' (suc (bodyLen journalKinds (byteAt (drop (at + p .used) s) 0))) i
       → at + p .used + bodyLen journalKinds (byteAt s (at + p .used)) < length s
   instruction-fits {st'' = st''} {i = i} q =
-      let b = tells-on nextOf machine st' (drop (at + p .used) s) st'' _ i q in
+      let b = tells-on nextOf (machine .there) st' (drop (at + p .used) s) st'' _ i q in
       omega (arith, b .1, length-drop (at + p .used) s, ap (bodyLen journalKinds) (byte-there s (at + p .used)))
 
   pub begins-fits : p .what ≡ W.Begins → at + p .used + bodyLen journalKinds (byteAt s (at + p .used)) < length s

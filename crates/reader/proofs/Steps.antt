@@ -223,7 +223,7 @@ module _ (w : Waiting) (l : List Float) (s : List ℕ) (at : ℕ) (h : at ≤ le
 
   -- there are fewer bytes left, or no more turns
   less-by : (m : Bool) → r .more ≡ m → length s - r .at + cond (r .more) 1 0 < length s - at + 1
-  less-by true y = let b = goes nextOf machine _ (drop at s) _ _ (t .waits y (outcomeOf [])) in rw y (omega (arith, b .0, b .1, length-drop at s))
+  less-by true y = let b = goes nextOf (machine .there) _ (drop at s) _ _ (t .waits y (outcomeOf [])) in rw y (omega (arith, b .0, b .1, length-drop at s))
   less-by false y = rw (y, t .same-place y) (omega arith)
 
   pub took-less : length s - r .at + cond (r .more) 1 0 < length s - at + 1
