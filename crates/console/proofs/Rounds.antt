@@ -1,28 +1,26 @@
 -- Round by round: reading, playing, and what is left over.
-use Prim.Native.Nat.{ℕ, zero, suc, _+_, _-_, _*_, _≤_, _<_}
-use mathlib.Core.Path.{_≡_, refl, sym, ap, ap₂, _∙_}
-use mathlib.Core.List.{List, [], _∷_, _++_, append-nil, append-assoc}
+use Prim.Native.Nat.{ℕ, _+_, _-_, _*_, _≤_, _<_}
+use mathlib.Core.Path.{_≡_, refl, sym, ap, _∙_}
+use mathlib.Core.List.{List, [], _∷_, _++_, append-nil}
 use mathlib.Core.Bool.{Bool, true, false}
 use native.Mathlib.Omega.{arith}
 use lib.ListN.{length, take, drop, length-append, length-drop}
-use lib.Seq.{take-at, length-take-le, take-length, take-paste}
+use lib.Seq.{take-at, length-take-le}
 use lib.Ieee.{Float}
 use Rattle.lictor_fuse.specs.declared.tick.Decided.{Decided}
 use Rattle.judge.specs.declared.Refusal.{Refusal}
-use Rattle.judge.specs.Table.{numberOf}
 use Rattle.judge.proofs.Exactly.{numbers}
-use Rattle.reader.specs.Stream.{wait, End, waiting, halted, Settled, telling, settled}
+use Rattle.reader.specs.Stream.{wait, End, waiting, halted, telling, settled}
 use Rattle.reader.specs.Reading.{nextOf}
 use Rattle.reader.proofs.Stream.{joined, settled-still, telling-telling}
 use Rattle.reader.proofs.Reading.{waits-short}
 use Rattle.journal.specs.Journal.{Whole, wholeOf, replayOf}
 use Rattle.journal.proofs.Replay.{replay}
 use Rattle.journal.proofs.Ends.{waits-as}
-use Rattle.render.specs.Text.{Put}
 use Rattle.intake.specs.Intake.{movedDown, Came}
 use Rattle.player.specs.declared.Turn.{Turn}
 use Rattle.console.specs.declared.Round.{Round}
-use Rattle.player.specs.Play.{eventsText, tickRoom, Fed}
+use Rattle.player.specs.Play.{tickRoom, Fed}
 use Rattle.console.specs.Console.{numberAt, Rests, Taken, Rounded}
 use Rattle.console.proofs.Feeds.{Followed, followed}
 

@@ -11,7 +11,7 @@ use Rattle.lictor_fuse.specs.declared.tick.Decided.{Decided}
 use Rattle.judge.specs.declared.Refusal.{Refusal}
 use Rattle.judge.specs.declared.Refusal.the-variants.{CutBody}
 use Rattle.judge.specs.Table.{numberOf}
-use Rattle.reader.specs.Stream.{End, waiting, halted, Settled, telling, settled}
+use Rattle.reader.specs.Stream.{End, waiting, halted, telling, settled}
 use Rattle.journal.specs.declared.Run.{Run}
 use Rattle.journal.specs.Journal.{Whole, wholeOf, replayOf, Ending, ended, refused, journalOf}
 use Rattle.report.specs.Lines.{endText, refusedText}

@@ -1,8 +1,8 @@
 -- A journal that is played into memory: what it does next, and how far it goes without a tick.
-use Prim.Native.Nat.{ℕ, zero, suc, _+_, _-_, _≤_, _<_}
+use Prim.Native.Nat.{ℕ, zero, suc, _+_, _≤_, _<_}
 use mathlib.Core.Path.{_≡_, refl, sym, ap, _∙_}
 use mathlib.Core.List.{List}
-use mathlib.Core.Bool.{Bool, true, false, cond}
+use mathlib.Core.Bool.{Bool, true, false}
 use native.Mathlib.Omega.{arith}
 use lib.ListN.{length, drop, length-drop}
 use lib.Seq.{drop-drop}
@@ -14,7 +14,7 @@ use Rattle.reader.specs.Stream.{Next, wait, halt, go, tell, settled, advanced, 
 use Rattle.reader.proofs.Stream.{goes, settled-go, advanced-go, advanced-wait, advanced-halt, advanced-tell}
 use Rattle.journal.specs.Journal.{Whole, replayOf}
 use Rattle.journal.proofs.Replay.{replay}
-use Rattle.player.specs.Play.{tickRoom, Playing, Stop, full, played, playOf}
+use Rattle.player.specs.Play.{tickRoom, Playing, full, played, playOf}
 
 played-takes : (code n : ℕ) (x : Next Whole Decided Refusal) → takes (played code n x) ≡ takes x
 unfolding played

@@ -1,14 +1,14 @@
 -- From tick to tick: what `advance` and `tick` answer, in terms of where the journal settles.
-use Prim.Native.Nat.{ℕ, zero, suc, _+_, _-_, _≤_, _<_}
+use Prim.Native.Nat.{ℕ, suc, _+_, _-_, _≤_, _<_}
 use mathlib.Core.Path.{_≡_, refl, sym, ap, ap₂, _∙_}
 use mathlib.Core.List.{List, [], _∷_, _++_, append-nil, append-assoc}
 use mathlib.Core.Bool.{Bool, true, false, cond}
 use native.Mathlib.Omega.{arith}
-use lib.ListN.{length, take, drop, length-drop, getD}
+use lib.ListN.{length, take, drop, length-drop}
 use lib.Seq.{drop-drop, getD-drop, take-length}
-use lib.Dec.{leb, ltb}
+use lib.Dec.{leb}
 use lib.Ieee.{Float}
-use borrow.Author.Tests.{leb-true, leb-false, le-ltb, lt-ltb}
+use borrow.Author.Tests.{leb-true, leb-false}
 use Rattle.bytes_le.specs.Little.{byteAt}
 use Rattle.lictor_core.specs.declared.fuse.TickInput.{TickInput}
 use Rattle.lictor_fuse.specs.declared.tick.Decided.{Decided}
@@ -20,17 +20,14 @@ use Rattle.reader.specs.Stream.{Next, wait, halt, go, tell, waiting, halted, Se
 use Rattle.reader.specs.State.{State, emptied}
 use Rattle.reader.specs.Reading.{Instruction, begin, restart, tick, callOf, withReader, nextOf, whatOf}
 use Rattle.reader.proofs.Stream.{Ahead, ahead, settled-wait, settled-halt, settled-tell, tells-on, telling-telling}
-use Rattle.reader.proofs.Reading.{machine, ticks-is}
-use Rattle.journal.specs.declared.Run.{Run}
-use Rattle.journal.specs.declared.How.{How}
+use Rattle.reader.proofs.Reading.{ticks-is}
 use Rattle.journal.specs.declared.How.the-variants.{Waits, Refuses, Ticks}
 use Rattle.journal.specs.declared.Advanced as J
-use Rattle.journal.specs.declared.Ticked.{Ticked}
 use Rattle.journal.specs.Journal.{Whole, wholeOf, decidedOf, tickedOf as after, tickOf, obey, obeyed, replayOf, howOf, advancedOf, listsAfter}
 use Rattle.journal.proofs.Replay.{replay-is, replay}
 use Rattle.journal.proofs.Steps.{part-from}
 use Rattle.render.specs.Text.{Put, eventText}
-use Rattle.render.proofs.Laws.{put-none, put-on, put-within}
+use Rattle.render.proofs.Laws.{put-none, put-on}
 use Rattle.player.specs.declared.Turn.{Turn}
 use Rattle.player.specs.Play.{eventsText, tickRoom, Playing, Stop, refuses, full, played, playOf, fedOf, turnOf, tickedOf, playingOf, Stopped, Turned, goesOnOf, Fed}
 use Rattle.player.proofs.Playing.{play-full, play-room, play-there, onward}

@@ -1,10 +1,8 @@
 // Plays the bytes of a journal that are at hand: its ticks, and their text in lent memory. Nothing here reads or writes a file.
 ghost use mathlib.Core.Path.{_≡_};
 ghost use mathlib.Core.Bool.{true, false};
-ghost use Prim.Native.Nat.{_+_, _-_, _*_, _^_, _<_, _≤_};
-ghost use lib.ListN.{length, take, drop};
-ghost use Rattle.bytes_le.specs.Little.{byteAt};
-ghost use Rattle.records.specs.Kinds.{journalKinds, bodyLen};
+ghost use Prim.Native.Nat.{_+_, _-_, _<_, _≤_};
+ghost use lib.ListN.{length};
 ghost use Rattle.journal.specs.Journal.{wholeOf, tickOf};
 ghost use Rattle.player.specs.Play.{tickRoom, tickedOf, Turned, goesOnOf, Fed};
 use journal::How;

@@ -1,7 +1,4 @@
-use Prim.Native.Nat.{ℕ}
-use mathlib.Core.Path.{_≡_, refl}
 use native.Mathlib.Omega.{arith}
-use lib.ListN.{length}
 use borrow.Author.Needs.{needs}
 use Rattle.player.proofs.Turns.{turn-within, turned-waits, turned-refuses, tick-fits, turned-ticks}
 use Rattle.player.proofs.play_turn.Statement.{statement}
