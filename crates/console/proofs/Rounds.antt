@@ -1,29 +1,28 @@
 -- Round by round: reading, playing, and what is left over.
-use Prim.Native.Nat.{ℕ, zero, suc, _+_, _-_, _*_, _≤_, _<_}
-use mathlib.Core.Path.{_≡_, refl, sym, ap, ap₂, _∙_}
-use mathlib.Core.List.{List, [], _∷_, _++_, append-nil, append-assoc}
+use Prim.Native.Nat.{ℕ, _+_, _-_, _*_, _≤_, _<_}
+use mathlib.Core.Path.{_≡_, refl, sym, ap, _∙_}
+use mathlib.Core.List.{List, [], _∷_, _++_, append-nil}
 use mathlib.Core.Bool.{Bool, true, false}
 use native.Mathlib.Omega.{arith}
 use lib.ListN.{length, take, drop, length-append, length-drop}
-use lib.Seq.{take-at, length-take-le, take-length, take-paste}
+use lib.Seq.{take-at, length-take-le}
 use lib.Ieee.{Float}
 use Rattle.lictor_fuse.specs.declared.tick.Decided.{Decided}
 use Rattle.judge.specs.declared.Refusal.{Refusal}
-use Rattle.judge.specs.Table.{numberOf}
 use Rattle.judge.proofs.Exactly.{numbers}
-use Rattle.reader.specs.Stream.{wait, End, waiting, halted, Settled, telling, settled}
+use Rattle.reader.specs.Stream.{wait, End, waiting, halted, telling, settled}
 use Rattle.reader.specs.Reading.{nextOf}
 use Rattle.reader.proofs.Stream.{joined, settled-still, telling-telling}
 use Rattle.reader.proofs.Reading.{waits-short}
 use Rattle.journal.specs.Journal.{Whole, wholeOf, replayOf}
 use Rattle.journal.proofs.Replay.{replay}
 use Rattle.journal.proofs.Ends.{waits-as}
-use Rattle.render.specs.Text.{Put}
 use Rattle.intake.specs.Intake.{movedDown, Came}
 use Rattle.player.specs.declared.Turn.{Turn}
 use Rattle.console.specs.declared.Round.{Round}
-use Rattle.player.specs.Play.{eventsText, numberAt, Rests, Turned, Fed}
-use Rattle.console.specs.Console.{Taken, Rounded}
+use Rattle.player.specs.Play.{tickRoom, Fed}
+use Rattle.console.specs.Console.{numberAt, Rests, Taken, Rounded}
+use Rattle.console.proofs.Feeds.{Followed, followed}
 
 -- ---- memory
 
@@ -34,10 +33,9 @@ moved-front at have b h =
     let s = drop at (take have b) in
     take-at s (drop (length s) b) (have - at) (omega (arith, length-drop at (take have b), length-take-le have b h))
 
-pub taken-is : (code : ℕ) (w : Whole) (b : List ℕ) (have : ℕ) (out : List ℕ) (r : Turn) (l' : List Float) (b' out' : List ℕ) → have ≤ length b → 19200 ≤ length out
+pub taken-is : (code : ℕ) (w : Whole) (b : List ℕ) (have : ℕ) (out : List ℕ) (r : Turn) (l' : List Float) (b' out' : List ℕ) → have ≤ length b
     → Fed code w (take have b) out r l' out' → b' ≡ movedDown (r .at) have b → Taken code w (take have b) out r l' b' out'
-taken-is code w b have out r l' b' out' h o t m =
-    record { turned = t .turned; further = t .further o; moved = rw (length-take-le have b h, m) (moved-front (r .at) have b h) }
+taken-is code w b have out r l' b' out' h t m = record { fed = t; moved = rw (length-take-le have b h, m) (moved-front (r .at) have b h) }
 
 -- ---- where a journal rests
 
@@ -65,64 +63,61 @@ module _ (code : ℕ) (w : Whole) (s : List ℕ) (out : List ℕ) (t : Turn) (l'
   abbrev left : ℕ
   left = have - t .at
 
+  abbrev f : Followed code w s out t l' out'
+  f = followed code w s out t l' out' (p .fed)
+
   pub taken-within : t .at ≤ have
-  taken-within = omega (arith, p .turned .within)
+  taken-within = omega (arith, f .within)
 
   abbrev v : Whole
   v = wholeOf (t .reader) (t .run) l'
-
-  text-is : take (t .n) out' ≡ eventsText code (p .turned .told)
-  text-is =
-      let q = p .turned .text in
-      let x = eventsText code (p .turned .told) in
-      ap₂ (λ (k : ℕ) (o : List ℕ). take k o) (q .ends) (q .memory) ∙ take-paste out 0 x (length x) (omega arith) (omega arith) ∙ take-length x
 
   left-is : take left buf' ≡ drop (t .at) s
   left-is = rw k at (p .moved)
 
   -- nothing was read
-  still : (reads refused : ℕ) (more : Bool) → left ≤ length buf' → (more ≡ true → t .ticked ≡ true) → (more ≡ false → Rests v (drop (t .at) s) refused)
+  still : (reads refused : ℕ) (more : Bool) → tickRoom ≤ length out → left ≤ length buf' → (more ≡ true → t .ticked ≡ true) → (more ≡ false → Rests v (drop (t .at) s) refused)
       → Rounded code w s reads (record { reader = t .reader; run = t .run; taken = t .at; have = left; n = t .n; refused = refused; reads = reads; more = more }) l' buf' out'
-  still reads refused more h m q = record {
-    told = p .turned .told;
+  still reads refused more room h m q = record {
+    told = f .told;
     came = [];
-    goes = ap (settled replayOf w) (append-nil s) ∙ p .turned .goes ∙ ap (λ (u : List ℕ). telling (p .turned .told) (settled replayOf v u)) (sym left-is);
-    count = (let c : t .at + left ≡ length (s ++ []) = omega (arith, p .turned .within, length-append s []) in c);
+    goes = ap (settled replayOf w) (append-nil s) ∙ f .goes ∙ ap (λ (u : List ℕ). telling (f .told) (settled replayOf v u)) (sym left-is);
+    count = (let c : t .at + left ≡ length (s ++ []) = omega (arith, f .within, length-append s []) in c);
     within = h;
     few = omega arith;
-    less = λ y. omega (arith, p .turned .within, p .further (m y));
-    text = text-is;
+    less = λ y. omega (arith, f .within, f .further room (m y));
+    text = f .text;
     over = λ y. rw left-is (q y);
   }
 
-  pub round-full : (reads : ℕ) → left ≤ length buf' → t .ticked ≡ true
+  pub round-full : (reads : ℕ) → tickRoom ≤ length out → left ≤ length buf' → t .ticked ≡ true
       → Rounded code w s reads (record { reader = t .reader; run = t .run; taken = t .at; have = left; n = t .n; refused = t .refused; reads = reads; more = true }) l' buf' out'
-  round-full reads h y = still reads (t .refused) true h (λ z. y) (λ z. absurd (let o : _≡_ {A = ℕ} 0 1 = cc in omega arith))
+  round-full reads room h y = still reads (t .refused) true room h (λ z. y) (λ z. absurd (let o : _≡_ {A = ℕ} 0 1 = cc in omega arith))
 
   -- it is over with a refusal, or since no read is left
-  pub round-over : (reads : ℕ) → left ≤ length buf' → t .ticked ≡ false
+  pub round-over : (reads : ℕ) → tickRoom ≤ length out → left ≤ length buf' → t .ticked ≡ false
       → Rounded code w s reads (record { reader = t .reader; run = t .run; taken = t .at; have = left; n = t .n; refused = t .refused; reads = reads; more = false }) l' buf' out'
-  round-over reads h y = still reads (t .refused) false h (λ z. absurd (let o : _≡_ {A = ℕ} 0 1 = cc in omega arith)) (λ z. p .turned .stops y)
+  round-over reads room h y = still reads (t .refused) false room h (λ z. absurd (let o : _≡_ {A = ℕ} 0 1 = cc in omega arith)) (λ z. f .stops y)
 
   pub left-short : t .ticked ≡ false → t .refused ≡ 0 → left ≤ 257
-  left-short y z = omega (arith, rests-short v (drop (t .at) s) (t .refused) z (p .turned .stops y), length-drop (t .at) s)
+  left-short y z = omega (arith, rests-short v (drop (t .at) s) (t .refused) z (f .stops y), length-drop (t .at) s)
 
   pub round-read : (reads : ℕ) → 0 < reads → t .ticked ≡ false → (e : ℕ) (buf'' : List ℕ) → length buf'' ≡ 65536 → Came (take left buf') e buf'' → (more : Bool) → (more ≡ false → e ≤ left)
       → Rounded code w s reads (record { reader = t .reader; run = t .run; taken = t .at; have = e; n = t .n; refused = t .refused; reads = reads - 1; more = more }) l' buf'' out'
   round-read reads o y e buf'' b c more m =
       let d : take left buf' ++ c .came ≡ drop (t .at) s ++ c .came = ap (λ (u : List ℕ). u ++ c .came) left-is in
       record {
-        told = p .turned .told;
+        told = f .told;
         came = c .came;
         goes =
-            more-bytes w s (p .turned .told) v (drop (t .at) s) (c .came) (p .turned .goes)
-            ∙ ap (λ (u : List ℕ). telling (p .turned .told) (settled replayOf v u)) (sym (c .bytes ∙ d));
-        count = (let k : t .at + e ≡ length (s ++ c .came) = omega (arith, p .turned .within, length-append s (c .came), length-append (drop (t .at) s) (c .came), length-drop (t .at) s, c .count, ap length d) in k);
+            more-bytes w s (f .told) v (drop (t .at) s) (c .came) (f .goes)
+            ∙ ap (λ (u : List ℕ). telling (f .told) (settled replayOf v u)) (sym (c .bytes ∙ d));
+        count = (let k : t .at + e ≡ length (s ++ c .came) = omega (arith, f .within, length-append s (c .came), length-append (drop (t .at) s) (c .came), length-drop (t .at) s, c .count, ap length d) in k);
         within = c .within;
         few = omega (arith, c .within, c .count, length-append (take left buf') (c .came));
         less = λ z. omega (arith, c .within);
-        text = text-is;
-        over = λ z. rw (none-came z) (p .turned .stops y);
+        text = f .text;
+        over = λ z. rw (none-came z) (f .stops y);
       }
     where
       none-came : more ≡ false → take e buf'' ≡ drop (t .at) s

@@ -24,8 +24,8 @@ use Rattle.journal.specs.Journal.{Whole, wholeOf, replayOf, startRun, startWhol
 use Rattle.report.specs.Lines.{endText, refusedText}
 use Rattle.console.specs.declared.Round.{Round}
 use Rattle.console.specs.declared.Ended.{Ended}
-use Rattle.player.specs.Play.{numberAt, Rests, eventsText}
-use Rattle.console.specs.Console.{lastText, Rounded, textOf, endedOf, endNumber, endPlace, Ran, lastOf}
+use Rattle.player.specs.Play.{eventsText}
+use Rattle.console.specs.Console.{numberAt, Rests, lastText, Rounded, textOf, endedOf, endNumber, endPlace, Ran, lastOf}
 use Rattle.reader.proofs.Stream.{telling-telling}
 use Rattle.console.proofs.Rounds.{more-bytes}
 

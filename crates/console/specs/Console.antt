@@ -1,7 +1,7 @@
 -- What a program prints for a journal, and what a journal that is read in parts is played to.
 -- The text is that of 01-scope.md, Journal, the program `fuse`; `Taken`, `roundOf`, `Rounded` and `endedOf` join the code of `console` to it.
 use mathlib.Core.Bool.{Bool, true, false, cond}
-use mathlib.Core.List.{List, _++_}
+use mathlib.Core.List.{List, [], _++_}
 use mathlib.Core.Path.{_≡_}
 use Prim.Native.Nat.{ℕ, _+_, _-_, _*_, _≤_, _<_}
 use lib.Dec.{eqb}
@@ -9,14 +9,15 @@ use lib.Ieee.{Float}
 use lib.ListN.{length, take, drop}
 use Rattle.lictor_core.specs.declared.tally.Tally.{Tally}
 use Rattle.lictor_fuse.specs.declared.tick.Decided.{Decided}
+use Rattle.judge.specs.declared.Refusal.{Refusal}
 use Rattle.judge.specs.declared.Refusal.the-variants.{CutBody}
 use Rattle.judge.specs.Table.{numberOf}
-use Rattle.reader.specs.Stream.{telling, settled}
+use Rattle.reader.specs.Stream.{End, waiting, halted, telling, settled}
 use Rattle.journal.specs.declared.Run.{Run}
 use Rattle.journal.specs.Journal.{Whole, wholeOf, replayOf, Ending, ended, refused, journalOf}
 use Rattle.report.specs.Lines.{endText, refusedText}
 use Rattle.player.specs.declared.Turn.{Turn}
-use Rattle.player.specs.Play.{eventsText, Rests, Turned}
+use Rattle.player.specs.Play.{eventsText, Fed}
 use Rattle.console.specs.declared.Round.{Round}
 use Rattle.console.specs.declared.Ended.{Ended}
 
@@ -33,10 +34,20 @@ textOf code s = let m = journalOf s in eventsText code (m .events) ++ lastText (
 
 -- ---- part by part
 
+-- why no more is to be had of some bytes, as a number: 0 where more bytes may come, or that of the refusal
+abbrev pub numberAt : End Refusal → ℕ
+numberAt waiting = 0
+numberAt (halted r) = numberOf r
+
+-- the journal w comes to rest at once, before all of s
+pub record Rests (w : Whole) (s : List ℕ) (number : ℕ) : Type 0 where
+  pub end : End Refusal
+  pub number-is : number ≡ numberAt end
+  pub rests : settled replayOf w s ≡ record { state = w; rest = s; told = []; end = end }
+
 -- the bytes s were fed, and those that were not taken stand at the front of memory then
 pub record Taken (code : ℕ) (w : Whole) (s : List ℕ) (out : List ℕ) (r : Turn) (l' : List Float) (buf' out' : List ℕ) : Type 0 where
-  pub turned : Turned code w s 0 out 0 r l' out'
-  pub further : r .ticked ≡ true → 0 < r .at
+  pub fed : Fed code w s out r l' out'
   pub moved : take (length s - r .at) buf' ≡ drop (r .at) s
 
 -- a round that came to t, with so many bytes at hand and reads left

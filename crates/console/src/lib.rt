@@ -6,6 +6,7 @@ ghost use Rattle.lictor_core.specs.Initial.{zeros};
 ghost use Rattle.text.specs.Line.{lineOf};
 ghost use Rattle.journal.specs.Journal.{wholeOf};
 ghost use Rattle.intake.specs.Intake.{Came};
+ghost use Rattle.player.specs.Play.{tickRoom};
 ghost use Rattle.console.specs.Console.{Taken, roundOf, Rounded, endedOf, Ran, lastOf};
 use journal::Run;
 use judge::Refusal;
@@ -32,7 +33,7 @@ fn take_in(
     have: usize,
     out: &mut [u8],
 ) -> Turn
-    requires { ⌜ (have ≤ length (now buf)) × (19200 ≤ length (now out)) ⌝ }
+    requires { ⌜ have ≤ length (now buf) ⌝ }
     ensures { λ r. ⌜ Taken code (wholeOf rd run (now (lists .entry))) (take have (now (buf .entry))) (now (out .entry)) r (now (lists .exit)) (now (buf .exit)) (now (out .exit)) ⌝ }
 {
     let t = player::feed(code, rd, run, lists, &buf[..have], out);
@@ -93,7 +94,7 @@ fn play_round(
     out: &mut [u8],
     reads: u64,
 ) -> Round
-    requires { ⌜ (have ≤ length (now buf)) × (65536 ≡ length (now buf)) × (19200 ≤ length (now out)) ⌝ }
+    requires { ⌜ (have ≤ length (now buf)) × (65536 ≡ length (now buf)) × (tickRoom ≤ length (now out)) ⌝ }
     ensures { λ r. ⌜ Rounded code (wholeOf rd run (now (lists .entry))) (take have (now (buf .entry))) reads r (now (lists .exit)) (now (buf .exit)) (now (out .exit)) ⌝ }
 {
     let t = take_in(code, rd, run, lists, buf, have, out);
@@ -152,7 +153,7 @@ const READS: u64 = 140737488355328;
 
 // Round by round to the end of the input or to the first refusal.
 fn run_rounds(code: u8, lists: &mut [f64; 576], buf: &mut [u8], out: &mut [u8]) -> Ended
-    requires { ⌜ (now lists ≡ zeros 576) × (65536 ≡ length (now buf)) × (19200 ≤ length (now out)) ⌝ }
+    requires { ⌜ (now lists ≡ zeros 576) × (65536 ≡ length (now buf)) × (tickRoom ≤ length (now out)) ⌝ }
     ensures { λ r. ⌜ Ran r ⌝ }
 {
     let rd = reader::start();

@@ -162,10 +162,10 @@ module _ (s : List ℕ) (p : ℕ) (h : p < length s) where
   unfolding obeyed
   refused-by r true t e c =
       let n : replayOf (up-to .state) (drop p s) ≡ wait = rw t at (refused-at (up-to .state) s p h r c) in
-      settles-at waiting r e (settled-wait replayOf replay (up-to .state) (drop p s) n) (λ q k u. ap (λ (x : Refusal). refused x q) (sym (cut-only r t)))
+      settles-at waiting r e (settled-wait replayOf (replay .there) (up-to .state) (drop p s) n) (λ q k u. ap (λ (x : Refusal). refused x q) (sym (cut-only r t)))
   refused-by r false t e c =
       let n : replayOf (up-to .state) (drop p s) ≡ halt r = rw t at (refused-at (up-to .state) s p h r c) in
-      settles-at (halted r) r e (settled-halt replayOf replay (up-to .state) (drop p s) r n) (λ q k u. refl)
+      settles-at (halted r) r e (settled-halt replayOf (replay .there) (up-to .state) (drop p s) r n) (λ q k u. refl)
 
 -- what the table turns away is refused, with its number and its place
 pub turned-away-refused : (s : List ℕ) (r : Refusal) (p : ℕ) → TurnedAway s r p → journalOf s .ending ≡ refused r p

@@ -1,12 +1,14 @@
 -- One instruction of a journal, from what the reader came to.
 use Prim.Native.Nat.{ℕ, zero, suc, _+_, _-_, _≤_, _<_}
-use mathlib.Core.Path.{_≡_, refl, sym, ap, ap₂, _∙_}
+use mathlib.Core.Path.{_≡_, refl, sym, ap, ap₂, subst, _∙_}
 use mathlib.Core.List.{List, [], _∷_}
 use mathlib.Core.Bool.{Bool, true, false, cond}
 use native.Mathlib.Omega.{arith}
 use lib.ListN.{length, take, drop, length-drop, getD}
 use lib.Seq.{take-all, drop-drop, getD-drop}
 use lib.Ieee.{Float}
+use denote.Enum.Declared.{tagOf}
+use types.Run.{OneOf, miss}
 use Rattle.bytes_le.specs.Little.{byteAt}
 use Rattle.lictor_core.specs.declared.fuse.TickInput.{TickInput}
 use Rattle.lictor_fuse.specs.declared.tick.Decided.{Decided}
@@ -15,7 +17,9 @@ use Rattle.records.specs.Body.{settingsOf}
 use Rattle.judge.specs.declared.Refusal.{Refusal}
 use Rattle.reader.specs.declared.Reader.{Reader}
 use Rattle.reader.specs.declared.Progress.{Progress}
+use Rattle.reader.specs.declared.What.{What}
 use Rattle.reader.specs.declared.What.the-variants as W
+use Rattle.reader.proofs.What as K
 use Rattle.reader.specs.Stream.{Next, wait, halt, go, tell, Advanced, past, advanced, Reached, goesOn}
 use Rattle.reader.specs.State.{State}
 use Rattle.reader.specs.Reading.{Instruction, begin, restart, tick, bodyOf, nextOf, whatOf, readOf, listsAfter}
@@ -25,7 +29,7 @@ use Rattle.journal.specs.declared.Run.{Run}
 use Rattle.journal.specs.declared.How.{How}
 use Rattle.journal.specs.declared.How.the-variants.{Waits, Refuses, Ticks}
 use Rattle.journal.specs.declared.Step.{Step}
-use Rattle.journal.specs.Journal.{Whole, obey, obeyed, replayOf, howOf, wholeOf, begunAt, resetAt, Stepped}
+use Rattle.journal.specs.Journal.{Whole, obey, obeyed, replayOf, howOf, wholeOf, begunAt, resetAt, howBy, Stepped}
 use Rattle.journal.proofs.Replay.{replay-is, replay}
 
 -- ---- what the reader takes, the journal takes
@@ -45,7 +49,7 @@ lifts-by f run ih st s p wait e = rw (advanced-wait nextOf machine st s e) (lift
 lifts-by f run ih st s p (halt r) e = rw (advanced-halt nextOf machine st s r e) (lifts-here run st s (halt r))
 lifts-by f run ih st s p (tell st' n i) e = rw (advanced-tell nextOf machine st s st' n i e) (lifts-here run st s (tell st' n i))
 lifts-by f run ih st s p (go st' n) e =
-    let b = goes nextOf machine st s st' n e in
+    let b = goes nextOf (machine .there) st s st' n e in
     let a = advanced nextOf st' (drop n s) in
     rw (advanced-go nextOf machine st s st' n e)
     (advanced-go replayOf replay (record { state = st; run = run }) s (record { state = st'; run = run }) n (replay-is (record { state = st; run = run }) s (go st' n) e)
@@ -59,33 +63,25 @@ lifts (suc f) run st s p = lifts-by f run (λ st' u q. lifts f run st' u q) st s
 
 -- ---- what the reader says, and what the journal does then
 
-module _ (w : Whole) where
-  what-waits : (y : Next State Instruction Refusal) → goesOn y ≡ false → whatOf y ≡ W.Waits → (goesOn (obeyed w y) ≡ false) × (Waits ≡ howOf y)
-  unfolding obeyed
-  what-waits wait g e = (refl, refl)
-  what-waits (halt r) g e = absurd (let z : _≡_ {A = ℕ} 0 1 = cc in omega arith)
-  what-waits (go st n) g e = absurd (let z : _≡_ {A = ℕ} 0 1 = cc in omega arith)
-  what-waits (tell st n (begin s)) g e = absurd (let z : _≡_ {A = ℕ} 0 1 = cc in omega arith)
-  what-waits (tell st n restart) g e = absurd (let z : _≡_ {A = ℕ} 0 1 = cc in omega arith)
-  what-waits (tell st n (tick c)) g e = absurd (let z : _≡_ {A = ℕ} 0 1 = cc in omega arith)
+-- the cases that are neither settings nor a reset, by their numbers
+abbrev others : List ℕ
+others = 0 ∷ 1 ∷ 4 ∷ []
 
-  what-refuses : (y : Next State Instruction Refusal) (r : Refusal) → whatOf y ≡ W.Refuses r → (goesOn (obeyed w y) ≡ false) × (Refuses r ≡ howOf y)
-  unfolding obeyed
-  what-refuses wait r e = absurd (let z : _≡_ {A = ℕ} 0 1 = cc in omega arith)
-  what-refuses (halt r') r e = let q : r ≡ r' = cc in (refl, ap Refuses q)
-  what-refuses (go st n) r e = absurd (let z : _≡_ {A = ℕ} 0 1 = cc in omega arith)
-  what-refuses (tell st n (begin s)) r e = absurd (let z : _≡_ {A = ℕ} 0 1 = cc in omega arith)
-  what-refuses (tell st n restart) r e = absurd (let z : _≡_ {A = ℕ} 0 1 = cc in omega arith)
-  what-refuses (tell st n (tick c)) r e = absurd (let z : _≡_ {A = ℕ} 0 1 = cc in omega arith)
+pub how-waits : (x : What) → OneOf (0 ∷ 2 ∷ 3 ∷ []) (tagOf K.the-type x) → Waits ≡ howBy x
+how-waits W.Waits k = refl
+how-waits (W.Refuses r) k = absurd (miss (0 ∷ 2 ∷ 3 ∷ []) 1 tt k)
+how-waits W.Begins k = refl
+how-waits W.Resets k = refl
+how-waits (W.Ticks i) k = absurd (miss (0 ∷ 2 ∷ 3 ∷ []) 4 tt k)
 
-  what-ticks : (y : Next State Instruction Refusal) (i : TickInput) → whatOf y ≡ W.Ticks i → (goesOn (obeyed w y) ≡ false) × (Ticks i ≡ howOf y)
-  unfolding obeyed obey
-  what-ticks wait i e = absurd (let z : _≡_ {A = ℕ} 0 1 = cc in omega arith)
-  what-ticks (halt r') i e = absurd (let z : _≡_ {A = ℕ} 0 1 = cc in omega arith)
-  what-ticks (go st n) i e = absurd (let z : _≡_ {A = ℕ} 0 1 = cc in omega arith)
-  what-ticks (tell st n (begin s)) i e = absurd (let z : _≡_ {A = ℕ} 0 1 = cc in omega arith)
-  what-ticks (tell st n restart) i e = absurd (let z : _≡_ {A = ℕ} 0 1 = cc in omega arith)
-  what-ticks (tell st n (tick c)) i e = let q : i ≡ c .input = cc in (refl, ap Ticks q)
+what-stops : (w : Whole) (y : Next State Instruction Refusal) → goesOn y ≡ false → OneOf others (tagOf K.the-type (whatOf y)) → (goesOn (obeyed w y) ≡ false) × (howBy (whatOf y) ≡ howOf y)
+unfolding obeyed obey
+what-stops w wait g k = (refl, refl)
+what-stops w (halt r) g k = (refl, refl)
+what-stops w (go st n) g k = absurd (let z : _≡_ {A = ℕ} 0 1 = cc in omega arith)
+what-stops w (tell st n (begin s)) g k = absurd (miss others 2 tt k)
+what-stops w (tell st n restart) g k = absurd (miss others 3 tt k)
+what-stops w (tell st n (tick c)) g k = (refl, refl)
 
 -- the part from a place on
 pub part-from : (s : List ℕ) (at : ℕ) → take (length s - at) (drop at s) ≡ drop at s
@@ -132,19 +128,12 @@ module _ (rd : Reader) (run : Run) (l : List Float) (s : List ℕ) (at : ℕ) (h
     unfolding readOf
     read-within = omega (arith, reached-there .within, ap (λ (x : Progress). x .used) e)
 
-    pub stepped-waits : p .what ≡ W.Waits → Stepped (wholeOf rd run l) s at (record { reader = p .reader; run = run; at = at + p .used; how = Waits; more = false }) l'
+    pub stepped-stops : OneOf others (tagOf K.the-type (p .what))
+        → Stepped (wholeOf rd run l) s at (record { reader = p .reader; run = run; at = at + p .used; how = howBy (p .what); more = false }) l'
     unfolding readOf listsAfter
-    stepped-waits y = rw (e, f) (stopped Waits (what-waits came (read .next) (there .stops) (sym (ap (λ (x : Progress). x .what) e) ∙ y)))
-
-    pub stepped-refuses : (r : Refusal) → p .what ≡ W.Refuses r
-        → Stepped (wholeOf rd run l) s at (record { reader = p .reader; run = run; at = at + p .used; how = Refuses r; more = false }) l'
-    unfolding readOf listsAfter
-    stepped-refuses r y = rw (e, f) (stopped (Refuses r) (what-refuses came (read .next) r (sym (ap (λ (x : Progress). x .what) e) ∙ y)))
-
-    pub stepped-ticks : (i : TickInput) → p .what ≡ W.Ticks i
-        → Stepped (wholeOf rd run l) s at (record { reader = p .reader; run = run; at = at + p .used; how = Ticks i; more = false }) l'
-    unfolding readOf listsAfter
-    stepped-ticks i y = rw (e, f) (stopped (Ticks i) (what-ticks came (read .next) i (sym (ap (λ (x : Progress). x .what) e) ∙ y)))
+    stepped-stops k =
+        let y : p .what ≡ whatOf (read .next) = ap (λ (x : Progress). x .what) e in
+        rw (e, f) (stopped (howBy (whatOf (read .next))) (what-stops came (read .next) (there .stops) (subst (λ (x : What). OneOf others (tagOf K.the-type x)) y k)))
 
 -- the record at place i: its kind byte and its body
 byte-there : (s : List ℕ) (i : ℕ) → byteAt (drop i s) 0 ≡ byteAt s i
@@ -188,7 +177,7 @@ module _ (rd : Reader) (run : Run) (l : List Float) (s : List ℕ) (at : ℕ) (h
       → nextOf st' (drop (at + p .used) s) ≡ tell st'' (suc (bodyLen journalKinds (byteAt (drop (at + p .used) s) 0))) i
       → at + p .used + bodyLen journalKinds (byteAt s (at + p .used)) < length s
   instruction-fits {st'' = st''} {i = i} q =
-      let b = tells-on nextOf machine st' (drop (at + p .used) s) st'' _ i q in
+      let b = tells-on nextOf (machine .there) st' (drop (at + p .used) s) st'' _ i q in
       omega (arith, b .1, length-drop (at + p .used) s, ap (bodyLen journalKinds) (byte-there s (at + p .used)))
 
   pub begins-fits : p .what ≡ W.Begins → at + p .used + bodyLen journalKinds (byteAt s (at + p .used)) < length s

@@ -18,6 +18,8 @@ use Rattle.judge.specs.declared.Refusal.{Refusal}
 use Rattle.judge.specs.declared.Refusal.the-variants.{CutBody}
 use Rattle.reader.specs.Stream.{Next, wait, halt, go, tell, End, waiting, halted, settled, advanced, Reached, goesOn}
 use Rattle.reader.specs.declared.Reader.{Reader}
+use Rattle.reader.specs.declared.What.{What}
+use Rattle.reader.specs.declared.What.the-variants as W
 use Rattle.reader.specs.State.{State, settingsCame, emptied, startReader}
 use Rattle.reader.specs.Reading.{Call, Instruction, begin, restart, tick, callOf, nextOf}
 use Rattle.journal.specs.declared.Run.{Run}
@@ -139,6 +141,14 @@ begunAt rd s at =
 
 unfoldable pub resetAt : Reader → Run → List ℕ → ℕ → Step
 resetAt rd run s at = record { reader = emptied rd; run = restartedOf run; at = at + 1 + bodyLen journalKinds (byteAt s at); how = Waits; more = true }
+
+-- what the reader came to, where that is neither settings nor a reset
+abbrev pub howBy : What → How
+howBy W.Waits = Waits
+howBy (W.Refuses r) = Refuses r
+howBy W.Begins = Waits
+howBy W.Resets = Waits
+howBy (W.Ticks i) = Ticks i
 
 -- one instruction, from place `at` of s on: it was obeyed, or the journal comes to something else
 pub record Stepped (w : Whole) (s : List ℕ) (at : ℕ) (r : Step) (l' : List Float) : Type 0 where

@@ -6,7 +6,7 @@ ghost use Rattle.bytes_le.specs.Little.{byteAt};
 ghost use Rattle.records.specs.Kinds.{journalKinds, bodyLen};
 ghost use Rattle.reader.specs.Reading.{callOf};
 ghost use Rattle.reader.specs.State.{valuesOf};
-ghost use Rattle.journal.specs.Journal.{begunOf, restartedOf, decidedOf, startRun, wholeOf, advancedOf, listsAfter, tickOf, begunAt, resetAt, Stepped};
+ghost use Rattle.journal.specs.Journal.{begunOf, restartedOf, decidedOf, startRun, wholeOf, advancedOf, listsAfter, tickOf, begunAt, resetAt, howBy, Stepped};
 use judge::Refusal;
 use judge::Seen;
 use lictor_core::envelope::FuseConfig;
@@ -161,6 +161,17 @@ fn reset_at(rd: Reader, run: Run, s: &[u8], at: usize) -> Step
     }
 }
 
+// What the reader came to, where that is neither settings nor a reset.
+fn how_by(what: What) -> How
+    ensures { λ r. ⌜ r ≡ howBy what ⌝ }
+{
+    match what {
+        What::Refuses(r) => How::Refuses(r),
+        What::Ticks(x) => How::Ticks(x),
+        What::Waits | What::Begins | What::Resets => How::Waits,
+    }
+}
+
 // All records from a place on up to the next instruction, and that one, unless it is a tick.
 fn take_step(rd: Reader, run: Run, lists: &mut [f64; 576], s: &[u8], at: usize) -> Step
     requires { ⌜ at ≤ length (now s) ⌝ }
@@ -171,29 +182,15 @@ fn take_step(rd: Reader, run: Run, lists: &mut [f64; 576], s: &[u8], at: usize) 
     let i = at + p.used;
     let what = p.what;
     match what {
-        What::Waits => Step {
-            reader: q,
-            run,
-            at: i,
-            how: How::Waits,
-            more: false,
-        },
-        What::Refuses(r) => Step {
-            reader: q,
-            run,
-            at: i,
-            how: How::Refuses(r),
-            more: false,
-        },
-        What::Ticks(x) => Step {
-            reader: q,
-            run,
-            at: i,
-            how: How::Ticks(x),
-            more: false,
-        },
         What::Begins => begin_at(q, s, i),
         What::Resets => reset_at(q, run, s, i),
+        What::Waits | What::Refuses(_) | What::Ticks(_) => Step {
+            reader: q,
+            run,
+            at: i,
+            how: how_by(what),
+            more: false,
+        },
     }
 }
 

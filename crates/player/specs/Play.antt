@@ -3,13 +3,13 @@ use mathlib.Core.Bool.{Bool, true, false, cond}
 use mathlib.Core.List.{List, [], _∷_, _++_}
 use mathlib.Core.Path.{_≡_}
 use Prim.Native.Nat.{ℕ, _+_, _-_, _≤_, _<_}
-use lib.Dec.{leb, ltb}
+use lib.Dec.{leb}
 use lib.Ieee.{Float}
-use lib.ListN.{length, take, drop}
+use lib.ListN.{length, drop}
 use Rattle.lictor_fuse.specs.declared.tick.Decided.{Decided}
 use Rattle.judge.specs.declared.Refusal.{Refusal}
 use Rattle.judge.specs.Table.{numberOf}
-use Rattle.reader.specs.Stream.{Settled, telling, settled, End, waiting, halted}
+use Rattle.reader.specs.Stream.{Next, wait, halt, go, tell, End, waiting, halted, Settled, telling, settled}
 use Rattle.journal.specs.declared.Ticked.{Ticked}
 use Rattle.journal.specs.Journal.{Whole, wholeOf, replayOf}
 use Rattle.render.specs.Text.{Put, eventText}
@@ -22,18 +22,71 @@ unfoldable pub eventsText : ℕ → List Decided → List ℕ
 eventsText code [] = []
 eventsText code (d ∷ ds) = eventText code (d .verdict) (d .rt) ++ eventsText code ds
 
--- ---- part by part
+-- ---- a journal whose ticks' text goes to memory
 
--- why no more is to be had of some bytes, as a number: 0 where more bytes may come, or that of the refusal
-abbrev pub numberAt : End Refusal → ℕ
-numberAt waiting = 0
-numberAt (halted r) = numberOf r
+-- the room that the text of a tick may take
+abbrev pub tickRoom : ℕ
+tickRoom = 19200
 
--- the journal w comes to rest at once, before all of s
-pub record Rests (w : Whole) (s : List ℕ) (number : ℕ) : Type 0 where
-  pub end : End Refusal
-  pub number-is : number ≡ numberAt end
-  pub rests : settled replayOf w s ≡ record { state = w; rest = s; told = []; end = end }
+-- the journal, and the bytes of text so far
+pub record Playing : Type 0 where
+  pub journal : Whole
+  pub n : ℕ
+
+-- why no more records are taken, though more may be there: one is turned away, or there is no room for the text of one more tick
+pub data Stop : Type 0 where
+  refuses : Refusal → Stop
+  full : Stop
+
+-- what the journal does next, with n bytes of text: a tick adds its own
+unfoldable pub played : ℕ → ℕ → Next Whole Decided Refusal → Next Playing Decided Stop
+played code n wait = wait
+played code n (halt r) = halt (refuses r)
+played code n (go w k) = go (record { journal = w; n = n }) k
+played code n (tell w k d) = tell (record { journal = w; n = n + length (eventText code (d .verdict) (d .rt)) }) k d
+
+-- no record is taken where there is no room for the text of a tick
+unfoldable pub playOf : ℕ → ℕ → Playing → List ℕ → Next Playing Decided Stop
+playOf code room p s = cond (leb (p .n + tickRoom) room) (played code (p .n) (replayOf (p .journal) s)) (halt full)
+
+-- what the bytes s are played to, by the journal w, with so much room: one record after the other, up to one that is turned away or is not there whole, or until the room is full
+unfoldable pub fedOf : ℕ → Whole → List ℕ → ℕ → Settled Playing Decided Stop
+fedOf code w s room = settled (playOf code room) (record { journal = w; n = 0 }) s
+
+-- ---- what the code answers
+
+abbrev pub isFull : End Stop → Bool
+isFull waiting = false
+isFull (halted (refuses r)) = false
+isFull (halted full) = true
+
+-- the number of a refusal, or 0
+abbrev pub refusedBy : End Stop → ℕ
+refusedBy waiting = 0
+refusedBy (halted (refuses r)) = numberOf r
+refusedBy (halted full) = 0
+
+unfoldable pub turnOf : List ℕ → Settled Playing Decided Stop → Turn
+turnOf s a = record {
+  reader = a .state .journal .state .reader;
+  run = a .state .journal .run;
+  at = length s - length (a .rest);
+  n = a .state .n;
+  ticked = isFull (a .end);
+  refused = refusedBy (a .end);
+}
+
+-- the answer, the lists afterwards, and memory: the text of the ticks at its front, and behind that what was there
+pub record Fed (code : ℕ) (w : Whole) (s : List ℕ) (out : List ℕ) (r : Turn) (l' : List Float) (out' : List ℕ) : Type 0 where
+  pub turn : r ≡ turnOf s (fedOf code w s (length out))
+  pub lists : l' ≡ fedOf code w s (length out) .state .journal .state .lists
+  pub memory : (let t = eventsText code (fedOf code w s (length out) .told) in out' ≡ t ++ drop (length t) out)
+
+-- ---- what its own functions promise each other
+
+-- whether there is more to do, and room for its text
+unfoldable pub goesOnOf : Bool → ℕ → ℕ → Bool
+goesOnOf ticked n room = cond (leb (n + tickRoom) room) ticked false
 
 -- a tick that was played
 pub record tickedOf (code : ℕ) (t : Ticked) (at : ℕ) (out : List ℕ) (n : ℕ) (r : Turn) (out' : List ℕ) : Type 0 where
@@ -44,26 +97,24 @@ pub record tickedOf (code : ℕ) (t : Ticked) (at : ℕ) (out : List ℕ) (n : �
   pub none : r .refused ≡ 0
   pub text : Put out n (eventText code (t .verdict) (t .run .rt)) (r .n) out'
 
--- From place `at` of s some records were played: the ticks `told`, whose text stands behind n bytes; and no more is to be had of s, unless the last was a tick. The bytes that were
--- taken, alone, say which ticks these are and what journal is left.
+-- the journal with what an answer says of it
+abbrev pub playingOf : Turn → List Float → Playing
+playingOf r l = record { journal = wholeOf (r .reader) (r .run) l; n = r .n }
+
+-- before all of s no record is taken, and why
+pub record Stopped (code room : ℕ) (p : Playing) (s : List ℕ) (ticked : Bool) (refused : ℕ) : Type 0 where
+  pub end : End Stop
+  pub stays : settled (playOf code room) p s ≡ record { state = p; rest = s; told = []; end = end }
+  pub ticked-is : ticked ≡ isFull end
+  pub refused-is : refused ≡ refusedBy end
+
+-- from place `at` of s some records were played: the ticks `told`, whose text stands behind n bytes. The last was a tick, or no more is to be had.
 pub record Turned (code : ℕ) (w : Whole) (s : List ℕ) (at : ℕ) (out : List ℕ) (n : ℕ) (r : Turn) (l' : List Float) (out' : List ℕ) : Type 0 where
   pub told : List Decided
-  pub within : r .at ≤ length s
   pub from : at ≤ r .at
-  pub goes : settled replayOf w (drop at s) ≡ telling told (settled replayOf (wholeOf (r .reader) (r .run) l') (drop (r .at) s))
-  pub alone : settled replayOf w (take (r .at - at) (drop at s)) ≡ record { state = wholeOf (r .reader) (r .run) l'; rest = []; told = told; end = waiting }
+  pub within : r .at ≤ length s
+  pub goes : settled (playOf code (length out)) (record { journal = w; n = n }) (drop at s) ≡ telling told (settled (playOf code (length out)) (playingOf r l') (drop (r .at) s))
   pub text : Put out n (eventsText code told) (r .n) out'
-  pub fits : r .n ≤ length out'
-  pub stops : r .ticked ≡ false → Rests (wholeOf (r .reader) (r .run) l') (drop (r .at) s) (r .refused)
+  pub further : r .ticked ≡ true → at < r .at
   pub none : r .ticked ≡ true → r .refused ≡ 0
-
--- whether there is more to do, and room for its text
-unfoldable pub goesOnOf : Bool → ℕ → ℕ → Bool
-goesOnOf ticked n room = cond (leb (n + 19200) room) ticked false
-
--- From the first byte of s, with the text at the front of `out`. It ends behind a tick just where the room for the text of one more is lacking, and where there was room for one,
--- some bytes were taken. How many are taken before it ends so is the program's choice, since a text may be shorter than the room for it; all else follows from that number.
-pub record Fed (code : ℕ) (w : Whole) (s : List ℕ) (out : List ℕ) (r : Turn) (l' : List Float) (out' : List ℕ) : Type 0 where
-  pub turned : Turned code w s 0 out 0 r l' out'
-  pub further : 19200 ≤ length out → r .ticked ≡ true → 0 < r .at
-  pub full : r .ticked ≡ ltb (length out) (r .n + 19200)
+  pub stops : r .ticked ≡ false → Stopped code (length out) (playingOf r l') (drop (r .at) s) (r .ticked) (r .refused)

@@ -1,12 +1,10 @@
 // Plays the bytes of a journal that are at hand: its ticks, and their text in lent memory. Nothing here reads or writes a file.
 ghost use mathlib.Core.Path.{_≡_};
 ghost use mathlib.Core.Bool.{true, false};
-ghost use Prim.Native.Nat.{_+_, _-_, _*_, _^_, _<_, _≤_};
-ghost use lib.ListN.{length, take, drop};
-ghost use Rattle.bytes_le.specs.Little.{byteAt};
-ghost use Rattle.records.specs.Kinds.{journalKinds, bodyLen};
+ghost use Prim.Native.Nat.{_+_, _-_, _<_, _≤_};
+ghost use lib.ListN.{length};
 ghost use Rattle.journal.specs.Journal.{wholeOf, tickOf};
-ghost use Rattle.player.specs.Play.{tickedOf, Turned, goesOnOf, Fed};
+ghost use Rattle.player.specs.Play.{tickRoom, tickedOf, Turned, goesOnOf, Fed};
 use journal::How;
 use journal::Run;
 use lictor_core::fuse::TickInput;
@@ -20,7 +18,7 @@ pub struct Turn {
     // the bytes that were taken, and those of text
     pub at: usize,
     pub n: usize,
-    // there may be more: the last record was a tick; else no more is to be had of these bytes
+    // the room is full, and there may be more; else no more is to be had of these bytes. (Of one turn: its last record was a tick.)
     pub ticked: bool,
     // the number of a refusal, or 0
     pub refused: u8,
@@ -37,7 +35,7 @@ fn play_tick(
     out: &mut [u8],
     n: usize,
 ) -> Turn
-    requires { ⌜ n + 19200 ≤ length (now out) ⌝ }
+    requires { ⌜ n + tickRoom ≤ length (now out) ⌝ }
     ensures { λ r. ⌜ tickedOf code (tickOf (wholeOf rd run (now (lists .entry))) inp) at (now (out .entry)) n r (now (out .exit)) ⌝ }
 {
     let t = journal::tick(rd, run, lists, inp);
@@ -67,8 +65,8 @@ fn play_turn(
     out: &mut [u8],
     n: usize,
 ) -> Turn
-    requires { ⌜ (at ≤ length (now s)) × (n + 19200 ≤ length (now out)) ⌝ }
-    ensures { λ r. ⌜ (Turned code (wholeOf rd run (now (lists .entry))) (now (s .entry)) at (now (out .entry)) n r (now (lists .exit)) (now (out .exit))) × (r .ticked ≡ true → at < r .at) × (r .ticked ≡ false → r .n ≡ n) ⌝ }
+    requires { ⌜ (at ≤ length (now s)) × (n + tickRoom ≤ length (now out)) ⌝ }
+    ensures { λ r. ⌜ Turned code (wholeOf rd run (now (lists .entry))) (now (s .entry)) at (now (out .entry)) n r (now (lists .exit)) (now (out .exit)) ⌝ }
 {
     let a = journal::advance(rd, run, lists, &s[at..]);
     let reader = a.reader;
@@ -113,35 +111,6 @@ fn goes_on(ticked: bool, n: usize, room: usize) -> bool
     ticked
 }
 
-fn feed_all(
-    code: u8,
-    rd: Reader,
-    run: Run,
-    lists: &mut [f64; 576],
-    s: &[u8],
-    out: &mut [u8],
-) -> Turn
-    requires { ⌜ 19200 ≤ length (now out) ⌝ }
-    ensures { λ r. ⌜ Fed code (wholeOf rd run (now (lists .entry))) (now (s .entry)) (now (out .entry)) r (now (lists .exit)) (now (out .exit)) ⌝ }
-{
-    let mut t = Turn {
-        reader: rd,
-        run,
-        at: 0,
-        n: 0,
-        ticked: true,
-        refused: 0,
-    };
-    let mut more = true;
-    while more {
-        let q = t.reader;
-        let u = t.run;
-        t = play_turn(code, q, u, lists, s, t.at, out, t.n);
-        more = goes_on(t.ticked, t.n, out.len());
-    }
-    t
-}
-
 // Plays the records at the front of s as long as there is room for the text of one more tick, and puts the text of their ticks to the front of `out`. Where `out` has no room for one, it does nothing.
 pub fn feed(
     code: u8,
@@ -153,15 +122,20 @@ pub fn feed(
 ) -> Turn
     ensures { λ r. ⌜ Fed code (wholeOf rd run (now (lists .entry))) (now (s .entry)) (now (out .entry)) r (now (lists .exit)) (now (out .exit)) ⌝ }
 {
-    if out.len() < render::ROOM {
-        return Turn {
-            reader: rd,
-            run,
-            at: 0,
-            n: 0,
-            ticked: true,
-            refused: 0,
-        };
+    let mut t = Turn {
+        reader: rd,
+        run,
+        at: 0,
+        n: 0,
+        ticked: true,
+        refused: 0,
+    };
+    let mut more = goes_on(t.ticked, t.n, out.len());
+    while more {
+        let q = t.reader;
+        let u = t.run;
+        t = play_turn(code, q, u, lists, s, t.at, out, t.n);
+        more = goes_on(t.ticked, t.n, out.len());
     }
-    feed_all(code, rd, run, lists, s, out)
+    t
 }

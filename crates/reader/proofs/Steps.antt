@@ -9,6 +9,8 @@ use native.Mathlib.Decide.{decLe}
 use borrow.Author.Tests.{eqb-true}
 use lib.ListN.{length, take, drop, length-take, length-drop, getD, drop-of-length-le}
 use lib.Seq.{take-all, drop-cons, drop-drop}
+use denote.Enum.Declared.{tagOf}
+use types.Run.{OneOf, miss}
 use lib.Dec.{eqb}
 use lib.Ieee.{Float}
 use Rattle.lictor_core.specs.declared.ack.VerifiedAck.{VerifiedAck}
@@ -18,6 +20,7 @@ use Rattle.lictor_core.specs.declared.fuse.TickInput.{TickInput}
 use Rattle.records.specs.declared.TickNumbers.{TickNumbers}
 use Rattle.records.specs.declared.Record.{Record}
 use Rattle.records.specs.declared.Record.the-variants.{Settings, Reset, Ack, Head, Value, Outcome, Tick}
+use Rattle.records.proofs.Record as R
 use Rattle.records.specs.Kinds.{journalKinds, bodyLen}
 use Rattle.records.specs.Body.{recordOf, outcomeOf}
 use Rattle.judge.specs.declared.Refusal.{Refusal}
@@ -40,7 +43,41 @@ use Rattle.reader.specs.Stream.{go, goesOn, Reached}
 use Rattle.reader.specs.Reading.{Instruction, lookAs, lookOf, callOf, onRecord, onLook, nextOf, whatOf, bodyOf}
 use Rattle.reader.specs.Steps.{stateOf, Room, isSmall, looksSmall, Added, TookOne, Collected, Instructs, Turned}
 use Rattle.reader.proofs.Stream.{goes, reached-none, reached-one, reached-on}
+use Rattle.reader.proofs.Look as K
 use Rattle.reader.proofs.Reading.{machine}
+
+-- ---- the arms that kinds share, by the numbers of the cases
+
+abbrev others : List ℕ
+others = 0 ∷ 1 ∷ 5 ∷ 6 ∷ []
+
+abbrev small : List ℕ
+small = 2 ∷ 3 ∷ 4 ∷ []
+
+pub not-small : (x : Record) → OneOf others (tagOf R.the-type x) → isSmall x ≡ false
+not-small Settings k = refl
+not-small Reset k = refl
+not-small (Ack a) k = absurd (miss others 2 tt k)
+not-small (Head h) k = absurd (miss others 3 tt k)
+not-small (Value c x) k = absurd (miss others 4 tt k)
+not-small Outcome k = refl
+not-small (Tick t) k = refl
+
+pub is-small : (x : Record) → OneOf small (tagOf R.the-type x) → isSmall x ≡ true
+is-small Settings k = absurd (miss small 0 tt k)
+is-small Reset k = absurd (miss small 1 tt k)
+is-small (Ack a) k = refl
+is-small (Head h) k = refl
+is-small (Value c x) k = refl
+is-small Outcome k = absurd (miss small 5 tt k)
+is-small (Tick t) k = absurd (miss small 6 tt k)
+
+pub none-found : (x : Look) → OneOf (0 ∷ 1 ∷ []) (tagOf K.the-type x) → looksSmall x ≡ false
+none-found L.Waits k = refl
+none-found (L.Refuses r) k = refl
+none-found (L.Found r n) k = absurd (miss (0 ∷ 1 ∷ []) 2 tt k)
+
+-- ---- records at a place
 
 -- each list lies in the lent memory
 pub list-fits : (c : ℕ) → c < 5 → getD bases c 0 + getD capacities c 0 ≤ 576
@@ -223,7 +260,7 @@ module _ (w : Waiting) (l : List Float) (s : List ℕ) (at : ℕ) (h : at ≤ le
 
   -- there are fewer bytes left, or no more turns
   less-by : (m : Bool) → r .more ≡ m → length s - r .at + cond (r .more) 1 0 < length s - at + 1
-  less-by true y = let b = goes nextOf machine _ (drop at s) _ _ (t .waits y (outcomeOf [])) in rw y (omega (arith, b .0, b .1, length-drop at s))
+  less-by true y = let b = goes nextOf (machine .there) _ (drop at s) _ _ (t .waits y (outcomeOf [])) in rw y (omega (arith, b .0, b .1, length-drop at s))
   less-by false y = rw (y, t .same-place y) (omega arith)
 
   pub took-less : length s - r .at + cond (r .more) 1 0 < length s - at + 1

@@ -16,21 +16,14 @@ pub telling-telling : {R E H : Type 0} (es fs : List E) (a : Settled R E H) → 
 unfolding with-told
 telling-telling es fs a = ap (with-told a) (sym (append-assoc es fs (a .told)))
 
-module _ {R E H : Type 0} (next : R → List ℕ → Next R E H) (m : Machine next) where
-  -- a record that is taken is there
+-- ---- record by record: what is taken is there
+
+module _ {R E H : Type 0} (next : R → List ℕ → Next R E H) (there : (r : R) (s : List ℕ) → takes (next r s) ≡ true → (0 < size (next r s)) × (size (next r s) ≤ length s)) where
   pub goes : (r : R) (s : List ℕ) (r' : R) (n : ℕ) → next r s ≡ go r' n → (0 < n) × (n ≤ length s)
-  goes r s r' n e = let b = m .there r s (ap takes e) in (omega (arith, b .0, ap size e), omega (arith, b .1, ap size e))
+  goes r s r' n e = let b = there r s (ap takes e) in (omega (arith, b .0, ap size e), omega (arith, b .1, ap size e))
 
   pub tells-on : (r : R) (s : List ℕ) (r' : R) (n : ℕ) (t : E) → next r s ≡ tell r' n t → (0 < n) × (n ≤ length s)
-  tells-on r s r' n t e = let b = m .there r s (ap takes e) in (omega (arith, b .0, ap size e), omega (arith, b .1, ap size e))
-
-  -- and it alone gives the same, whatever stands behind it
-  alone : (r : R) (s t : List ℕ) → takes (next r s) ≡ true → next r (take (size (next r s)) s ++ t) ≡ next r s
-  alone r s t y =
-      m .stands r (take (size (next r s)) s) t (λ w. not-wait (next r s) y (sym (m .enough r s y) ∙ w)) ∙ m .enough r s y
-    where
-      not-wait : (x : Next R E H) → takes x ≡ true → x ≡ wait → ⊥
-      not-wait x p q = let z : _≡_ {A = Bool} true false = sym p ∙ ap takes q in let f : _≡_ {A = ℕ} 0 1 = cc in omega arith
+  tells-on r s r' n t e = let b = there r s (ap takes e) in (omega (arith, b .0, ap size e), omega (arith, b .1, ap size e))
 
   -- the equation of one record
   step-is : (f : ℕ) (r : R) (s : List ℕ) (x : Next R E H) → next r s ≡ x → settle next (suc f) r s ≡ after r s x (λ r' n. settle next f r' (drop n s))
@@ -91,6 +84,17 @@ module _ {R E H : Type 0} (next : R → List ℕ → Next R E H) (m : Machine ne
       step-is (length s) r s (tell r' n t) e
       ∙ ap (telling (t ∷ [])) (fuel (length s) (suc (length (drop n s))) r' (drop n s) (omega (arith, length-drop n s)) (omega arith))
 
+-- ---- from bytes that come in parts
+
+module _ {R E H : Type 0} (next : R → List ℕ → Next R E H) (m : Machine next) where
+  -- a record alone gives the same, whatever stands behind it
+  alone : (r : R) (s t : List ℕ) → takes (next r s) ≡ true → next r (take (size (next r s)) s ++ t) ≡ next r s
+  alone r s t y =
+      m .stands r (take (size (next r s)) s) t (λ w. not-wait (next r s) y (sym (m .enough r s y) ∙ w)) ∙ m .enough r s y
+    where
+      not-wait : (x : Next R E H) → takes x ≡ true → x ≡ wait → ⊥
+      not-wait x p q = let z : _≡_ {A = Bool} true false = sym p ∙ ap takes q in let f : _≡_ {A = ℕ} 0 1 = cc in omega arith
+
   -- to take in s and then t, behind what s left over, is to take in s ++ t
   abbrev Joined : ℕ → R → List ℕ → List ℕ → Type 0
   Joined f r s t =
@@ -98,31 +102,31 @@ module _ {R E H : Type 0} (next : R → List ℕ → Next R E H) (m : Machine ne
 
   joined-by : (f : ℕ) → ((r : R) (s t : List ℕ) → length (s ++ t) < f → Joined f r s t)
       → (r : R) (s t : List ℕ) → length (s ++ t) ≤ f → (x : Next R E H) → next r s ≡ x → Joined (suc f) r s t
-  joined-by f ih r s t p wait e = rw (step-is f r s wait e)
-  joined-by f ih r s t p (halt h) e = rw (step-is f r s (halt h) e)
+  joined-by f ih r s t p wait e = rw (step-is next (m .there) f r s wait e)
+  joined-by f ih r s t p (halt h) e = rw (step-is next (m .there) f r s (halt h) e)
   joined-by f ih r s t p (go r' n) e =
-      let b = goes r s r' n e in
+      let b = goes next (m .there) r s r' n e in
       let u = drop n s in
       let a = settle next f r' u in
       let l : length (u ++ t) < f = omega (arith, length-append s t, length-append u t, length-drop n s) in
-      let k : length (a .rest ++ t) < f = omega (arith, length-append (a .rest) t, length-append u t, rest-le f r' u) in
-      rw (step-is f r s (go r' n) e)
-      (step-is f r (s ++ t) (go r' n) (m .stands r s t (λ w. let z : _≡_ {A = ℕ} 0 1 = cc in omega arith) ∙ e)
+      let k : length (a .rest ++ t) < f = omega (arith, length-append (a .rest) t, length-append u t, rest-le next (m .there) f r' u) in
+      rw (step-is next (m .there) f r s (go r' n) e)
+      (step-is next (m .there) f r (s ++ t) (go r' n) (m .stands r s t (λ w. let z : _≡_ {A = ℕ} 0 1 = cc in omega arith) ∙ e)
       ∙ ap (λ (v : List ℕ). settle next f r' v) (drop-append-le n s t (b .1))
       ∙ ih r' u t l
-      ∙ ap (telling (a .told)) (fuel f (suc f) (a .state) (a .rest ++ t) k (omega arith)))
+      ∙ ap (telling (a .told)) (fuel next (m .there) f (suc f) (a .state) (a .rest ++ t) k (omega arith)))
   joined-by f ih r s t p (tell r' n v) e =
-      let b = tells-on r s r' n v e in
+      let b = tells-on next (m .there) r s r' n v e in
       let u = drop n s in
       let a = settle next f r' u in
       let l : length (u ++ t) < f = omega (arith, length-append s t, length-append u t, length-drop n s) in
-      let k : length (a .rest ++ t) < f = omega (arith, length-append (a .rest) t, length-append u t, rest-le f r' u) in
-      rw (step-is f r s (tell r' n v) e)
-      (step-is f r (s ++ t) (tell r' n v) (m .stands r s t (λ w. let z : _≡_ {A = ℕ} 0 1 = cc in omega arith) ∙ e)
+      let k : length (a .rest ++ t) < f = omega (arith, length-append (a .rest) t, length-append u t, rest-le next (m .there) f r' u) in
+      rw (step-is next (m .there) f r s (tell r' n v) e)
+      (step-is next (m .there) f r (s ++ t) (tell r' n v) (m .stands r s t (λ w. let z : _≡_ {A = ℕ} 0 1 = cc in omega arith) ∙ e)
       ∙ ap (λ (w : List ℕ). telling (v ∷ []) (settle next f r' w)) (drop-append-le n s t (b .1))
       ∙ ap (telling (v ∷ [])) (ih r' u t l)
       ∙ telling-telling (v ∷ []) (a .told) (settle next f (a .state) (a .rest ++ t))
-      ∙ ap (telling (v ∷ a .told)) (fuel f (suc f) (a .state) (a .rest ++ t) k (omega arith)))
+      ∙ ap (telling (v ∷ a .told)) (fuel next (m .there) f (suc f) (a .state) (a .rest ++ t) k (omega arith)))
 
   joined-at : (f : ℕ) (r : R) (s t : List ℕ) → length (s ++ t) < f → Joined f r s t
   joined-at zero r s t p = absurd (omega arith)
@@ -133,12 +137,12 @@ module _ {R E H : Type 0} (next : R → List ℕ → Next R E H) (m : Machine ne
   unfolding settled
   joined r s t =
       let f = suc (length (s ++ t)) in
-      let e : settle next f r s ≡ settle next (suc (length s)) r s = fuel f (suc (length s)) r s (omega (arith, length-append s t)) (omega arith) in
+      let e : settle next f r s ≡ settle next (suc (length s)) r s = fuel next (m .there) f (suc (length s)) r s (omega (arith, length-append s t)) (omega arith) in
       let a = settle next (suc (length s)) r s in
       rw e at (joined-at f r s t (omega arith))
       ∙ ap (telling (a .told))
-      (fuel f (suc (length (a .rest ++ t))) (a .state) (a .rest ++ t)
-      (omega (arith, rest-le (suc (length s)) r s, length-append s t, length-append (a .rest) t)) (omega arith))
+      (fuel next (m .there) f (suc (length (a .rest ++ t))) (a .state) (a .rest ++ t)
+      (omega (arith, rest-le next (m .there) (suc (length s)) r s, length-append s t, length-append (a .rest) t)) (omega arith))
 
   -- parts of any sizes give what the whole gives
   pub parts-are-whole : (r : R) (rest : List ℕ) (parts : List (List ℕ)) → fed next r rest parts ≡ settled next r (rest ++ whole parts)
@@ -161,14 +165,14 @@ module _ {R E H : Type 0} (next : R → List ℕ → Next R E H) (m : Machine ne
 
   still-by : (f : ℕ) → ((r : R) (s : List ℕ) → length s < f → Still (settle next f r s) (settle next f r s .end))
       → (r : R) (s : List ℕ) → length s ≤ f → (x : Next R E H) → next r s ≡ x → Still (settle next (suc f) r s) (settle next (suc f) r s .end)
-  still-by f ih r s p wait e = rw (step-is f r s wait e) e
-  still-by f ih r s p (halt h) e = rw (step-is f r s (halt h) e) e
+  still-by f ih r s p wait e = rw (step-is next (m .there) f r s wait e) e
+  still-by f ih r s p (halt h) e = rw (step-is next (m .there) f r s (halt h) e) e
   still-by f ih r s p (go r' n) e =
-      let b = goes r s r' n e in
-      rw (step-is f r s (go r' n) e) (ih r' (drop n s) (omega (arith, length-drop n s)))
+      let b = goes next (m .there) r s r' n e in
+      rw (step-is next (m .there) f r s (go r' n) e) (ih r' (drop n s) (omega (arith, length-drop n s)))
   still-by f ih r s p (tell r' n t) e =
-      let b = tells-on r s r' n t e in
-      rw (step-is f r s (tell r' n t) e) (still-telling (t ∷ []) (settle next f r' (drop n s)) (settle next f r' (drop n s) .end) (ih r' (drop n s) (omega (arith, length-drop n s))))
+      let b = tells-on next (m .there) r s r' n t e in
+      rw (step-is next (m .there) f r s (tell r' n t) e) (still-telling (t ∷ []) (settle next f r' (drop n s)) (settle next f r' (drop n s) .end) (ih r' (drop n s) (omega (arith, length-drop n s))))
 
   still-at : (f : ℕ) (r : R) (s : List ℕ) → length s < f → Still (settle next f r s) (settle next f r s .end)
   still-at zero r s p = absurd (omega arith)
@@ -188,7 +192,7 @@ module _ {R E H : Type 0} (next : R → List ℕ → Next R E H) (m : Machine ne
     pub before : settled next r (take place s) ≡ record { state = a .state; rest = []; told = a .told; end = waiting }
 
   front-none : (r : R) (s : List ℕ) (x : End H) → Front r s (record { state = r; rest = s; told = []; end = x })
-  front-none r s x = record { place = 0; within = omega arith; rest-is = refl; before = settled-wait r [] (m .idle r) }
+  front-none r s x = record { place = 0; within = omega arith; rest-is = refl; before = settled-wait next (m .there) r [] (m .idle r) }
 
   drop-front : (s : List ℕ) (n p : ℕ) → n ≤ length s → drop n (take (n + p) s) ≡ take p (drop n s)
   drop-front s n p h = ap (drop n) (take-add n p s) ∙ drop-at (take n s) (take p (drop n s)) n (length-take-le n s h)
@@ -199,18 +203,18 @@ module _ {R E H : Type 0} (next : R → List ℕ → Next R E H) (m : Machine ne
 
   before-go : (r : R) (s : List ℕ) (r' : R) (n : ℕ) → next r s ≡ go r' n → (p : ℕ) → settled next r (take (n + p) s) ≡ settled next r' (take p (drop n s))
   before-go r s r' n e p =
-      settled-go r (take (n + p) s) r' n (first-is r s n p (ap takes e) (ap size e) ∙ e)
-      ∙ ap (settled next r') (drop-front s n p (goes r s r' n e .1))
+      settled-go next (m .there) r (take (n + p) s) r' n (first-is r s n p (ap takes e) (ap size e) ∙ e)
+      ∙ ap (settled next r') (drop-front s n p (goes next (m .there) r s r' n e .1))
 
   before-tell : (r : R) (s : List ℕ) (r' : R) (n : ℕ) (t : E) → next r s ≡ tell r' n t → (p : ℕ)
       → settled next r (take (n + p) s) ≡ telling (t ∷ []) (settled next r' (take p (drop n s)))
   before-tell r s r' n t e p =
-      settled-tell r (take (n + p) s) r' n t (first-is r s n p (ap takes e) (ap size e) ∙ e)
-      ∙ ap (λ (u : List ℕ). telling (t ∷ []) (settled next r' u)) (drop-front s n p (tells-on r s r' n t e .1))
+      settled-tell next (m .there) r (take (n + p) s) r' n t (first-is r s n p (ap takes e) (ap size e) ∙ e)
+      ∙ ap (λ (u : List ℕ). telling (t ∷ []) (settled next r' u)) (drop-front s n p (tells-on next (m .there) r s r' n t e .1))
 
   front-go : (r : R) (s : List ℕ) (r' : R) (n : ℕ) (a : Settled R E H) → next r s ≡ go r' n → Front r' (drop n s) a → Front r s a
   front-go r s r' n a e f =
-      let b = goes r s r' n e in
+      let b = goes next (m .there) r s r' n e in
       let p = f .place in
       record {
         place = n + p;
@@ -221,7 +225,7 @@ module _ {R E H : Type 0} (next : R → List ℕ → Next R E H) (m : Machine ne
 
   front-tell : (r : R) (s : List ℕ) (r' : R) (n : ℕ) (t : E) (a : Settled R E H) → next r s ≡ tell r' n t → Front r' (drop n s) a → Front r s (telling (t ∷ []) a)
   front-tell r s r' n t a e f =
-      let b = tells-on r s r' n t e in
+      let b = tells-on next (m .there) r s r' n t e in
       let p = f .place in
       record {
         place = n + p;
@@ -232,14 +236,14 @@ module _ {R E H : Type 0} (next : R → List ℕ → Next R E H) (m : Machine ne
 
   front-by : (f : ℕ) → ((r : R) (s : List ℕ) → length s < f → Front r s (settle next f r s))
       → (r : R) (s : List ℕ) → length s ≤ f → (x : Next R E H) → next r s ≡ x → Front r s (settle next (suc f) r s)
-  front-by f ih r s p wait e = rw (step-is f r s wait e) (front-none r s waiting)
-  front-by f ih r s p (halt h) e = rw (step-is f r s (halt h) e) (front-none r s (halted h))
+  front-by f ih r s p wait e = rw (step-is next (m .there) f r s wait e) (front-none r s waiting)
+  front-by f ih r s p (halt h) e = rw (step-is next (m .there) f r s (halt h) e) (front-none r s (halted h))
   front-by f ih r s p (go r' n) e =
-      let b = goes r s r' n e in
-      rw (step-is f r s (go r' n) e) (front-go r s r' n (settle next f r' (drop n s)) e (ih r' (drop n s) (omega (arith, length-drop n s))))
+      let b = goes next (m .there) r s r' n e in
+      rw (step-is next (m .there) f r s (go r' n) e) (front-go r s r' n (settle next f r' (drop n s)) e (ih r' (drop n s) (omega (arith, length-drop n s))))
   front-by f ih r s p (tell r' n t) e =
-      let b = tells-on r s r' n t e in
-      rw (step-is f r s (tell r' n t) e) (front-tell r s r' n t (settle next f r' (drop n s)) e (ih r' (drop n s) (omega (arith, length-drop n s))))
+      let b = tells-on next (m .there) r s r' n t e in
+      rw (step-is next (m .there) f r s (tell r' n t) e) (front-tell r s r' n t (settle next f r' (drop n s)) e (ih r' (drop n s) (omega (arith, length-drop n s))))
 
   front-at : (f : ℕ) (r : R) (s : List ℕ) → length s < f → Front r s (settle next f r s)
   front-at zero r s p = absurd (omega arith)
@@ -260,7 +264,7 @@ module _ {R E H : Type 0} (next : R → List ℕ → Next R E H) (m : Machine ne
   turns-by f g ih r s p q wait e = turn-is f r s wait e ∙ sym (turn-is g r s wait e)
   turns-by f g ih r s p q (halt h) e = turn-is f r s (halt h) e ∙ sym (turn-is g r s (halt h) e)
   turns-by f g ih r s p q (go r' n) e =
-      let b = goes r s r' n e in
+      let b = goes next (m .there) r s r' n e in
       turn-is f r s (go r' n) e
       ∙ ap (past n) (ih r' (drop n s) (omega (arith, length-drop n s)) (omega (arith, length-drop n s)))
       ∙ sym (turn-is g r s (go r' n) e)
@@ -275,7 +279,7 @@ module _ {R E H : Type 0} (next : R → List ℕ → Next R E H) (m : Machine ne
   pub advanced-go : (r : R) (s : List ℕ) (r' : R) (n : ℕ) → next r s ≡ go r' n → advanced next r s ≡ past n (advanced next r' (drop n s))
   unfolding advanced
   advanced-go r s r' n e =
-      let b = goes r s r' n e in
+      let b = goes next (m .there) r s r' n e in
       turn-is (length s) r s (go r' n) e ∙ ap (past n) (turns (length s) (suc (length (drop n s))) r' (drop n s) (omega (arith, length-drop n s)) (omega arith))
 
   -- anything else, and it is there
@@ -311,9 +315,9 @@ module _ {R E H : Type 0} (next : R → List ℕ → Next R E H) (m : Machine ne
   ahead-by f ih r s p wait e = rw (turn-is f r s wait e) (record { rest = refl; then = e; stops = refl; within = omega arith })
   ahead-by f ih r s p (halt h) e = rw (turn-is f r s (halt h) e) (record { rest = refl; then = e; stops = refl; within = omega arith })
   ahead-by f ih r s p (go r' n) e =
-      let b = goes r s r' n e in
+      let b = goes next (m .there) r s r' n e in
       rw (turn-is f r s (go r' n) e)
-      (ahead-past r r' s n (advance next f r' (drop n s)) (b .1) (settled-go r s r' n e) (ih r' (drop n s) (omega (arith, length-drop n s))))
+      (ahead-past r r' s n (advance next f r' (drop n s)) (b .1) (settled-go next (m .there) r s r' n e) (ih r' (drop n s) (omega (arith, length-drop n s))))
   ahead-by f ih r s p (tell r' n t) e = rw (turn-is f r s (tell r' n t) e) (record { rest = refl; then = e; stops = refl; within = omega arith })
 
   ahead-at : (f : ℕ) (r : R) (s : List ℕ) → length s < f → Ahead r s (advance next f r s)
@@ -323,45 +327,6 @@ module _ {R E H : Type 0} (next : R → List ℕ → Next R E H) (m : Machine ne
   pub ahead : (r : R) (s : List ℕ) → Ahead r s (advanced next r s)
   unfolding advanced
   ahead r s = ahead-at (suc (length s)) r s (omega arith)
-
-  -- ---- the bytes up to there, alone
-
-  -- they were taken, with these told, and nothing is left of them
-  abbrev pub all-taken : R → List E → Settled R E H
-  all-taken r es = record { state = r; rest = []; told = es; end = waiting }
-
-  taken-none : (r : R) → settled next r [] ≡ all-taken r []
-  taken-none r = settled-wait r [] (m .idle r)
-
-  taken-by : (f : ℕ) → ((r : R) (s : List ℕ) → length s < f → settled next r (take (advance next f r s .used) s) ≡ all-taken (advance next f r s .state) [])
-      → (r : R) (s : List ℕ) → length s ≤ f → (x : Next R E H) → next r s ≡ x
-      → settled next r (take (advance next (suc f) r s .used) s) ≡ all-taken (advance next (suc f) r s .state) []
-  taken-by f ih r s p wait e = rw (turn-is f r s wait e) (taken-none r)
-  taken-by f ih r s p (halt h) e = rw (turn-is f r s (halt h) e) (taken-none r)
-  taken-by f ih r s p (go r' n) e =
-      let b = goes r s r' n e in
-      rw (turn-is f r s (go r' n) e) (before-go r s r' n e (advance next f r' (drop n s) .used) ∙ ih r' (drop n s) (omega (arith, length-drop n s)))
-  taken-by f ih r s p (tell r' n t) e = rw (turn-is f r s (tell r' n t) e) (taken-none r)
-
-  taken-at : (f : ℕ) (r : R) (s : List ℕ) → length s < f → settled next r (take (advance next f r s .used) s) ≡ all-taken (advance next f r s .state) []
-  taken-at zero r s p = absurd (omega arith)
-  taken-at (suc f) r s p = taken-by f (λ r' u q. taken-at f r' u q) r s (omega arith) (next r s) refl
-
-  -- those up to the first thing told
-  pub taken-advanced : (r : R) (s : List ℕ) → settled next r (take (advanced next r s .used) s) ≡ all-taken (advanced next r s .state) []
-  unfolding advanced
-  taken-advanced r s = taken-at (suc (length s)) r s (omega arith)
-
-  -- those of one record that tells something
-  pub taken-tell : (r : R) (s : List ℕ) (r' : R) (n : ℕ) (t : E) → next r s ≡ tell r' n t → settled next r (take n s) ≡ all-taken r' (t ∷ [])
-  taken-tell r s r' n t e =
-      let z : n + 0 ≡ n = omega arith in
-      ap (λ (k : ℕ). settled next r (take k s)) (sym z) ∙ before-tell r s r' n t e 0 ∙ ap (telling (t ∷ [])) (taken-none r')
-
-  -- and what stands behind them
-  pub taken-on : (r : R) (s : List ℕ) (n k : ℕ) (r' : R) (es : List E) (a : Settled R E H)
-      → settled next r (take n s) ≡ all-taken r' es → settled next r' (take k (drop n s)) ≡ a → settled next r (take (n + k) s) ≡ telling es a
-  taken-on r s n k r' es a p q = ap (settled next r) (take-add n k s) ∙ joined r (take n s) (take k (drop n s)) ∙ rw p (ap (telling es) q)
 
   -- ---- from place to place
 
@@ -381,7 +346,7 @@ module _ {R E H : Type 0} (next : R → List ℕ → Next R E H) (m : Machine ne
   -- one record
   pub reached-one : (r : R) (s : List ℕ) (at : ℕ) (r' : R) (at' : ℕ) → at ≤ length s → at ≤ at' → next r (drop at s) ≡ go r' (at' - at) → Reached next r s at r' at'
   reached-one r s at r' at' h f e =
-      let b = goes r (drop at s) r' (at' - at) e in
+      let b = goes next (m .there) r (drop at s) r' (at' - at) e in
       let d : at + (at' - at) ≡ at' = omega arith in
       record {
         from = f;

@@ -178,16 +178,17 @@ fn add(w: Waiting, lists: &mut [f64; 576], at: usize, n: usize, x: Record) -> To
     ensures { λ r. ⌜ Added w (now (lists .entry)) at n x r (now (lists .exit)) ⌝ }
 {
     let seen = w.seen;
+    let e = at + n + 1;
     match x {
         Record::Ack(a) => Took {
             waiting: with_ack(w, a),
-            at: at + n + 1,
+            at: e,
             look: Look::Waits,
             more: true,
         },
         Record::Head(h) => Took {
             waiting: with_head(w, h),
-            at: at + n + 1,
+            at: e,
             look: Look::Waits,
             more: true,
         },
@@ -195,30 +196,12 @@ fn add(w: Waiting, lists: &mut [f64; 576], at: usize, n: usize, x: Record) -> To
             store(lists, seen, c, v);
             Took {
                 waiting: with_value(w, c),
-                at: at + n + 1,
+                at: e,
                 look: Look::Waits,
                 more: true,
             }
         }
-        Record::Settings => Took {
-            waiting: w,
-            at,
-            look: Look::Found(x, n),
-            more: false,
-        },
-        Record::Reset => Took {
-            waiting: w,
-            at,
-            look: Look::Found(x, n),
-            more: false,
-        },
-        Record::Outcome => Took {
-            waiting: w,
-            at,
-            look: Look::Found(x, n),
-            more: false,
-        },
-        Record::Tick(_) => Took {
+        Record::Settings | Record::Reset | Record::Outcome | Record::Tick(_) => Took {
             waiting: w,
             at,
             look: Look::Found(x, n),
@@ -234,13 +217,7 @@ fn take_one(w: Waiting, lists: &mut [f64; 576], s: &[u8], at: usize) -> Took
     let look = look_at(seen, s, at);
     match look {
         Look::Found(x, n) => add(w, lists, at, n, x),
-        Look::Waits => Took {
-            waiting: w,
-            at,
-            look,
-            more: false,
-        },
-        Look::Refuses(_) => Took {
+        Look::Waits | Look::Refuses(_) => Took {
             waiting: w,
             at,
             look,
@@ -392,19 +369,7 @@ fn instruct(rd: Reader, lists: &[f64; 576], s: &[u8], at: usize, n: usize, x: Re
             what: What::Ticks(input_of(w, t)),
             more: false,
         },
-        Record::Ack(_) => Turn {
-            reader: rd,
-            at,
-            what: What::Waits,
-            more: false,
-        },
-        Record::Head(_) => Turn {
-            reader: rd,
-            at,
-            what: What::Waits,
-            more: false,
-        },
-        Record::Value(_, _) => Turn {
+        Record::Ack(_) | Record::Head(_) | Record::Value(_, _) => Turn {
             reader: rd,
             at,
             what: What::Waits,

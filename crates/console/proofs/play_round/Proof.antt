@@ -25,7 +25,7 @@ same-length-2 c = search needs
 
 returns : tie.Need-returns
 unfolding roundOf
-returns c = rw (c .round-of .ensures) (round-full _ _ _ _ _ _ _ _ (c .before .before .before .before .before .before .before .take-in .ensures) _ (length-take-le _ _ (c .before .before .before .before .before .before .before .before .before .before .before .before .before .pre .0)) _ (omega (arith, taken-within _ _ _ _ _ _ _ _ (c .before .before .before .before .before .before .before .take-in .ensures) _ (length-take-le _ _ (c .before .before .before .before .before .before .before .before .before .before .before .before .before .pre .0)), c .before .before .before .before .before .before .before .before .before .before .before .before .before .pre .0, c .before .before .before .before .before .before .before .take-in .kept .1 .1 .1 .1 .0)) (c .before .if1 .taken))
+returns c = rw (c .round-of .ensures) (round-full _ _ _ _ _ _ _ _ (c .before .before .before .before .before .before .before .take-in .ensures) _ (length-take-le _ _ (c .before .before .before .before .before .before .before .before .before .before .before .before .before .pre .0)) _ (c .before .before .before .before .before .before .before .before .before .before .before .before .before .pre .2) (omega (arith, taken-within _ _ _ _ _ _ _ _ (c .before .before .before .before .before .before .before .take-in .ensures) _ (length-take-le _ _ (c .before .before .before .before .before .before .before .before .before .before .before .before .before .pre .0)), c .before .before .before .before .before .before .before .before .before .before .before .before .before .pre .0, c .before .before .before .before .before .before .before .take-in .kept .1 .1 .1 .1 .0)) (c .before .if1 .taken))
 
 round-of-requires-2 : tie.Need-round-of-requires-2
 round-of-requires-2 c κs = search needs
@@ -38,7 +38,7 @@ same-length-4 c = search needs
 
 returns-2 : tie.Need-returns-2
 unfolding roundOf
-returns-2 c = rw (c .round-of2 .ensures) (round-over _ _ _ _ _ _ _ _ (c .before .before .before .before .before .before .before .before .before .take-in .ensures) _ (length-take-le _ _ (c .before .before .before .before .before .before .before .before .before .before .before .before .before .before .before .pre .0)) _ (omega (arith, taken-within _ _ _ _ _ _ _ _ (c .before .before .before .before .before .before .before .before .before .take-in .ensures) _ (length-take-le _ _ (c .before .before .before .before .before .before .before .before .before .before .before .before .before .before .before .pre .0)), c .before .before .before .before .before .before .before .before .before .before .before .before .before .before .before .pre .0, c .before .before .before .before .before .before .before .before .before .take-in .kept .1 .1 .1 .1 .0)) (c .before .before .before .if1 .left))
+returns-2 c = rw (c .round-of2 .ensures) (round-over _ _ _ _ _ _ _ _ (c .before .before .before .before .before .before .before .before .before .take-in .ensures) _ (length-take-le _ _ (c .before .before .before .before .before .before .before .before .before .before .before .before .before .before .before .pre .0)) _ (c .before .before .before .before .before .before .before .before .before .before .before .before .before .before .before .pre .2) (omega (arith, taken-within _ _ _ _ _ _ _ _ (c .before .before .before .before .before .before .before .before .before .take-in .ensures) _ (length-take-le _ _ (c .before .before .before .before .before .before .before .before .before .before .before .before .before .before .before .pre .0)), c .before .before .before .before .before .before .before .before .before .before .before .before .before .before .before .pre .0, c .before .before .before .before .before .before .before .before .before .take-in .kept .1 .1 .1 .1 .0)) (c .before .before .before .if1 .left))
 
 round-of-requires-3 : tie.Need-round-of-requires-3
 round-of-requires-3 c κs = search needs
@@ -51,7 +51,7 @@ same-length-6 c = search needs
 
 returns-3 : tie.Need-returns-3
 unfolding roundOf
-returns-3 c = rw (c .round-of3 .ensures) (round-over _ _ _ _ _ _ _ _ (c .before .before .before .before .before .before .before .before .before .before .take-in .ensures) _ (length-take-le _ _ (c .before .before .before .before .before .before .before .before .before .before .before .before .before .before .before .before .pre .0)) _ (omega (arith, taken-within _ _ _ _ _ _ _ _ (c .before .before .before .before .before .before .before .before .before .before .take-in .ensures) _ (length-take-le _ _ (c .before .before .before .before .before .before .before .before .before .before .before .before .before .before .before .before .pre .0)), c .before .before .before .before .before .before .before .before .before .before .before .before .before .before .before .before .pre .0, c .before .before .before .before .before .before .before .before .before .before .take-in .kept .1 .1 .1 .1 .0)) (c .before .before .before .before .if1 .left))
+returns-3 c = rw (c .round-of3 .ensures) (round-over _ _ _ _ _ _ _ _ (c .before .before .before .before .before .before .before .before .before .before .take-in .ensures) _ (length-take-le _ _ (c .before .before .before .before .before .before .before .before .before .before .before .before .before .before .before .before .pre .0)) _ (c .before .before .before .before .before .before .before .before .before .before .before .before .before .before .before .before .pre .2) (omega (arith, taken-within _ _ _ _ _ _ _ _ (c .before .before .before .before .before .before .before .before .before .before .take-in .ensures) _ (length-take-le _ _ (c .before .before .before .before .before .before .before .before .before .before .before .before .before .before .before .before .pre .0)), c .before .before .before .before .before .before .before .before .before .before .before .before .before .before .before .before .pre .0, c .before .before .before .before .before .before .before .before .before .before .take-in .kept .1 .1 .1 .1 .0)) (c .before .before .before .before .if1 .left))
 
 read-on-requires : tie.Need-read-on-requires
 read-on-requires c κs = omega (arith, left-short _ _ _ _ _ _ _ _ (c .before .before .before .before .before .before .before .before .before .before .take-in .ensures) _ (length-take-le _ _ (c .before .before .before .before .before .before .before .before .before .before .before .before .before .before .before .before .pre .0)) (c .before .before .before .before .if1 .left) (c .before .before .if2 .left), c .before .before .before .before .before .before .before .before .before .before .before .before .before .before .before .before .pre .1, c .before .before .before .before .before .before .before .before .before .before .take-in .kept .1 .1 .1 .1 .0)

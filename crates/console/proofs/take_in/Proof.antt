@@ -1,5 +1,6 @@
 use mathlib.Core.Path.{sym}
 use lib.Seq.{length-take-le}
+use Rattle.console.proofs.Feeds.{followed}
 use Rattle.console.proofs.Rounds.{taken-is}
 use borrow.Author.Needs.{needs}
 use Rattle.console.proofs.take_in.Statement.{statement}
@@ -9,13 +10,13 @@ slice-reshare-prefix-feed : tie.Need-slice-reshare-prefix-feed
 slice-reshare-prefix-feed c = search needs
 
 slice-aggregate-feed : tie.Need-slice-aggregate-feed
-slice-aggregate-feed c = sym (length-take-le _ _ (c .before .before .before .before .pre .0))
+slice-aggregate-feed c = sym (length-take-le _ _ (c .before .before .before .before .pre))
 
 feed-requires : tie.Need-feed-requires
 feed-requires c κs = search needs
 
 write-part-requires : tie.Need-write-part-requires
-write-part-requires c κs = search needs
+write-part-requires c κs = followed _ _ _ _ _ _ _ (c .before .before .before .feed .ensures) .fits
 
 move-down-requires : tie.Need-move-down-requires
 move-down-requires c κs = search needs
@@ -27,7 +28,7 @@ same-length-2 : tie.Need-same-length-2
 same-length-2 c = search needs
 
 returns : tie.Need-returns
-returns c = taken-is _ _ _ _ _ _ _ _ _ (c .before .before .before .before .before .before .before .before .before .before .before .before .before .before .pre .0) (c .before .before .before .before .before .before .before .before .before .before .before .before .before .before .pre .1) (c .before .before .before .before .before .before .before .before .feed .ensures) (c .before .before .move-down .ensures)
+returns c = taken-is _ _ _ _ _ _ _ _ _ (c .before .before .before .before .before .before .before .before .before .before .before .before .before .before .pre) (c .before .before .before .before .before .before .before .before .feed .ensures) (c .before .before .move-down .ensures)
 
 pub take-in-spec : {M : Type 1} → statement M
 take-in-spec =

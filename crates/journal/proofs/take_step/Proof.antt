@@ -2,7 +2,7 @@ use borrow.Author.Needs.{needs}
 use mathlib.Core.Path.{ap, _∙_}
 use native.Mathlib.Omega.{arith}
 use Rattle.reader.specs.Reading.{readOf, listsAfter}
-use Rattle.journal.proofs.Steps.{part-from, read-within, stepped-waits, stepped-refuses, stepped-ticks, begins-fits, resets-fits, stepped-begins, stepped-resets}
+use Rattle.journal.proofs.Steps.{part-from, read-within, stepped-stops, begins-fits, resets-fits, stepped-begins, stepped-resets}
 use Rattle.journal.proofs.take_step.Statement.{statement}
 use Rattle.journal.proofs.take_step.Tie as tie
 
@@ -28,66 +28,46 @@ add-i c =
 enum-told : tie.Need-enum-told
 enum-told c = search needs
 
-enum-known-what : tie.Need-enum-known-what
-enum-known-what c = search needs
-
-enum-known-what-2 : tie.Need-enum-known-what-2
-enum-known-what-2 c = search needs
-
-enum-told-2 : tie.Need-enum-told-2
-enum-told-2 c = search needs
-
 begin-at-requires : tie.Need-begin-at-requires
 begin-at-requires c κs =
     let a = c .before .before .before .before .before .before .before .before .args in
     let e = c .before .before .before .before .read .ensures .0 ∙ ap (readOf (record { reader = a .rd; lists = a .lists .now })) (part-from (a .s .now) (a .at)) in
     let f = c .before .before .before .before .read .ensures .1 ∙ ap (listsAfter (record { reader = a .rd; lists = a .lists .now })) (part-from (a .s .now) (a .at)) in
-    begins-fits (a .rd) (a .run) (a .lists .now) (a .s .now) (a .at) (c .before .before .before .before .before .before .before .before .pre) _ _ e f (c .enum-told2 .given .1)
+    begins-fits (a .rd) (a .run) (a .lists .now) (a .s .now) (a .at) (c .before .before .before .before .before .before .before .before .pre) _ _ e f (c .enum-told .given .1)
 
-enum-told-3 : tie.Need-enum-told-3
-enum-told-3 c = search needs
+enum-told-2 : tie.Need-enum-told-2
+enum-told-2 c = search needs
 
 reset-at-requires : tie.Need-reset-at-requires
 reset-at-requires c κs =
     let a = c .before .before .before .before .before .before .before .before .args in
     let e = c .before .before .before .before .read .ensures .0 ∙ ap (readOf (record { reader = a .rd; lists = a .lists .now })) (part-from (a .s .now) (a .at)) in
     let f = c .before .before .before .before .read .ensures .1 ∙ ap (listsAfter (record { reader = a .rd; lists = a .lists .now })) (part-from (a .s .now) (a .at)) in
-    resets-fits (a .rd) (a .run) (a .lists .now) (a .s .now) (a .at) (c .before .before .before .before .before .before .before .before .pre) _ _ e f (c .enum-told3 .given .1)
+    resets-fits (a .rd) (a .run) (a .lists .now) (a .s .now) (a .at) (c .before .before .before .before .before .before .before .before .pre) _ _ e f (c .enum-told2 .given .1)
+
+how-by-requires : tie.Need-how-by-requires
+how-by-requires c κs = search needs
 
 returns : tie.Need-returns
 returns c =
-    let a = c .before .before .before .before .before .before .before .before .args in
-    let e = c .before .before .before .before .read .ensures .0 ∙ ap (readOf (record { reader = a .rd; lists = a .lists .now })) (part-from (a .s .now) (a .at)) in
-    let f = c .before .before .before .before .read .ensures .1 ∙ ap (listsAfter (record { reader = a .rd; lists = a .lists .now })) (part-from (a .s .now) (a .at)) in
-    stepped-waits (a .rd) (a .run) (a .lists .now) (a .s .now) (a .at) (c .before .before .before .before .before .before .before .before .pre) _ _ e f (c .enum-told .given .1)
+    let a = c .before .before .before .before .before .before .before .before .before .args in
+    let e = c .before .before .before .before .before .read .ensures .0 ∙ ap (readOf (record { reader = a .rd; lists = a .lists .now })) (part-from (a .s .now) (a .at)) in
+    let f = c .before .before .before .before .before .read .ensures .1 ∙ ap (listsAfter (record { reader = a .rd; lists = a .lists .now })) (part-from (a .s .now) (a .at)) in
+    rw (c .begin-at .ensures) (stepped-begins (a .rd) (a .run) (a .lists .now) (a .s .now) (a .at) (c .before .before .before .before .before .before .before .before .before .pre) _ _ e f (c .before .enum-told .given .1))
 
 returns-2 : tie.Need-returns-2
 returns-2 c =
     let a = c .before .before .before .before .before .before .before .before .before .args in
     let e = c .before .before .before .before .before .read .ensures .0 ∙ ap (readOf (record { reader = a .rd; lists = a .lists .now })) (part-from (a .s .now) (a .at)) in
     let f = c .before .before .before .before .before .read .ensures .1 ∙ ap (listsAfter (record { reader = a .rd; lists = a .lists .now })) (part-from (a .s .now) (a .at)) in
-    stepped-refuses (a .rd) (a .run) (a .lists .now) (a .s .now) (a .at) (c .before .before .before .before .before .before .before .before .before .pre) _ _ e f _ (c .before .what .given .1)
+    rw (c .reset-at .ensures) (stepped-resets (a .rd) (a .run) (a .lists .now) (a .s .now) (a .at) (c .before .before .before .before .before .before .before .before .before .pre) _ _ e f (c .before .enum-told2 .given .1))
 
 returns-3 : tie.Need-returns-3
 returns-3 c =
-    let a = c .before .before .before .before .before .before .before .before .before .args in
-    let e = c .before .before .before .before .before .read .ensures .0 ∙ ap (readOf (record { reader = a .rd; lists = a .lists .now })) (part-from (a .s .now) (a .at)) in
-    let f = c .before .before .before .before .before .read .ensures .1 ∙ ap (listsAfter (record { reader = a .rd; lists = a .lists .now })) (part-from (a .s .now) (a .at)) in
-    stepped-ticks (a .rd) (a .run) (a .lists .now) (a .s .now) (a .at) (c .before .before .before .before .before .before .before .before .before .pre) _ _ e f _ (c .before .what2 .given .1)
-
-returns-4 : tie.Need-returns-4
-returns-4 c =
-    let a = c .before .before .before .before .before .before .before .before .before .args in
-    let e = c .before .before .before .before .before .read .ensures .0 ∙ ap (readOf (record { reader = a .rd; lists = a .lists .now })) (part-from (a .s .now) (a .at)) in
-    let f = c .before .before .before .before .before .read .ensures .1 ∙ ap (listsAfter (record { reader = a .rd; lists = a .lists .now })) (part-from (a .s .now) (a .at)) in
-    rw (c .begin-at .ensures) (stepped-begins (a .rd) (a .run) (a .lists .now) (a .s .now) (a .at) (c .before .before .before .before .before .before .before .before .before .pre) _ _ e f (c .before .enum-told2 .given .1))
-
-returns-5 : tie.Need-returns-5
-returns-5 c =
-    let a = c .before .before .before .before .before .before .before .before .before .args in
-    let e = c .before .before .before .before .before .read .ensures .0 ∙ ap (readOf (record { reader = a .rd; lists = a .lists .now })) (part-from (a .s .now) (a .at)) in
-    let f = c .before .before .before .before .before .read .ensures .1 ∙ ap (listsAfter (record { reader = a .rd; lists = a .lists .now })) (part-from (a .s .now) (a .at)) in
-    rw (c .reset-at .ensures) (stepped-resets (a .rd) (a .run) (a .lists .now) (a .s .now) (a .at) (c .before .before .before .before .before .before .before .before .before .pre) _ _ e f (c .before .enum-told3 .given .1))
+    let a = c .before .before .before .before .before .before .before .before .args in
+    let e = c .before .before .before .before .read .ensures .0 ∙ ap (readOf (record { reader = a .rd; lists = a .lists .now })) (part-from (a .s .now) (a .at)) in
+    let f = c .before .before .before .before .read .ensures .1 ∙ ap (listsAfter (record { reader = a .rd; lists = a .lists .now })) (part-from (a .s .now) (a .at)) in
+    rw (c .how-by .ensures) (stepped-stops (a .rd) (a .run) (a .lists .now) (a .s .now) (a .at) (c .before .before .before .before .before .before .before .before .pre) _ _ e f (c .before .match .keys3))
 
 pub take-step-spec : {M : Type 1} → statement M
 take-step-spec =
@@ -99,14 +79,10 @@ take-step-spec =
     read-requires
     add-i
     enum-told
-    enum-known-what
-    enum-known-what-2
-    enum-told-2
     begin-at-requires
-    enum-told-3
+    enum-told-2
     reset-at-requires
+    how-by-requires
     returns
     returns-2
-    returns-3
-    returns-4
-    returns-5)
+    returns-3)

@@ -1,7 +1,4 @@
-use Prim.Native.Nat.{ℕ}
-use mathlib.Core.Path.{_≡_, refl}
 use native.Mathlib.Omega.{arith}
-use lib.ListN.{length}
 use borrow.Author.Needs.{needs}
 use Rattle.player.proofs.Turns.{turn-within, turned-waits, turned-refuses, tick-fits, turned-ticks}
 use Rattle.player.proofs.play_turn.Statement.{statement}
@@ -85,7 +82,7 @@ returns c =
     let a = c .before .before .before .before .before .before .before .before .before .before .args in
     let q = c .before .before .before .before .before .advance .ensures in
     let h = c .before .before .before .before .before .before .before .before .before .before .pre .0 in
-    (turned-waits _ (a .s .now) (a .at) h _ _ (q .0) (q .1) _ _ _ (omega (arith, c .before .before .before .before .before .before .before .before .before .before .pre .1)) (c .enum-told .given .1), λ y. absurd (let z : _≡_ {A = ℕ} 0 1 = cc in omega arith), λ y. refl)
+    turned-waits _ (a .s .now) (a .at) h _ _ (q .0) (q .1) _ _ _ (c .before .before .before .before .before .before .before .before .before .before .pre .1) (c .enum-told .given .1)
 
 -- src/lib.rt:47:1
 returns-2 : tie.Need-returns-2
@@ -93,7 +90,7 @@ returns-2 c =
     let a = c .before .before .before .before .before .before .before .before .before .before .before .before .args in
     let q = c .before .before .before .before .before .before .before .advance .ensures in
     let h = c .before .before .before .before .before .before .before .before .before .before .before .before .pre .0 in
-    (turned-refuses _ (a .s .now) (a .at) h _ _ (q .0) (q .1) _ _ _ (omega (arith, c .before .before .before .before .before .before .before .before .before .before .before .before .pre .1)) _ (c .before .before .how .given .1) _ (c .number .ensures), λ y. absurd (let z : _≡_ {A = ℕ} 0 1 = cc in omega arith), λ y. refl)
+    turned-refuses _ (a .s .now) (a .at) h _ _ (q .0) (q .1) _ _ _ (c .before .before .before .before .before .before .before .before .before .before .before .before .pre .1) _ (c .before .before .how .given .1) _ (c .number .ensures)
 
 -- src/lib.rt:47:1
 same-length : tie.Need-same-length
@@ -105,7 +102,7 @@ returns-3 c =
     let a = c .before .before .before .before .before .before .before .before .before .before .before .before .before .before .before .before .before .before .args in
     let q = c .before .before .before .before .before .before .before .before .before .before .before .before .before .advance .ensures in
     let h = c .before .before .before .before .before .before .before .before .before .before .before .before .before .before .before .before .before .before .pre .0 in
-    turned-ticks _ (a .s .now) (a .at) h _ _ (q .0) (q .1) _ (c .before .before .before .before .before .before .before .before .how2 .given .1) _ _ _ _ _ (omega (arith, c .before .before .before .before .before .before .before .before .before .before .before .before .before .before .before .before .before .before .pre .1)) (c .before .before .play-tick .kept .1 .1 .1 .1 .1 .1 .0) (rw (c .before .before .before .before .before .body-len .ensures) at (c .before .before .play-tick .ensures))
+    turned-ticks _ (a .s .now) (a .at) h _ _ (q .0) (q .1) _ (c .before .before .before .before .before .before .before .before .how2 .given .1) _ _ _ (c .before .before .before .before .before .before .before .before .before .before .before .before .before .before .before .before .before .before .pre .1) _ _ (rw (c .before .before .before .before .before .body-len .ensures) at (c .before .before .play-tick .ensures))
 
 pub play-turn-spec : {M : Type 1} → statement M
 play-turn-spec =

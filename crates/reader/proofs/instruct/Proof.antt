@@ -5,13 +5,12 @@ use mathlib.Core.Bool.{Bool, true, false}
 use mathlib.Core.Path.{_≡_, ap, _∙_}
 use native.Mathlib.Omega.{arith}
 use Rattle.records.specs.Body.{outcomeOf}
-use Rattle.reader.specs.Steps.{isSmall}
-use Rattle.reader.proofs.Steps.{body-part, instructs-outcome, instructs-settings, instructs-reset, instructs-tick}
+use Rattle.reader.proofs.Steps.{body-part, instructs-outcome, instructs-settings, instructs-reset, instructs-tick, is-small}
 use Rattle.reader.proofs.instruct.Statement.{statement}
 use Rattle.reader.proofs.instruct.Tie as tie
 
-not-small : (t : Bool) → t ≡ false → t ≡ true → ⊥
-not-small t p q = let z : _≡_ {A = ℕ} 0 1 = cc in omega arith
+never : (t : Bool) → t ≡ false → t ≡ true → ⊥
+never t p q = let z : _≡_ {A = ℕ} 0 1 = cc in omega arith
 
 enum-told : tie.Need-enum-told
 enum-told c = search needs
@@ -49,15 +48,6 @@ enum-known-x c = search needs
 input-of-requires : tie.Need-input-of-requires
 input-of-requires c κs = search needs
 
-enum-told-4 : tie.Need-enum-told-4
-enum-told-4 c = search needs
-
-enum-told-5 : tie.Need-enum-told-5
-enum-told-5 c = search needs
-
-enum-told-6 : tie.Need-enum-told-6
-enum-told-6 c = search needs
-
 returns : tie.Need-returns
 returns c =
     let a = c .before .before .before .before .before .before .before .args in
@@ -73,13 +63,7 @@ returns-4 : tie.Need-returns-4
 returns-4 c = instructs-tick _ _ _ _ _ _ _ _ (c .before .before .x .given .1) (c .input-of .ensures)
 
 returns-5 : tie.Need-returns-5
-returns-5 c = absurd (not-small _ (c .before .before .before .before .pre .1) (ap isSmall (c .enum-told4 .given .1)))
-
-returns-6 : tie.Need-returns-6
-returns-6 c = absurd (not-small _ (c .before .before .before .before .pre .1) (ap isSmall (c .enum-told5 .given .1)))
-
-returns-7 : tie.Need-returns-7
-returns-7 c = absurd (not-small _ (c .before .before .before .before .pre .1) (ap isSmall (c .enum-told6 .given .1)))
+returns-5 c = absurd (never _ (c .before .before .before .pre .1) (is-small (c .before .before .before .args .x) (c .match .keys5)))
 
 pub instruct-spec : {M : Type 1} → statement M
 instruct-spec =
@@ -97,13 +81,8 @@ instruct-spec =
     enum-told-3
     enum-known-x
     input-of-requires
-    enum-told-4
-    enum-told-5
-    enum-told-6
     returns
     returns-2
     returns-3
     returns-4
-    returns-5
-    returns-6
-    returns-7)
+    returns-5)

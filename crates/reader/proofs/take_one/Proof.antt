@@ -1,9 +1,8 @@
 use borrow.Author.Needs.{needs}
-use mathlib.Core.Path.{sym, ap, _∙_}
+use mathlib.Core.Path.{sym, _∙_}
 use native.Mathlib.Omega.{arith}
 use lib.ListN.{drop, length-drop}
-use Rattle.reader.specs.Steps.{looksSmall}
-use Rattle.reader.proofs.Steps.{found-is, took-added, took-none}
+use Rattle.reader.proofs.Steps.{found-is, took-added, took-none, none-found}
 use Rattle.reader.proofs.take_one.Statement.{statement}
 use Rattle.reader.proofs.take_one.Tie as tie
 
@@ -19,20 +18,11 @@ add-requires c κs =
     let f = found-is (a .w .seen) (drop (a .at) (a .s .now)) _ _ (sym (c .before .before .before .before .look-at .ensures) ∙ c .before .before .look .given .1) in
     (omega (arith, f .fits, length-drop (a .at) (a .s .now)), f .room)
 
-enum-told : tie.Need-enum-told
-enum-told c = search needs
-
-enum-told-2 : tie.Need-enum-told-2
-enum-told-2 c = search needs
-
 returns : tie.Need-returns
 returns c = took-added _ _ _ _ _ _ _ _ (sym (c .before .before .before .before .before .look-at .ensures) ∙ c .before .before .before .look .given .1) (c .add .ensures)
 
 returns-2 : tie.Need-returns-2
-returns-2 c = took-none _ _ _ _ _ (c .before .before .look-at .ensures) (ap looksSmall (c .enum-told .given .1))
-
-returns-3 : tie.Need-returns-3
-returns-3 c = took-none _ _ _ _ _ (c .before .before .look-at .ensures) (ap looksSmall (c .enum-told2 .given .1))
+returns-2 c = took-none _ _ _ _ _ (c .before .look-at .ensures) (none-found (c .before .look-at .result) (c .match .keys2))
 
 pub take-one-spec : {M : Type 1} → statement M
 take-one-spec =
@@ -41,8 +31,5 @@ take-one-spec =
     look-at-requires
     enum-known-look
     add-requires
-    enum-told
-    enum-told-2
     returns
-    returns-2
-    returns-3)
+    returns-2)
