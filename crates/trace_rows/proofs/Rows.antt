@@ -1,10 +1,7 @@
 -- Lines of a list by number.
-use Prim.Native.Nat.{ℕ, zero, suc, _+_, _-_, _≤_, _<_}
+use Prim.Native.Nat.{ℕ}
 use mathlib.Core.Path.{_≡_, sym, ap, _∙_}
-use mathlib.Core.List.{List, [], _∷_, _++_}
-use native.Mathlib.Omega.{arith}
-use lib.ListN.{length, getD, List·getD-eq-default, List·getD-append}
-use lib.Seq.{getD-append-add}
+use mathlib.Core.List.{List, [], _∷_}
 use Rattle.text.specs.declared.Line.{Line}
 use Rattle.text.specs.Line.{lineOf, pushOf}
 use Rattle.text.proofs.Lines.{push-line, push-append}

@@ -21,24 +21,48 @@ valueText Absent = ascii "none"
 valueText (Number n) = decimalOf n
 valueText (Float x) = floatText x
 
+-- ---- values of a flag, a code, a mark
+
+abbrev pub flagValue : Bool → Value
+flagValue b = Number (cond b 1 0)
+
+abbrev pub stateValue : FuseState → Value
+stateValue s = Number (stateCode s)
+
+abbrev pub reasonValue : ReasonCode → Value
+reasonValue w = Number (reasonCode w)
+
+abbrev pub handoffValue : MaybeHandoff → Value
+handoffValue NoHandoff = Absent
+handoffValue (Begun n) = Number n
+
+abbrev pub markValue : Mark → Value
+markValue m = byMark m Absent Number
+
+abbrev pub reasonMarkValue : ReasonMark → Value
+reasonMarkValue m = byReasonMark m Absent reasonValue
+
+-- ---- and their texts
+
 abbrev pub flagText : Bool → List ℕ
-flagText b = decimalOf (cond b 1 0)
+flagText b = valueText (flagValue b)
 
 abbrev pub stateText : FuseState → List ℕ
-stateText s = decimalOf (stateCode s)
+stateText s = valueText (stateValue s)
 
 abbrev pub reasonText : ReasonCode → List ℕ
-reasonText w = decimalOf (reasonCode w)
+reasonText w = valueText (reasonValue w)
 
 abbrev pub handoffText : MaybeHandoff → List ℕ
-handoffText NoHandoff = ascii "none"
-handoffText (Begun n) = decimalOf n
+handoffText h = valueText (handoffValue h)
 
 abbrev pub markText : Mark → List ℕ
-markText m = byMark m (ascii "none") decimalOf
+markText m = valueText (markValue m)
 
 abbrev pub reasonMarkText : ReasonMark → List ℕ
-reasonMarkText m = byReasonMark m (ascii "none") reasonText
+reasonMarkText m = valueText (reasonMarkValue m)
+
+-- ---- lines
 
 -- the group's name, word k of the names, an equals sign
 unfoldable pub nameOf : List ℕ → List ℕ → ℕ → List ℕ

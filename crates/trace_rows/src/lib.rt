@@ -5,11 +5,11 @@ ghost use Prim.Native.Nat.{_-_, _≤_, _<_};
 ghost use lib.Dec.{eqb};
 ghost use lib.ListN.{length, take, drop};
 ghost use Rattle.text.specs.Line.{lineOf, pushOf};
-ghost use Rattle.text.specs.Number.{decimalOf, floatText};
 ghost use Rattle.text.specs.Commas.{numbersText, floatsText};
 ghost use Rattle.lictor_core.specs.Codes.{statusCode, sourceCode};
 ghost use Rattle.trace_rows.specs.Words.{behindBlanks, upToBlank};
-ghost use Rattle.trace_rows.specs.Row.{nameOf, ended, valueText, flagText, stateText, reasonText, handoffText, markText, reasonMarkText};
+ghost use Rattle.trace_rows.specs.Row.{nameOf, ended, valueText, flagValue, stateValue, reasonValue, handoffValue, markValue, reasonMarkValue};
+ghost use Rattle.trace_rows.specs.declared.Value.the-variants.{Number, Float};
 use lictor_core::reason::ReasonCode;
 use lictor_core::reason::reason_code;
 use lictor_core::state::FuseState;
@@ -90,67 +90,67 @@ pub enum Value {
 }
 
 pub fn number(x: u64) -> Value
-    ensures { λ r. ⌜ valueText r ≡ decimalOf x ⌝ }
+    ensures { λ r. ⌜ r ≡ Number x ⌝ }
 {
     Value::Number(x)
 }
 
 pub fn number32(x: u32) -> Value
-    ensures { λ r. ⌜ valueText r ≡ decimalOf x ⌝ }
+    ensures { λ r. ⌜ r ≡ Number x ⌝ }
 {
     number(x as u64)
 }
 
 pub fn number16(x: u16) -> Value
-    ensures { λ r. ⌜ valueText r ≡ decimalOf x ⌝ }
+    ensures { λ r. ⌜ r ≡ Number x ⌝ }
 {
     number(x as u64)
 }
 
 pub fn number8(x: u8) -> Value
-    ensures { λ r. ⌜ valueText r ≡ decimalOf x ⌝ }
+    ensures { λ r. ⌜ r ≡ Number x ⌝ }
 {
     number(x as u64)
 }
 
 pub fn flag(b: bool) -> Value
-    ensures { λ r. ⌜ valueText r ≡ flagText b ⌝ }
+    ensures { λ r. ⌜ r ≡ flagValue b ⌝ }
 {
     if b { number(1) } else { number(0) }
 }
 
 pub fn state(s: FuseState) -> Value
-    ensures { λ r. ⌜ valueText r ≡ stateText s ⌝ }
+    ensures { λ r. ⌜ r ≡ stateValue s ⌝ }
 {
     number8(state_code(s))
 }
 
 pub fn status(s: Status) -> Value
-    ensures { λ r. ⌜ valueText r ≡ decimalOf (statusCode s) ⌝ }
+    ensures { λ r. ⌜ r ≡ Number (statusCode s) ⌝ }
 {
     number8(status_code(s))
 }
 
 pub fn reason(w: ReasonCode) -> Value
-    ensures { λ r. ⌜ valueText r ≡ reasonText w ⌝ }
+    ensures { λ r. ⌜ r ≡ reasonValue w ⌝ }
 {
     number8(reason_code(w))
 }
 
 pub fn source(s: ActionSource) -> Value
-    ensures { λ r. ⌜ valueText r ≡ decimalOf (sourceCode s) ⌝ }
+    ensures { λ r. ⌜ r ≡ Number (sourceCode s) ⌝ }
 {
     number8(source_code(s))
 }
 
 pub fn float(x: f64) -> Value
-    ensures { λ r. ⌜ valueText r ≡ floatText x ⌝ }
+    ensures { λ r. ⌜ r ≡ Float x ⌝ }
 {
     Value::Float(x)
 }
 
 pub fn handoff(h: MaybeHandoff) -> Value
-    ensures { λ r. ⌜ valueText r ≡ handoffText h ⌝ }
+    ensures { λ r. ⌜ r ≡ handoffValue h ⌝ }
 {
     match h {
         MaybeHandoff::NoHandoff => Value::Absent,
@@ -159,7 +159,7 @@ pub fn handoff(h: MaybeHandoff) -> Value
 }
 
 pub fn mark(m: Mark) -> Value
-    ensures { λ r. ⌜ valueText r ≡ markText m ⌝ }
+    ensures { λ r. ⌜ r ≡ markValue m ⌝ }
 {
     match m {
         Mark::Never => Value::Absent,
@@ -168,7 +168,7 @@ pub fn mark(m: Mark) -> Value
 }
 
 pub fn reason_mark(m: ReasonMark) -> Value
-    ensures { λ r. ⌜ valueText r ≡ reasonMarkText m ⌝ }
+    ensures { λ r. ⌜ r ≡ reasonMarkValue m ⌝ }
 {
     match m {
         ReasonMark::NoReason => Value::Absent,

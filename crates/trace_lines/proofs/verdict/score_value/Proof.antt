@@ -1,10 +1,10 @@
 -- Each value by the number of its line; the last is the one that is left.
-use mathlib.Core.Path.{refl, ap}
+use mathlib.Core.Path.{refl}
 use mathlib.Core.List.{[], _∷_}
 use Rattle.trace_rows.specs.Words.{behindBlanks, upToBlank, wordAt}
-use Rattle.trace_rows.specs.Row.{nameOf, row}
+use Rattle.trace_rows.specs.Row.{nameOf}
 use Rattle.trace_lines.specs.Trace.{verdictName, verdictLines}
-use Rattle.trace_lines.proofs.Rest.{rest-is}
+use Rattle.trace_lines.proofs.Rest.{rest-is, valued}
 use Rattle.trace_lines.proofs.verdict.score_value.Statement.{statement}
 use Rattle.trace_lines.proofs.verdict.score_value.Tie as tie
 
@@ -14,6 +14,6 @@ score-value-spec =
     tie.close
     (tie.spec
     (λ c κs. tt) (λ c κs. tt) (λ c κs. tt)
-    (λ c. rw (c .before .match .keys1) (ap (row _) (c .float .ensures)))
-    (λ c. rw (c .before .match .keys2) (ap (row _) (c .number32 .ensures)))
-    (λ c. rw (rest-is _ 12 14 (13 ∷ 12 ∷ []) (c .before .match .rest) (c .before .before .before .pre .0) (c .before .before .before .pre .1) refl) (ap (row (verdictName 14)) (c .number322 .ensures))))
+    (λ c. rw (c .before .match .keys1) (valued _ (c .float .ensures)))
+    (λ c. rw (c .before .match .keys2) (valued _ (c .number32 .ensures)))
+    (λ c. rw (rest-is _ 12 14 (13 ∷ 12 ∷ []) (c .before .match .rest) (c .before .before .before .pre .0) (c .before .before .before .pre .1) refl) (valued (verdictName 14) (c .number322 .ensures))))
