@@ -1,6 +1,7 @@
 // The records of a journal: how long a body is by its kind, and what it holds. Each reader takes the body alone, a part of the journal's bytes.
 ghost use mathlib.Core.Path.{_≡_};
 ghost use Prim.Native.Nat.{_≤_};
+ghost use lib.ListN.{length};
 ghost use Rattle.bytes_le.specs.Little.{floatsAt};
 ghost use Rattle.records.specs.Kinds.{journalKinds, isKnown, bodyLen};
 ghost use Rattle.records.specs.Body.{flag, limitsOf, calibrationOf, settingsOf, ackOf, headOf, scoresOf, outcomeOf, tickOf, recordOf};
@@ -67,31 +68,24 @@ fn set(n: u8) -> bool
     n == 1
 }
 
-// Eight floats from a place on.
+// Floats from a place on, as many as there is room for.
+fn fill(b: &[u8], at: usize, out: &mut [f64])
+    requires { ⌜ (at ≤ 1024) × (length (now out) ≤ 12) ⌝ }
+    ensures { λ _. ⌜ now (out .exit) ≡ floatsAt (now (b .entry)) at (length (now (out .entry))) ⌝ }
+{
+    let mut i: usize = 0;
+    while i < out.len() {
+        out[i] = f64_at(b, at + i * 8);
+        i += 1;
+    }
+}
+
 fn eight(b: &[u8], at: usize) -> [f64; 8]
     requires { ⌜ at ≤ 1024 ⌝ }
     ensures { λ r. ⌜ r ≡ floatsAt (now (b .entry)) at 8 ⌝ }
 {
     let mut out = [0.0; 8];
-    let mut i: usize = 0;
-    while i < 8 {
-        out[i] = f64_at(b, at + i * 8);
-        i += 1;
-    }
-    out
-}
-
-// Twelve.
-fn twelve(b: &[u8], at: usize) -> [f64; 12]
-    requires { ⌜ at ≤ 1024 ⌝ }
-    ensures { λ r. ⌜ r ≡ floatsAt (now (b .entry)) at 12 ⌝ }
-{
-    let mut out = [0.0; 12];
-    let mut i: usize = 0;
-    while i < 12 {
-        out[i] = f64_at(b, at + i * 8);
-        i += 1;
-    }
+    fill(b, at, &mut out);
     out
 }
 
@@ -182,7 +176,8 @@ fn read_head(b: &[u8]) -> ChunkHead
 fn read_scores(b: &[u8]) -> Scores
     ensures { λ r. ⌜ r ≡ scoresOf (now (b .entry)) ⌝ }
 {
-    let z = twelve(b, 33);
+    let mut z = [0.0; 12];
+    fill(b, 33, &mut z);
     Scores {
         z,
         s: f64_at(b, 17),

@@ -1,8 +1,7 @@
 -- Text put behind text.
-use Prim.Native.Nat.{ℕ, zero, suc, _≤_, _<_, _+_, _*_, _-_, min}
+use Prim.Native.Nat.{ℕ, _≤_, _<_, _+_, _*_, _-_, min}
 use mathlib.Core.Path.{_≡_, refl, sym, ap, ap₂, _∙_}
-use mathlib.Core.Bool.{cond}
-use mathlib.Core.List.{List, [], _∷_, _++_, append-assoc, append-nil}
+use mathlib.Core.List.{List, [], _++_, append-assoc, append-nil}
 use native.Mathlib.Omega.{arith}
 use native.Mathlib.Numerals.{add-one}
 use lib.ListN.{length, take, drop, length-append, length-take, replicate}
@@ -11,18 +10,18 @@ use Rattle.text.specs.declared.Line.{Line}
 use Rattle.text.specs.Line.{lineOf}
 use Rattle.lictor_core.specs.declared.fuse.FuseRt.{FuseRt}
 use Rattle.lictor_core.specs.declared.verdict.SafetyVerdict.{SafetyVerdict}
-use Rattle.report.specs.Lines.{tickText}
+use Rattle.report.specs.Lines.{numbersOf, tickText}
 use Rattle.text.specs.Ascii.{ascii}
 use Rattle.text.proofs.Digits.{decimal-20}
 use Rattle.lictor_core.specs.Codes.{stateCode, reasonCode, sourceCode}
-use Rattle.report.specs.Lines.{fieldText, marginText}
+use Rattle.report.specs.Lines.{marginText}
 use Rattle.report.specs.declared.margin.Margin.{Margin}
 use Rattle.report.specs.Margin.{marginOf}
 use Rattle.text.proofs.Lines.{line-text}
 use Rattle.report.proofs.Fits.{tick-fits, margin-21}
 use Rattle.trace_lines.specs.Trace.{traceText}
 use borrow.Author.Tests.{eq-eqb, ne-eqb, le-leb, lt-leb}
-use Rattle.render.specs.Text.{Put, numbersOf, traceUpTo, eventText, placeAfter, memoryAfter}
+use Rattle.render.specs.Text.{Put, traceUpTo, eventText, placeAfter, memoryAfter}
 
 pub put-none : (out : List ℕ) (n : ℕ) → Put out n [] n out
 put-none out n = record { ends = (let e : n ≡ n + 0 = omega arith in e); memory = paste-zero out n [] }
@@ -106,7 +105,7 @@ put-whole out n s out' e = record { ends = refl; memory = e }
 
 -- the numbers of a line, then a blank, the margin and the end
 pub tick-by : (v : SafetyVerdict) → tickText v ≡ numbersOf v ++ ascii " " ++ marginText (marginOf (v .«brake_margin»)) ++ ascii "\n"
-unfolding tickText numbersOf
+unfolding tickText
 tick-by v = refl
 
 -- the margin's line shows its text
@@ -114,7 +113,6 @@ pub margin-shows : (m : Margin) (l : Line) (x : Margin) → l ≡ lineOf (margin
 margin-shows m l x e f = ap (λ (y : Line). take (y .n) (y .text)) (e ∙ ap (λ (y : Margin). lineOf (marginText y)) f) ∙ line-text (marginText x) (omega (arith, margin-21 x))
 
 pub numbers-most : (v : SafetyVerdict) → length (numbersOf v) ≤ 130
-unfolding numbersOf
 numbers-most v =
     simp length-append
     (omega (arith, decimal-20 (v .seq), decimal-20 (v .t), decimal-20 (stateCode (v .state)), decimal-20 (reasonCode (v .reason)), decimal-20 (v .trips), decimal-20 (sourceCode (v .«action_src»))))

@@ -1,28 +1,15 @@
 -- The text of a tick (01-scope.md, Journal, the program `fuse`), and memory with text put into it.
 use mathlib.Core.Bool.{cond}
-use mathlib.Core.List.{List, [], _∷_, _++_}
+use mathlib.Core.List.{List, [], _++_}
 use mathlib.Core.Path.{_≡_}
-use Prim.Native.Nat.{ℕ, zero, suc, _+_, _≤_}
+use Prim.Native.Nat.{ℕ, zero, suc, _+_}
 use lib.Dec.{eqb, leb}
 use lib.ListN.{length, take}
 use lib.Seq.{paste}
 use Rattle.lictor_core.specs.declared.fuse.FuseRt.{FuseRt}
 use Rattle.lictor_core.specs.declared.verdict.SafetyVerdict.{SafetyVerdict}
-use Rattle.lictor_core.specs.Codes.{stateCode, reasonCode, sourceCode}
-use Rattle.text.specs.Ascii.{ascii}
-use Rattle.report.specs.Lines.{fieldText, tickText}
+use Rattle.report.specs.Lines.{tickText}
 use Rattle.trace_lines.specs.Trace.{traceText}
-
--- the line of a tick up to its margin
-unfoldable pub numbersOf : SafetyVerdict → List ℕ
-numbersOf v =
-    ascii "tick"
-    ++ fieldText (v .seq)
-    ++ fieldText (v .t)
-    ++ fieldText (stateCode (v .state))
-    ++ fieldText (reasonCode (v .reason))
-    ++ fieldText (v .trips)
-    ++ fieldText (sourceCode (v .«action_src»))
 
 -- the first k lines of the trace. A line has room for 256 bytes; the longest, twelve floats, has 216.
 unfoldable pub traceUpTo : ℕ → SafetyVerdict → FuseRt → List ℕ

@@ -20,9 +20,9 @@ marginText (Millis z) = signedOf z
 abbrev pub fieldText : ℕ → List ℕ
 fieldText n = ascii " " ++ decimalOf n
 
--- `tick`, seq, t, state, reason, trips, action source, margin
-unfoldable pub tickText : SafetyVerdict → List ℕ
-tickText v =
+-- `tick`, seq, t, state, reason, trips, action source
+abbrev pub numbersOf : SafetyVerdict → List ℕ
+numbersOf v =
     ascii "tick"
     ++ fieldText (v .seq)
     ++ fieldText (v .t)
@@ -30,9 +30,10 @@ tickText v =
     ++ fieldText (reasonCode (v .reason))
     ++ fieldText (v .trips)
     ++ fieldText (sourceCode (v .«action_src»))
-    ++ ascii " "
-    ++ marginText (marginOf (v .«brake_margin»))
-    ++ ascii "\n"
+
+-- and then the margin
+unfoldable pub tickText : SafetyVerdict → List ℕ
+tickText v = numbersOf v ++ ascii " " ++ marginText (marginOf (v .«brake_margin»)) ++ ascii "\n"
 
 -- the `stopped` of the line `end`: the ticks that ended in one of the five stop states. (No relation to the standstill that a tick tests.)
 unfoldable pub stoppedOf : Tally → ℕ

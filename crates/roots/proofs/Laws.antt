@@ -3,22 +3,24 @@ use mathlib.Core.Path.{_≡_, refl, sym, ap, _∙_, subst}
 use mathlib.Core.Bool.{Bool, true, false, not, cond, true≢false}
 use mathlib.Core.List.{List, [], _∷_, _++_, append-assoc, append-nil}
 use Prim.Native.Nat.{ℕ, zero, suc, _+_, _-_, _*_, _/_, _%_, _^_, _≤_, _<_, min}
-use native.Mathlib.Nat.{le-antisymm, le-of-suc-le-suc, lt-of-not-le, add-zero, pow-suc, pow-le-pow-right}
+use native.Mathlib.Nat.{add-zero, pow-suc, pow-le-pow-right}
 use native.Mathlib.Numerals.{add-one}
 use native.Mathlib.Omega.{arith}
 use borrow.Author.Tests.{lt-ltb, le-ltb}
 use lib.Dec.{T, leb, leb→le, nleb→lt}
-use lib.ListN.{length, take, drop, getD, set, length-set, length-append, length-take, length-drop, drop-of-length-le}
+use lib.ListN.{length, take, drop, getD, set, length-set, length-append, length-take, length-drop, length-replicate, drop-of-length-le}
 use lib.Seq.{take-suc-set, take-suc, drop-cons, getD-take, take-all, drop-drop, length-take-le}
-use lib.Ieee.{Float, nan, inf, fin, binary64, isNan, toBits, ofBits, nanBits, ne}
+use lib.Ieee.{Float, nan, inf, fin, binary64, isNan, toBits, ofBits, nanBits}
 use lib.Ieee.Bits.{nanBits-is, nanBits-above}
-use Rattle.io.specs.Digits.{digits, Fewest}
+use Rattle.text.specs.declared.Line.{Line}
+use Rattle.text.specs.Ascii.{ascii}
+use Rattle.text.specs.Line.{lineOf}
+use Rattle.text.specs.Number.{hexIn, hexDigit, floatText}
+use Rattle.text.proofs.Lines.{line-text}
 use Rattle.fmath.specs.Root.{rootOf}
-use Rattle.root.proofs.Patterns.{no-nan}
-use Rattle.root.proofs.Patterns.{is-nan as Patterns·is-nan}
 use Rattle.roots.specs.declared.Read.{Read}
 use Rattle.roots.specs.declared.Read.the-variants.{Pattern, Bad}
-use Rattle.roots.specs.Text.{digitOf, readDigits, readOf, hexText, valueText, lineOf, badLine, byRead, answerTo, isBad, answers, someBad, lineCount, Put, Answered}
+use Rattle.roots.specs.Text.{digitOf, readDigits, readOf, rootText, byRead, answerTo, isBad, answers, someBad, lineCount, Put, Answered}
 
 -- ---- reading: the digits of s from the i-th on
 pub digits-on : (s : List ℕ) (i b : ℕ) → length s ≡ 17 → i < 16 → digitOf (getD s i 0) < 16
@@ -91,67 +93,42 @@ all-put old at text new i h p =
     let e : i ≡ length text = omega (arith, p .few) in
     record { next-is = rw e; text-is = p .text-is ∙ ap (λ (l : List ℕ). take at old ++ l) (take-all i text h) }
 
--- one text and then another
-pub then-put : {a b c : List ℕ} {at p q : ℕ} {t u : List ℕ} → Put a at t b p → Put b p u c q → Put a at (t ++ u) c q
-then-put {a} {b} {c} {at} {p} {q} {t} {u} x y = record {
-  next-is = omega (arith, x .next-is, y .next-is, length-append t u);
-  text-is = y .text-is ∙ ap (λ (l : List ℕ). l ++ u) (x .text-is) ∙ append-assoc (take at a) t u;
-}
-
 -- ---- lengths
-digits-length : (k n : ℕ) → length (digits 16 k n) ≡ k
-digits-length zero n = refl
-digits-length (suc k) n = length-append (digits 16 k (n / 16)) _ ∙ ap (λ (x : ℕ). x + 1) (digits-length k (n / 16)) ∙ add-one k
+pub hex-length : (k n : ℕ) → length (hexIn k n) ≡ k
+unfolding hexIn
+hex-length zero n = refl
+hex-length (suc k) n = length-append (hexIn k (n / 16)) (hexDigit (n % 16) ∷ []) ∙ ap (λ (x : ℕ). x + 1) (hex-length k (n / 16)) ∙ add-one k
 
-pub hex-length : (n : ℕ) → length (hexText n) ≡ 16
-unfolding hexText
-hex-length n = digits-length 16 n
-
-pub value-length : (x : Float) → length (valueText x) ≤ 16
-unfolding valueText
-value-length x = go (isNan x) (hexText (toBits binary64 x)) (hex-length (toBits binary64 x))
+value-length : (x : Float) → length (floatText x) ≤ 16
+unfolding floatText
+value-length x = go (isNan x) (hexIn 16 (toBits binary64 x)) (hex-length 16 (toBits binary64 x))
   where
     go : (b : Bool) (l : List ℕ) → length l ≡ 16 → length (cond b (110 ∷ 97 ∷ 110 ∷ []) l) ≤ 16
     go true l h = omega arith
     go false l h = omega arith
 
-line-length : (b : ℕ) → length (lineOf b) ≤ 34
-unfolding lineOf
-line-length b = go (hexText b) (valueText (rootOf (ofBits binary64 b))) (hex-length b) (value-length (rootOf (ofBits binary64 b)))
-  where
-    go : (h v : List ℕ) → length h ≡ 16 → length v ≤ 16 → length (h ++ (32 ∷ []) ++ v ++ (10 ∷ [])) ≤ 34
-    go h v p q = simp length-append (omega arith)
+pub line-length : (b : ℕ) → length (rootText b) ≤ 34
+unfolding rootText
+line-length b = simp length-append (omega (arith, hex-length 16 b, value-length (rootOf (ofBits binary64 b))))
 
 pub answer-length : (s : List ℕ) → length (answerTo s) ≤ 34
 unfolding answerTo
 answer-length s = go (readOf s)
   where
-    go : (r : Read) → length (byRead r lineOf badLine) ≤ 34
+    go : (r : Read) → length (byRead r rootText (ascii "bad line\n")) ≤ 34
     go (Pattern b) = line-length b
     go Bad = omega arith
 
--- ---- what `io::hex` answers at 16 digits
-sixteen : (b k : ℕ) → b < 2 ^ 64 → Fewest 16 16 b k → k ≡ 16
-sixteen b k h f = le-antisymm (le-of-suc-le-suc (lt-of-not-le (λ (g : 17 ≤ k). far (pow-le-pow-right {n = 16} (omega arith) {i = 16} {j = k - 1} (omega arith)) (f .2 g)))) (f .0)
-  where
-    far : 16 ^ 16 ≤ 16 ^ (k - 1) → 16 ^ (k - 1) ≤ b → ⊥
-    far p q = omega arith
+-- the line for a pattern holds its text whole
+line-fits : (s : List ℕ) → lineOf s .n ≤ length (lineOf s .text)
+unfolding lineOf
+line-fits s = simp (length-append, length-take, length-replicate) (omega arith)
 
-pub hex-is : (b k : ℕ) (out : List ℕ) → b < 2 ^ 64 → Fewest 16 16 b k → take k out ≡ digits 16 k b → take k out ≡ hexText b
-unfolding hexText
-hex-is b k out h f e = e ∙ ap (λ (j : ℕ). digits 16 j b) (sixteen b k h f)
+pub root-fits : (b : ℕ) (l : Line) → l ≡ lineOf (rootText b) → l .n ≤ length (l .text)
+root-fits b l e = rw e (line-fits (rootText b))
 
-pub value-nan : (x : Float) → ne x x ≡ true → valueText x ≡ 110 ∷ 97 ∷ 110 ∷ []
-unfolding valueText isNan
-value-nan x d = rw (Patterns·is-nan x d)
-
-pub value-number : (x : Float) → ne x x ≡ false → valueText x ≡ hexText (toBits binary64 x)
-unfolding valueText
-value-number x d = go (isNan x) (no-nan x d)
-  where
-    go : (b : Bool) → T (not b) → cond b (110 ∷ 97 ∷ 110 ∷ []) (hexText (toBits binary64 x)) ≡ hexText (toBits binary64 x)
-    go true t = absurd t
-    go false t = refl
+pub root-shown : (b : ℕ) (l : Line) → l ≡ lineOf (rootText b) → take (l .n) (l .text) ≡ rootText b
+root-shown b l e = ap (λ (x : Line). take (x .n) (x .text)) e ∙ line-text (rootText b) (omega (arith, line-length b))
 
 -- ---- the lines of s, from the byte `at` on
 pub record Answering (s old new : List ℕ) (at n : ℕ) : Type 0 where

@@ -5,9 +5,10 @@ use mathlib.Core.Bool.{Bool, true, false, cond}
 use mathlib.Core.List.{List, [], _∷_, _++_}
 use lib.Dec.{leb, ltb, eqb}
 use lib.ListN.{length, take, drop, getD}
-use lib.Ieee.{Float, binary64, ofBits, toBits, isNan}
+use lib.Ieee.{binary64, ofBits}
 use Rattle.io.specs.Counts.{Counts}
-use Rattle.io.specs.Digits.{digits}
+use Rattle.text.specs.Ascii.{ascii}
+use Rattle.text.specs.Number.{hexIn, floatText}
 use Rattle.fmath.specs.Root.{rootOf}
 use Rattle.roots.specs.declared.Read.{Read}
 use Rattle.roots.specs.declared.Read.the-variants.{Pattern, Bad}
@@ -31,23 +32,9 @@ readOf s = cond (eqb (length s) 17) (cond (eqb (getD s 16 0) 10) (readDigits 0 (
 
 -- ---- writing
 
--- the 16 hexadecimal digits of n, in lower case
-unfoldable pub hexText : ℕ → List ℕ
-hexText n = digits 16 16 n
-
--- a value: `nan`, or the digits of its pattern
-unfoldable pub valueText : Float → List ℕ
-unfolding hexText
-valueText x = cond (isNan x) (110 ∷ 97 ∷ 110 ∷ []) (hexText (toBits binary64 x))
-
 -- the line for the pattern b: b, a space, the root, a newline
-unfoldable pub lineOf : ℕ → List ℕ
-unfolding hexText valueText
-lineOf b = hexText b ++ (32 ∷ []) ++ valueText (rootOf (ofBits binary64 b)) ++ (10 ∷ [])
-
--- `bad line` and a newline
-abbrev pub badLine : List ℕ
-badLine = 98 ∷ 97 ∷ 100 ∷ 32 ∷ 108 ∷ 105 ∷ 110 ∷ 101 ∷ 10 ∷ []
+unfoldable pub rootText : ℕ → List ℕ
+rootText b = hexIn 16 b ++ ascii " " ++ floatText (rootOf (ofBits binary64 b)) ++ ascii "\n"
 
 -- ---- the whole
 
@@ -57,8 +44,8 @@ byRead Bad f a = a
 
 -- the answer to one line
 unfoldable pub answerTo : List ℕ → List ℕ
-unfolding readOf lineOf
-answerTo s = byRead (readOf s) lineOf badLine
+unfolding readOf rootText
+answerTo s = byRead (readOf s) rootText (ascii "bad line\n")
 
 unfoldable pub isBad : List ℕ → Bool
 unfolding readOf

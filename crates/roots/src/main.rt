@@ -2,10 +2,17 @@
 // its square root: the pattern, a space, the pattern of `fmath::sqrt`'s result (`nan` for every NaN), a newline.
 // At a line that is no such text it writes `bad line` and stops.
 ghost use mathlib.Core.Path.{_≡_};
-ghost use Prim.Native.Nat.{_+_, _*_, _≤_, min};
-ghost use lib.ListN.{length};
+ghost use Prim.Native.Nat.{_+_, _*_, _≤_};
+ghost use lib.ListN.{length, take};
 ghost use lib.Ieee.{binary64, ofBits};
-ghost use Rattle.roots.specs.Text.{digitOf, readOf, hexText, valueText, lineOf, answerTo, isBad, lineCount, Put, Answered};
+ghost use Rattle.text.specs.Line.{lineOf, pushOf};
+ghost use Rattle.text.specs.Number.{hexIn};
+ghost use Rattle.roots.specs.Text.{digitOf, readOf, rootText, answerTo, isBad, lineCount, Put, Answered};
+use lictor_core::num::least;
+use text::Line;
+use text::empty;
+use text::push;
+use text::push_float;
 
 // ---- reading
 
@@ -66,8 +73,27 @@ fn double(b: u64) -> f64
     f64::from_bits(b)
 }
 
-// ---- writing: each puts a text at a place of out, and answers the place behind it
+// ---- writing
 
+// The 16 hexadecimal digits of a pattern behind a line.
+fn push_hex(l: Line, b: u64) -> Line
+    ensures { λ r. ⌜ r ≡ pushOf l (hexIn 16 b) ⌝ }
+{
+    let mut digits = [0u8; 16];
+    let k = io::hex(b, 16, &mut digits);
+    push(l, &digits[..k])
+}
+
+// The line for a pattern.
+fn root_line(b: u64) -> Line
+    ensures { λ r. ⌜ r ≡ lineOf (rootText b) ⌝ }
+{
+    let root = fmath::sqrt(double(b));
+    let l = push(push_hex(empty(), b), b" ");
+    push(push_float(l, root), b"\n")
+}
+
+// Puts a text at a place of out, and answers the place behind it.
 fn put(out: &mut [u8], at: usize, text: &[u8]) -> usize
     requires { ⌜ at + length (now text) ≤ length (now out) ⌝ }
     ensures { λ r. ⌜ Put (now (out .entry)) at (now (text .entry)) (now (out .exit)) r ⌝ }
@@ -80,34 +106,15 @@ fn put(out: &mut [u8], at: usize, text: &[u8]) -> usize
     at + i
 }
 
-fn put_hex(out: &mut [u8], at: usize, b: u64) -> usize
-    requires { ⌜ at + 16 ≤ length (now out) ⌝ }
-    ensures { λ r. ⌜ Put (now (out .entry)) at (hexText b) (now (out .exit)) r ⌝ }
-{
-    let mut text = [0u8; 16];
-    let k = io::hex(b, 16, &mut text);
-    put(out, at, &text[..k])
-}
-
-fn put_value(out: &mut [u8], at: usize, x: f64) -> usize
-    requires { ⌜ at + 16 ≤ length (now out) ⌝ }
-    ensures { λ r. ⌜ Put (now (out .entry)) at (valueText x) (now (out .exit)) r ⌝ }
-{
-    if x != x {
-        return put(out, at, b"nan");
-    }
-    put_hex(out, at, f64::to_bits(x))
-}
-
-fn put_line(out: &mut [u8], at: usize, b: u64) -> usize
+// Puts the line for a pattern.
+fn put_root(out: &mut [u8], at: usize, b: u64) -> usize
     requires { ⌜ at + 34 ≤ length (now out) ⌝ }
-    ensures { λ r. ⌜ Put (now (out .entry)) at (lineOf b) (now (out .exit)) r ⌝ }
+    ensures { λ r. ⌜ Put (now (out .entry)) at (rootText b) (now (out .exit)) r ⌝ }
 {
-    let root = fmath::sqrt(double(b));
-    let i = put_hex(out, at, b);
-    let j = put(out, i, b" ");
-    let k = put_value(out, j, root);
-    put(out, k, b"\n")
+    let l = root_line(b);
+    let text = l.text;
+    let n = l.n;
+    put(out, at, &text[..n])
 }
 
 // ---- lines
@@ -123,7 +130,7 @@ fn answer_line(s: &[u8], out: &mut [u8], at: usize) -> Done
 {
     match read_line(s) {
         Read::Pattern(b) => Done {
-            n: put_line(out, at, b),
+            n: put_root(out, at, b),
             bad: false,
         },
         Read::Bad => Done {
@@ -131,12 +138,6 @@ fn answer_line(s: &[u8], out: &mut [u8], at: usize) -> Done
             bad: true,
         },
     }
-}
-
-fn least(a: usize, b: usize) -> usize
-    ensures { λ r. ⌜ r ≡ min a b ⌝ }
-{
-    if a < b { a } else { b }
 }
 
 // Answers the lines of s, up to the first that is bad, at the start of out.

@@ -3,41 +3,60 @@ use Prim.Native.Nat.{ℕ}
 use mathlib.Core.List.{List, [], _∷_, _++_}
 use lib.ListN.{getD}
 use Rattle.text.specs.Ascii.{ascii}
-use Rattle.text.specs.Number.{decimalOf}
+use Rattle.text.specs.Number.{decimalOf, floatText}
 use Rattle.text.specs.Commas.{numbersText, floatsText}
+use Rattle.lictor_core.specs.Codes.{statusCode, sourceCode}
 use Rattle.lictor_core.specs.declared.verdict.SafetyVerdict.{SafetyVerdict}
 use Rattle.lictor_core.specs.declared.fuse.Control.{Control}
 use Rattle.lictor_core.specs.declared.fuse.Motion.{Motion}
 use Rattle.lictor_core.specs.declared.fuse.Clock.{Clock}
 use Rattle.lictor_core.specs.declared.fuse.FuseRt.{FuseRt}
-use Rattle.trace_rows.specs.Row.{flagText, stateText, row}
-use Rattle.trace_verdict.specs.Lines.{verdictLines}
-use Rattle.trace_tally.specs.Lines.{tallyLines}
+use Rattle.lictor_core.specs.declared.tally.Tally.{Tally}
+use Rattle.trace_rows.specs.Row.{flagText, stateText, reasonText, handoffText, markText, reasonMarkText, nameOf, row}
 
--- ---- the run state
+-- ---- the lines
 
-unfoldable pub clockLines : Clock → Control → List (List ℕ)
-clockLines k c =
+unfoldable pub verdictLines : SafetyVerdict → List (List ℕ)
+verdictLines v =
+    row (ascii "v.seq=") (decimalOf (v .seq))
+    ∷ row (ascii "v.t=") (decimalOf (v .t))
+    ∷ row (ascii "v.status=") (decimalOf (statusCode (v .status)))
+    ∷ row (ascii "v.state=") (stateText (v .state))
+    ∷ row (ascii "v.prev_state=") (stateText (v .«prev_state»))
+    ∷ row (ascii "v.trips=") (decimalOf (v .trips))
+    ∷ row (ascii "v.action=") (floatsText (v .action))
+    ∷ row (ascii "v.action_dim=") (decimalOf (v .«action_dim»))
+    ∷ row (ascii "v.action_src=") (decimalOf (sourceCode (v .«action_src»)))
+    ∷ row (ascii "v.substituted=") (flagText (v .substituted))
+    ∷ row (ascii "v.clamped_dims=") (decimalOf (v .«clamped_dims»))
+    ∷ row (ascii "v.z=") (floatsText (v .scores .z))
+    ∷ row (ascii "v.s=") (floatText (v .scores .s))
+    ∷ row (ascii "v.valid=") (decimalOf (v .scores .valid))
+    ∷ row (ascii "v.fired=") (decimalOf (v .scores .fired))
+    ∷ row (ascii "v.tau=") (floatText (v .tau))
+    ∷ row (ascii "v.window=") (decimalOf (v .window))
+    ∷ row (ascii "v.window_hits=") (decimalOf (v .«window_hits»))
+    ∷ row (ascii "v.brake_margin=") (floatText (v .«brake_margin»))
+    ∷ row (ascii "v.reason=") (reasonText (v .reason))
+    ∷ row (ascii "v.handoff_seq=") (handoffText (v .«handoff_seq»))
+    ∷ row (ascii "v.ack_consumed=") (flagText (v .«ack_consumed»))
+    ∷ row (ascii "v.violation_reached_env=") (flagText (v .«violation_reached_env»))
+    ∷ []
+
+unfoldable pub runLines : Control → Motion → Clock → List (List ℕ)
+runLines c m k =
     row (ascii "rt.filled=") (flagText (k .filled))
     ∷ row (ascii "rt.window=") (decimalOf (c .window .bits))
     ∷ row (ascii "rt.state=") (stateText (c .state))
     ∷ row (ascii "rt.seq=") (decimalOf (k .seq))
     ∷ row (ascii "rt.last_t=") (decimalOf (k .«last_t»))
     ∷ row (ascii "rt.next_chunk_seq=") (decimalOf (k .«next_chunk_seq»))
-    ∷ []
-
-unfoldable pub motionLines : Motion → List (List ℕ)
-motionLines m =
-    row (ascii "rt.pos=") (floatsText (m .pos))
+    ∷ row (ascii "rt.pos=") (floatsText (m .pos))
     ∷ row (ascii "rt.prev_pos=") (floatsText (m .«prev_pos»))
     ∷ row (ascii "rt.vel=") (floatsText (m .vel))
     ∷ row (ascii "rt.have_prev_pos=") (flagText (m .«have_prev_pos»))
     ∷ row (ascii "rt.last_cmd=") (floatsText (m .«last_cmd»))
-    ∷ []
-
-unfoldable pub controlLines : Control → List (List ℕ)
-controlLines c =
-    row (ascii "rt.hold=") (floatsText (c .hold))
+    ∷ row (ascii "rt.hold=") (floatsText (c .hold))
     ∷ row (ascii "rt.clean_run=") (decimalOf (c .«clean_run»))
     ∷ row (ascii "rt.clamp_streak=") (decimalOf (c .«clamp_streak»))
     ∷ row (ascii "rt.clamps=") (decimalOf (c .clamps))
@@ -45,11 +64,7 @@ controlLines c =
     ∷ row (ascii "rt.stopped_ticks=") (decimalOf (c .«stopped_ticks»))
     ∷ row (ascii "rt.held_ticks=") (decimalOf (c .«held_ticks»))
     ∷ row (ascii "rt.held_clean=") (decimalOf (c .«held_clean»))
-    ∷ []
-
-unfoldable pub handoffLines : Control → Clock → List (List ℕ)
-handoffLines c k =
-    row (ascii "rt.escalated_ticks=") (decimalOf (c .«escalated_ticks»))
+    ∷ row (ascii "rt.escalated_ticks=") (decimalOf (c .«escalated_ticks»))
     ∷ row (ascii "rt.rearms=") (decimalOf (c .rearms))
     ∷ row (ascii "rt.handoff_seq=") (decimalOf (c .«handoff_seq»))
     ∷ row (ascii "rt.handoff_pending=") (flagText (c .«handoff_pending»))
@@ -57,10 +72,35 @@ handoffLines c k =
     ∷ row (ascii "rt.last_nonce=") (numbersText (c .«last_nonce»))
     ∷ []
 
-unfoldable pub runLines : Control → Motion → Clock → List (List ℕ)
-runLines c m k = clockLines k c ++ motionLines m ++ controlLines c ++ handoffLines c k
-
--- ---- the whole
+unfoldable pub tallyLines : Tally → List (List ℕ)
+tallyLines t =
+    row (ascii "tally.ticks=") (decimalOf (t .ticks))
+    ∷ row (ascii "tally.nominal=") (decimalOf (t .nominal))
+    ∷ row (ascii "tally.watching=") (decimalOf (t .watching))
+    ∷ row (ascii "tally.clamped=") (decimalOf (t .clamped))
+    ∷ row (ascii "tally.braking=") (decimalOf (t .braking))
+    ∷ row (ascii "tally.held=") (decimalOf (t .held))
+    ∷ row (ascii "tally.escalated=") (decimalOf (t .escalated))
+    ∷ row (ascii "tally.fault=") (decimalOf (t .fault))
+    ∷ row (ascii "tally.terminated=") (decimalOf (t .terminated))
+    ∷ row (ascii "tally.substituted=") (decimalOf (t .substituted))
+    ∷ row (ascii "tally.chunks_seen=") (decimalOf (t .«chunks_seen»))
+    ∷ row (ascii "tally.chunks_rejected=") (decimalOf (t .«chunks_rejected»))
+    ∷ row (ascii "tally.clamps=") (decimalOf (t .clamps))
+    ∷ row (ascii "tally.holds=") (decimalOf (t .holds))
+    ∷ row (ascii "tally.rearms=") (decimalOf (t .rearms))
+    ∷ row (ascii "tally.escalations=") (decimalOf (t .escalations))
+    ∷ row (ascii "tally.trips_by_bit=") (numbersText (t .«trips_by_bit»))
+    ∷ row (ascii "tally.fired_by_feat=") (numbersText (t .«fired_by_feat»))
+    ∷ row (ascii "tally.first_trip_tick=") (markText (t .«first_trip_tick»))
+    ∷ row (ascii "tally.first_trip_reason=") (reasonMarkText (t .«first_trip_reason»))
+    ∷ row (ascii "tally.first_stop_tick=") (markText (t .«first_stop_tick»))
+    ∷ row (ascii "tally.handoff_tick=") (markText (t .«handoff_tick»))
+    ∷ row (ascii "tally.violations_reached_env=") (decimalOf (t .«violations_reached_env»))
+    ∷ row (ascii "tally.max_s=") (floatText (t .«max_s»))
+    ∷ row (ascii "tally.max_z=") (floatsText (t .«max_z»))
+    ∷ row (ascii "tally.terminal_state=") (stateText (t .«terminal_state»))
+    ∷ []
 
 unfoldable pub traceLines : SafetyVerdict → FuseRt → List (List ℕ)
 traceLines v rt = verdictLines v ++ runLines (rt .control) (rt .motion) (rt .clock) ++ tallyLines (rt .tally)
@@ -68,3 +108,14 @@ traceLines v rt = verdictLines v ++ runLines (rt .control) (rt .motion) (rt .clo
 -- line k, none from the last on
 unfoldable pub traceText : ℕ → SafetyVerdict → FuseRt → List ℕ
 traceText k v rt = getD (traceLines v rt) k []
+
+-- ---- the names alone, as the code has them: that of line k, with its `=`
+
+unfoldable pub verdictName : ℕ → List ℕ
+verdictName = nameOf (ascii "v.") (ascii "seq t status state prev_state trips action action_dim action_src substituted clamped_dims z s valid fired tau window window_hits brake_margin reason handoff_seq ack_consumed violation_reached_env")
+
+unfoldable pub runName : ℕ → List ℕ
+runName = nameOf (ascii "rt.") (ascii "filled window state seq last_t next_chunk_seq pos prev_pos vel have_prev_pos last_cmd hold clean_run clamp_streak clamps brake_ticks stopped_ticks held_ticks held_clean escalated_ticks rearms handoff_seq handoff_pending chunk_ok_this_tick last_nonce")
+
+unfoldable pub tallyName : ℕ → List ℕ
+tallyName = nameOf (ascii "tally.") (ascii "ticks nominal watching clamped braking held escalated fault terminated substituted chunks_seen chunks_rejected clamps holds rearms escalations trips_by_bit fired_by_feat first_trip_tick first_trip_reason first_stop_tick handoff_tick violations_reached_env max_s max_z terminal_state")

@@ -1,11 +1,15 @@
-// A line of the trace by its name (with the `=`) and a value, for each kind of value.
+// A line of the trace: its name, a word of a list of names, and its value.
+ghost use mathlib.Core.Bool.{cond};
 ghost use mathlib.Core.Path.{_≡_};
-ghost use Rattle.text.specs.Ascii.{ascii};
-ghost use Rattle.text.specs.Line.{lineOf};
-ghost use Rattle.text.specs.Number.{decimalOf, floatText};
+ghost use Prim.Native.Nat.{_-_, _≤_, _<_};
+ghost use lib.Dec.{eqb};
+ghost use lib.ListN.{length, take, drop};
+ghost use Rattle.text.specs.Line.{lineOf, pushOf};
 ghost use Rattle.text.specs.Commas.{numbersText, floatsText};
 ghost use Rattle.lictor_core.specs.Codes.{statusCode, sourceCode};
-ghost use Rattle.trace_rows.specs.Row.{row, flagText, stateText, reasonText, handoffText, markText, reasonMarkText};
+ghost use Rattle.trace_rows.specs.Words.{behindBlanks, upToBlank};
+ghost use Rattle.trace_rows.specs.Row.{nameOf, ended, valueText, flagValue, stateValue, reasonValue, handoffValue, markValue, reasonMarkValue};
+ghost use Rattle.trace_rows.specs.declared.Value.the-variants.{Number, Float};
 use lictor_core::reason::ReasonCode;
 use lictor_core::reason::reason_code;
 use lictor_core::state::FuseState;
@@ -26,113 +30,185 @@ use text::push_floats;
 use text::push_number;
 use text::push_numbers;
 
-pub fn number(name: &[u8], x: u64) -> Line
-    ensures { λ r. ⌜ r ≡ lineOf (row (now (name .entry)) (decimalOf x)) ⌝ }
+// ---- the name
+
+// How many blanks are left to pass behind the byte c.
+fn left_after(left: usize, c: u8) -> usize
+    requires { ⌜ 0 < left ⌝ }
+    ensures { λ r. ⌜ r ≡ cond (eqb c 32) (left - 1) left ⌝ }
 {
-    push(push_number(push(empty(), name), x), b"\n")
+    if c == b' ' { left - 1 } else { left }
 }
 
-pub fn number32(name: &[u8], x: u32) -> Line
-    ensures { λ r. ⌜ r ≡ lineOf (row (now (name .entry)) (decimalOf x)) ⌝ }
+// The place behind the first k blanks; the end, where there are fewer.
+fn word_start(words: &[u8], k: usize) -> usize
+    ensures { λ r. ⌜ (r ≤ length (now (words .entry))) × (drop r (now (words .entry)) ≡ behindBlanks k (now (words .entry))) ⌝ }
 {
-    number(name, x as u64)
+    let mut left = k;
+    let mut at: usize = 0;
+    while at < words.len() {
+        if left == 0 {
+            return at;
+        }
+        left = left_after(left, words[at]);
+        at += 1;
+    }
+    at
 }
 
-pub fn number16(name: &[u8], x: u16) -> Line
-    ensures { λ r. ⌜ r ≡ lineOf (row (now (name .entry)) (decimalOf x)) ⌝ }
+// The place of the first blank from `at` on; the end, where there is none.
+fn word_end(words: &[u8], at: usize) -> usize
+    requires { ⌜ at ≤ length (now words) ⌝ }
+    ensures { λ r. ⌜ (at ≤ r) × (r ≤ length (now (words .entry))) × (take (r - at) (drop at (now (words .entry))) ≡ upToBlank (drop at (now (words .entry)))) ⌝ }
 {
-    number(name, x as u64)
+    let mut e = at;
+    while e < words.len() {
+        if words[e] == b' ' {
+            return e;
+        }
+        e += 1;
+    }
+    e
 }
 
-pub fn number8(name: &[u8], x: u8) -> Line
-    ensures { λ r. ⌜ r ≡ lineOf (row (now (name .entry)) (decimalOf x)) ⌝ }
+// The name of line k of a group: the group's name, the word k (the first is 0), an equals sign.
+pub fn name(group: &[u8], words: &[u8], k: usize) -> Line
+    ensures { λ r. ⌜ r ≡ lineOf (nameOf (now (group .entry)) (now (words .entry)) k) ⌝ }
 {
-    number(name, x as u64)
+    let a = word_start(words, k);
+    let e = word_end(words, a);
+    push(push(push(empty(), group), &words[a..e]), b"=")
 }
 
-pub fn flag(name: &[u8], b: bool) -> Line
-    ensures { λ r. ⌜ r ≡ lineOf (row (now (name .entry)) (flagText b)) ⌝ }
-{
-    if b { number(name, 1) } else { number(name, 0) }
+// ---- the value
+
+// A value that is no list.
+pub enum Value {
+    Absent,
+    Number(u64),
+    Float(f64),
 }
 
-pub fn state(name: &[u8], s: FuseState) -> Line
-    ensures { λ r. ⌜ r ≡ lineOf (row (now (name .entry)) (stateText s)) ⌝ }
+pub fn number(x: u64) -> Value
+    ensures { λ r. ⌜ r ≡ Number x ⌝ }
 {
-    number8(name, state_code(s))
+    Value::Number(x)
 }
 
-pub fn status(name: &[u8], s: Status) -> Line
-    ensures { λ r. ⌜ r ≡ lineOf (row (now (name .entry)) (decimalOf (statusCode s))) ⌝ }
+pub fn number32(x: u32) -> Value
+    ensures { λ r. ⌜ r ≡ Number x ⌝ }
 {
-    number8(name, status_code(s))
+    number(x as u64)
 }
 
-pub fn reason(name: &[u8], w: ReasonCode) -> Line
-    ensures { λ r. ⌜ r ≡ lineOf (row (now (name .entry)) (reasonText w)) ⌝ }
+pub fn number16(x: u16) -> Value
+    ensures { λ r. ⌜ r ≡ Number x ⌝ }
 {
-    number8(name, reason_code(w))
+    number(x as u64)
 }
 
-pub fn source(name: &[u8], s: ActionSource) -> Line
-    ensures { λ r. ⌜ r ≡ lineOf (row (now (name .entry)) (decimalOf (sourceCode s))) ⌝ }
+pub fn number8(x: u8) -> Value
+    ensures { λ r. ⌜ r ≡ Number x ⌝ }
 {
-    number8(name, source_code(s))
+    number(x as u64)
 }
 
-pub fn float(name: &[u8], x: f64) -> Line
-    ensures { λ r. ⌜ r ≡ lineOf (row (now (name .entry)) (floatText x)) ⌝ }
+pub fn flag(b: bool) -> Value
+    ensures { λ r. ⌜ r ≡ flagValue b ⌝ }
 {
-    push(push_float(push(empty(), name), x), b"\n")
+    if b { number(1) } else { number(0) }
 }
 
-pub fn floats(name: &[u8], xs: &[f64]) -> Line
-    ensures { λ r. ⌜ r ≡ lineOf (row (now (name .entry)) (floatsText (now (xs .entry)))) ⌝ }
+pub fn state(s: FuseState) -> Value
+    ensures { λ r. ⌜ r ≡ stateValue s ⌝ }
 {
-    push(push_floats(push(empty(), name), xs), b"\n")
+    number8(state_code(s))
 }
 
-pub fn none(name: &[u8]) -> Line
-    ensures { λ r. ⌜ r ≡ lineOf (row (now (name .entry)) (ascii "none")) ⌝ }
+pub fn status(s: Status) -> Value
+    ensures { λ r. ⌜ r ≡ Number (statusCode s) ⌝ }
 {
-    push(push(push(empty(), name), b"none"), b"\n")
+    number8(status_code(s))
 }
 
-pub fn handoff(name: &[u8], h: MaybeHandoff) -> Line
-    ensures { λ r. ⌜ r ≡ lineOf (row (now (name .entry)) (handoffText h)) ⌝ }
+pub fn reason(w: ReasonCode) -> Value
+    ensures { λ r. ⌜ r ≡ reasonValue w ⌝ }
+{
+    number8(reason_code(w))
+}
+
+pub fn source(s: ActionSource) -> Value
+    ensures { λ r. ⌜ r ≡ Number (sourceCode s) ⌝ }
+{
+    number8(source_code(s))
+}
+
+pub fn float(x: f64) -> Value
+    ensures { λ r. ⌜ r ≡ Float x ⌝ }
+{
+    Value::Float(x)
+}
+
+pub fn handoff(h: MaybeHandoff) -> Value
+    ensures { λ r. ⌜ r ≡ handoffValue h ⌝ }
 {
     match h {
-        MaybeHandoff::NoHandoff => none(name),
-        MaybeHandoff::Begun(n) => number32(name, n),
+        MaybeHandoff::NoHandoff => Value::Absent,
+        MaybeHandoff::Begun(n) => number32(n),
     }
 }
 
-pub fn counts(name: &[u8], xs: &[u32]) -> Line
-    ensures { λ r. ⌜ r ≡ lineOf (row (now (name .entry)) (numbersText (now (xs .entry)))) ⌝ }
-{
-    push(push_counts(push(empty(), name), xs), b"\n")
-}
-
-pub fn numbers(name: &[u8], xs: &[u64]) -> Line
-    ensures { λ r. ⌜ r ≡ lineOf (row (now (name .entry)) (numbersText (now (xs .entry)))) ⌝ }
-{
-    push(push_numbers(push(empty(), name), xs), b"\n")
-}
-
-pub fn mark(name: &[u8], m: Mark) -> Line
-    ensures { λ r. ⌜ r ≡ lineOf (row (now (name .entry)) (markText m)) ⌝ }
+pub fn mark(m: Mark) -> Value
+    ensures { λ r. ⌜ r ≡ markValue m ⌝ }
 {
     match m {
-        Mark::Never => none(name),
-        Mark::At(t) => number32(name, t),
+        Mark::Never => Value::Absent,
+        Mark::At(t) => number32(t),
     }
 }
 
-pub fn reason_mark(name: &[u8], m: ReasonMark) -> Line
-    ensures { λ r. ⌜ r ≡ lineOf (row (now (name .entry)) (reasonMarkText m)) ⌝ }
+pub fn reason_mark(m: ReasonMark) -> Value
+    ensures { λ r. ⌜ r ≡ reasonMarkValue m ⌝ }
 {
     match m {
-        ReasonMark::NoReason => none(name),
-        ReasonMark::For(w) => reason(name, w),
+        ReasonMark::NoReason => Value::Absent,
+        ReasonMark::For(w) => reason(w),
     }
+}
+
+// ---- the line: a value behind a name, and a newline
+
+fn push_value(l: Line, v: Value) -> Line
+    ensures { λ r. ⌜ r ≡ pushOf l (valueText v) ⌝ }
+{
+    match v {
+        Value::Absent => push(l, b"none"),
+        Value::Number(n) => push_number(l, n),
+        Value::Float(x) => push_float(l, x),
+    }
+}
+
+pub fn with_value(l: Line, v: Value) -> Line
+    ensures { λ r. ⌜ r ≡ pushOf l (ended (valueText v)) ⌝ }
+{
+    push(push_value(l, v), b"\n")
+}
+
+pub fn with_floats(l: Line, xs: &[f64]) -> Line
+    ensures { λ r. ⌜ r ≡ pushOf l (ended (floatsText (now (xs .entry)))) ⌝ }
+{
+    push(push_floats(l, xs), b"\n")
+}
+
+// Numbers of 32 and of 64 bits.
+pub fn with_counts(l: Line, xs: &[u32]) -> Line
+    ensures { λ r. ⌜ r ≡ pushOf l (ended (numbersText (now (xs .entry)))) ⌝ }
+{
+    push(push_counts(l, xs), b"\n")
+}
+
+pub fn with_numbers(l: Line, xs: &[u64]) -> Line
+    ensures { λ r. ⌜ r ≡ pushOf l (ended (numbersText (now (xs .entry)))) ⌝ }
+{
+    push(push_numbers(l, xs), b"\n")
 }

@@ -3,8 +3,11 @@ use borrow.Author.Needs.{needs}
 use Rattle.records.proofs.read_scores.Statement.{statement}
 use Rattle.records.proofs.read_scores.Tie as tie
 
-twelve-requires : tie.Need-twelve-requires
-twelve-requires c κs = search needs
+slice-aggregate-fill : tie.Need-slice-aggregate-fill
+slice-aggregate-fill c = search needs
+
+fill-requires : tie.Need-fill-requires
+fill-requires c κs = search needs
 
 f64-at-requires : tie.Need-f64-at-requires
 f64-at-requires c κs = search needs
@@ -17,8 +20,15 @@ le32-requires-2 c κs = search needs
 
 returns : tie.Need-returns
 unfolding scoresOf
-returns c = rw (c .le322 .ensures, c .before .le32 .ensures, c .before .before .f64-at .ensures, c .before .before .before .twelve .ensures)
+returns c = rw (c .le322 .ensures, c .before .le32 .ensures, c .before .before .f64-at .ensures, c .before .before .before .before .fill .ensures)
 
 pub read-scores-spec : {M : Type 1} → statement M
 read-scores-spec =
-    tie.close (tie.spec twelve-requires f64-at-requires le32-requires le32-requires-2 returns)
+    tie.close
+    (tie.spec
+    slice-aggregate-fill
+    fill-requires
+    f64-at-requires
+    le32-requires
+    le32-requires-2
+    returns)

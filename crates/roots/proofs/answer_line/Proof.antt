@@ -11,8 +11,8 @@ read-line-requires c κs = search needs
 enum-known-b : tie.Need-enum-known-b
 enum-known-b c = search needs
 
-put-line-requires : tie.Need-put-line-requires
-put-line-requires c κs = search needs
+put-root-requires : tie.Need-put-root-requires
+put-root-requires c κs = search needs
 
 enum-told : tie.Need-enum-told
 enum-told c = search needs
@@ -30,7 +30,7 @@ returns : tie.Need-returns
 unfolding answerTo isBad
 returns c =
     let r = sym (c .before .before .before .before .before .before .before .read-line .ensures) ∙ c .before .before .before .before .before .b .given .1 in
-    rw r (c .before .before .put-line .ensures, refl)
+    rw r (c .before .before .put-root .ensures, refl)
 
 same-length-2 : tie.Need-same-length-2
 same-length-2 c = search needs
@@ -47,7 +47,7 @@ answer-line-spec =
     (tie.spec
     read-line-requires
     enum-known-b
-    put-line-requires
+    put-root-requires
     enum-told
     slice-aggregate-put
     put-requires

@@ -1,29 +1,41 @@
+use Rattle.trace_lines.proofs.Parts.{of-verdict, of-run, of-tally, of-none}
 use borrow.Author.Needs.{needs}
-use Rattle.trace_lines.specs.Trace.{traceText, traceLines}
-use Rattle.trace_lines.proofs.Parts.{of-trace}
 use Rattle.trace_lines.proofs.trace_line.Statement.{statement}
 use Rattle.trace_lines.proofs.trace_line.Tie as tie
 
-tally-line-requires : tie.Need-tally-line-requires
-tally-line-requires c κs = search needs
+verdict-line-requires : tie.Need-verdict-line-requires
+verdict-line-requires c κs = search needs
 
 returns : tie.Need-returns
-unfolding traceText traceLines
-returns c = search (needs, of-trace)
+returns c = of-verdict _ _ _ _ (c .before .if1 .taken) (c .verdict-line .ensures)
 
 run-line-requires : tie.Need-run-line-requires
 run-line-requires c κs = search needs
 
 returns-2 : tie.Need-returns-2
-unfolding traceText traceLines
-returns-2 c = search (needs, of-trace)
+returns-2 c = of-run _ _ _ _ (c .before .before .before .before .before .if1 .left) (c .before .before .before .before .if2 .taken) (c .run-line .ensures)
 
-verdict-line-requires : tie.Need-verdict-line-requires
-verdict-line-requires c κs = search needs
+tally-line-requires : tie.Need-tally-line-requires
+tally-line-requires c κs = search needs
 
 returns-3 : tie.Need-returns-3
-unfolding traceText traceLines
-returns-3 c = search (needs, of-trace)
+returns-3 c = of-tally _ _ _ _ (c .before .before .before .if2 .left) (c .tally-line .ensures)
+
+empty-requires : tie.Need-empty-requires
+empty-requires c κs = search needs
+
+returns-4 : tie.Need-returns-4
+returns-4 c = of-none _ _ _ _ (c .before .if3 .left) (c .empty .ensures)
 
 pub trace-line-spec : {M : Type 1} → statement M
-trace-line-spec = tie.close (tie.spec tally-line-requires returns run-line-requires returns-2 verdict-line-requires returns-3)
+trace-line-spec =
+    tie.close
+    (tie.spec
+    verdict-line-requires
+    returns
+    run-line-requires
+    returns-2
+    tally-line-requires
+    returns-3
+    empty-requires
+    returns-4)

@@ -1,0 +1,97 @@
+// The tally.
+ghost use mathlib.Core.Path.{_≡_};
+ghost use mathlib.Core.List.{[]};
+ghost use Prim.Native.Nat.{_≤_, _<_};
+ghost use lib.ListN.{getD};
+ghost use Rattle.text.specs.Line.{lineOf};
+ghost use Rattle.trace_rows.specs.Row.{valueText, row};
+ghost use Rattle.trace_lines.specs.Trace.{tallyName, tallyLines};
+use lictor_core::tally::Tally;
+use text::Line;
+use trace_rows::Value;
+
+fn name_of(k: usize) -> Line
+    ensures { λ r. ⌜ r ≡ lineOf (tallyName k) ⌝ }
+{
+    trace_rows::name(
+        b"tally.",
+        b"ticks nominal watching clamped braking held escalated fault terminated substituted chunks_seen chunks_rejected clamps holds rearms escalations trips_by_bit fired_by_feat first_trip_tick first_trip_reason first_stop_tick handoff_tick violations_reached_env max_s max_z terminal_state",
+        k,
+    )
+}
+
+// ---- values: that of line k, which is no list
+
+fn count_value(k: usize, t: Tally) -> Value
+    requires { ⌜ k < 16 ⌝ }
+    ensures { λ r. ⌜ row (tallyName k) (valueText r) ≡ getD (tallyLines t) k [] ⌝ }
+{
+    match k {
+        0 => trace_rows::number32(t.ticks),
+        1 => trace_rows::number32(t.nominal),
+        2 => trace_rows::number32(t.watching),
+        3 => trace_rows::number32(t.clamped),
+        4 => trace_rows::number32(t.braking),
+        5 => trace_rows::number32(t.held),
+        6 => trace_rows::number32(t.escalated),
+        7 => trace_rows::number32(t.fault),
+        8 => trace_rows::number32(t.terminated),
+        9 => trace_rows::number32(t.substituted),
+        10 => trace_rows::number32(t.chunks_seen),
+        11 => trace_rows::number32(t.chunks_rejected),
+        12 => trace_rows::number32(t.clamps),
+        13 => trace_rows::number32(t.holds),
+        14 => trace_rows::number32(t.rearms),
+        _ => trace_rows::number32(t.escalations),
+    }
+}
+
+fn mark_value(k: usize, t: Tally) -> Value
+    requires { ⌜ (18 ≤ k) × (k < 26) × (k ≡ 24 → ⊥) ⌝ }
+    ensures { λ r. ⌜ row (tallyName k) (valueText r) ≡ getD (tallyLines t) k [] ⌝ }
+{
+    let trip_tick = t.first_trip_tick;
+    let trip_reason = t.first_trip_reason;
+    let stop_tick = t.first_stop_tick;
+    let handoff_tick = t.handoff_tick;
+    let terminal_state = t.terminal_state;
+    match k {
+        18 => trace_rows::mark(trip_tick),
+        19 => trace_rows::reason_mark(trip_reason),
+        20 => trace_rows::mark(stop_tick),
+        21 => trace_rows::mark(handoff_tick),
+        22 => trace_rows::number32(t.violations_reached_env),
+        23 => trace_rows::float(t.max_s),
+        _ => trace_rows::state(terminal_state),
+    }
+}
+
+fn value_of(k: usize, t: Tally) -> Value
+    requires { ⌜ (k < 26) × (k ≡ 16 → ⊥) × (k ≡ 17 → ⊥) × (k ≡ 24 → ⊥) ⌝ }
+    ensures { λ r. ⌜ row (tallyName k) (valueText r) ≡ getD (tallyLines t) k [] ⌝ }
+{
+    if k < 16 {
+        count_value(k, t)
+    } else {
+        mark_value(k, t)
+    }
+}
+
+// ---- the line
+
+// Line k of the tally.
+pub fn tally_line(k: usize, t: Tally) -> Line
+    requires { ⌜ k < 26 ⌝ }
+    ensures { λ r. ⌜ r ≡ lineOf (getD (tallyLines t) k []) ⌝ }
+{
+    let l = name_of(k);
+    let trips = t.trips_by_bit;
+    let fired = t.fired_by_feat;
+    let max_z = t.max_z;
+    match k {
+        16 => trace_rows::with_counts(l, &trips),
+        17 => trace_rows::with_counts(l, &fired),
+        24 => trace_rows::with_floats(l, &max_z),
+        _ => trace_rows::with_value(l, value_of(k, t)),
+    }
+}

@@ -1,0 +1,117 @@
+// The verdict of a tick.
+ghost use mathlib.Core.Path.{_≡_};
+ghost use mathlib.Core.List.{[]};
+ghost use Prim.Native.Nat.{_≤_, _<_};
+ghost use lib.ListN.{getD};
+ghost use Rattle.text.specs.Line.{lineOf};
+ghost use Rattle.trace_rows.specs.Row.{valueText, row};
+ghost use Rattle.trace_lines.specs.Trace.{verdictName, verdictLines};
+use lictor_core::verdict::SafetyVerdict;
+use text::Line;
+use trace_rows::Value;
+
+fn name_of(k: usize) -> Line
+    ensures { λ r. ⌜ r ≡ lineOf (verdictName k) ⌝ }
+{
+    trace_rows::name(
+        b"v.",
+        b"seq t status state prev_state trips action action_dim action_src substituted clamped_dims z s valid fired tau window window_hits brake_margin reason handoff_seq ack_consumed violation_reached_env",
+        k,
+    )
+}
+
+// ---- values: that of line k, which is no list
+
+fn head_value(k: usize, v: SafetyVerdict) -> Value
+    requires { ⌜ k < 6 ⌝ }
+    ensures { λ r. ⌜ row (verdictName k) (valueText r) ≡ getD (verdictLines v) k [] ⌝ }
+{
+    let status = v.status;
+    let state = v.state;
+    let prev_state = v.prev_state;
+    match k {
+        0 => trace_rows::number32(v.seq),
+        1 => trace_rows::number32(v.t),
+        2 => trace_rows::status(status),
+        3 => trace_rows::state(state),
+        4 => trace_rows::state(prev_state),
+        _ => trace_rows::number32(v.trips),
+    }
+}
+
+fn action_value(k: usize, v: SafetyVerdict) -> Value
+    requires { ⌜ (7 ≤ k) × (k < 11) ⌝ }
+    ensures { λ r. ⌜ row (verdictName k) (valueText r) ≡ getD (verdictLines v) k [] ⌝ }
+{
+    let action_src = v.action_src;
+    match k {
+        7 => trace_rows::number16(v.action_dim),
+        8 => trace_rows::source(action_src),
+        9 => trace_rows::flag(v.substituted),
+        _ => trace_rows::number32(v.clamped_dims),
+    }
+}
+
+fn score_value(k: usize, v: SafetyVerdict) -> Value
+    requires { ⌜ (12 ≤ k) × (k < 15) ⌝ }
+    ensures { λ r. ⌜ row (verdictName k) (valueText r) ≡ getD (verdictLines v) k [] ⌝ }
+{
+    let scores = v.scores;
+    match k {
+        12 => trace_rows::float(scores.s),
+        13 => trace_rows::number32(scores.valid),
+        _ => trace_rows::number32(scores.fired),
+    }
+}
+
+fn reason_value(k: usize, v: SafetyVerdict) -> Value
+    requires { ⌜ (15 ≤ k) × (k < 23) ⌝ }
+    ensures { λ r. ⌜ row (verdictName k) (valueText r) ≡ getD (verdictLines v) k [] ⌝ }
+{
+    let reason = v.reason;
+    let handoff_seq = v.handoff_seq;
+    match k {
+        15 => trace_rows::float(v.tau),
+        16 => trace_rows::number(v.window),
+        17 => trace_rows::number8(v.window_hits),
+        18 => trace_rows::float(v.brake_margin),
+        19 => trace_rows::reason(reason),
+        20 => trace_rows::handoff(handoff_seq),
+        21 => trace_rows::flag(v.ack_consumed),
+        _ => trace_rows::flag(v.violation_reached_env),
+    }
+}
+
+fn value_of(k: usize, v: SafetyVerdict) -> Value
+    requires { ⌜ (k < 23) × (k ≡ 6 → ⊥) × (k ≡ 11 → ⊥) ⌝ }
+    ensures { λ r. ⌜ row (verdictName k) (valueText r) ≡ getD (verdictLines v) k [] ⌝ }
+{
+    if k < 6 {
+        return head_value(k, v);
+    }
+    if k < 11 {
+        return action_value(k, v);
+    }
+    if k < 15 {
+        return score_value(k, v);
+    }
+    reason_value(k, v)
+}
+
+// ---- the line
+
+// Line k of the verdict.
+pub fn verdict_line(k: usize, v: SafetyVerdict) -> Line
+    requires { ⌜ k < 23 ⌝ }
+    ensures { λ r. ⌜ r ≡ lineOf (getD (verdictLines v) k []) ⌝ }
+{
+    let l = name_of(k);
+    let action = v.action;
+    let scores = v.scores;
+    let z = scores.z;
+    match k {
+        6 => trace_rows::with_floats(l, &action),
+        11 => trace_rows::with_floats(l, &z),
+        _ => trace_rows::with_value(l, value_of(k, v)),
+    }
+}

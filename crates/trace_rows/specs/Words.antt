@@ -1,0 +1,20 @@
+-- A list of names as one text, with a blank between each two.
+use Prim.Native.Nat.{ℕ, zero, suc}
+use mathlib.Core.Bool.{cond}
+use mathlib.Core.List.{List, [], _∷_}
+use lib.Dec.{eqb}
+
+-- what stands behind the first k blanks
+unfoldable pub behindBlanks : ℕ → List ℕ → List ℕ
+behindBlanks zero s = s
+behindBlanks (suc k) [] = []
+behindBlanks (suc k) (c ∷ s) = cond (eqb c 32) (behindBlanks k s) (behindBlanks (suc k) s)
+
+-- what stands before the first blank
+unfoldable pub upToBlank : List ℕ → List ℕ
+upToBlank [] = []
+upToBlank (c ∷ s) = cond (eqb c 32) [] (c ∷ upToBlank s)
+
+-- word k of the text; the first is 0
+unfoldable pub wordAt : ℕ → List ℕ → List ℕ
+wordAt k s = upToBlank (behindBlanks k s)
