@@ -53,7 +53,7 @@ fn value_of(k: usize, control: Control, motion: Motion, clock: Clock) -> Value
 }
 
 // Line k of the run state.
-pub fn run_line(k: usize, control: Control, motion: Motion, clock: Clock) -> Line
+pub(crate) fn run_line(k: usize, control: Control, motion: Motion, clock: Clock) -> Line
     requires { ⌜ k < 25 ⌝ }
     ensures { λ r. ⌜ r ≡ lineOf (getD (runLines control motion clock) k []) ⌝ }
 {

@@ -80,7 +80,7 @@ fn value_of(k: usize, t: Tally) -> Value
 // ---- the line
 
 // Line k of the tally.
-pub fn tally_line(k: usize, t: Tally) -> Line
+pub(crate) fn tally_line(k: usize, t: Tally) -> Line
     requires { ⌜ k < 26 ⌝ }
     ensures { λ r. ⌜ r ≡ lineOf (getD (tallyLines t) k []) ⌝ }
 {

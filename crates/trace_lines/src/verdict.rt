@@ -101,7 +101,7 @@ fn value_of(k: usize, v: SafetyVerdict) -> Value
 // ---- the line
 
 // Line k of the verdict.
-pub fn verdict_line(k: usize, v: SafetyVerdict) -> Line
+pub(crate) fn verdict_line(k: usize, v: SafetyVerdict) -> Line
     requires { ⌜ k < 23 ⌝ }
     ensures { λ r. ⌜ r ≡ lineOf (getD (verdictLines v) k []) ⌝ }
 {
