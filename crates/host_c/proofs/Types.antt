@@ -10,8 +10,8 @@ use Rattle.host.proofs.Call.{Parts, Tested}
 use Rattle.host.proofs.Data.{Data, struct, vals}
 use Rattle.host.proofs.Lending.{Joined}
 use Rattle.host_c.specs.Call.{answerOf}
-use Rattle.host_layout.proofs.state.RunState as St
-use Rattle.host_layout.proofs.state.RunState.Laws as St′
+use Rattle.host_state.proofs.RunState as St
+use Rattle.host_state.proofs.RunState.Laws as St′
 use Rattle.host_layout.proofs.input.Settings as Se
 use Rattle.host_layout.proofs.input.Settings.Laws as Se′
 use Rattle.host_layout.proofs.input.Input as In

@@ -8,8 +8,8 @@ use Rattle.lictor_settings.specs.Settings.{checkNumber}
 use Rattle.lictor_fuse.specs.declared.tick.Ticked.{Ticked}
 use Rattle.host_c.specs.declared.Answer.{Answer}
 use Rattle.host_c.specs.declared.Called.{Called}
-use Rattle.host_layout.specs.declared.state.RunState.{RunState}
-use Rattle.host_layout.specs.State.{stateIn, stateOut}
+use Rattle.host_state.specs.declared.RunState.{RunState}
+use Rattle.host_state.specs.State.{stateIn, stateOut}
 use Rattle.host_layout.specs.Verdict.{verdictOut}
 
 -- what the fuse gives, as numbers

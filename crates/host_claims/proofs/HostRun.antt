@@ -4,7 +4,7 @@ use mathlib.Core.List.{List, [], _∷_, map}
 use Rattle.lictor_core.specs.Initial.{resetOf}
 use Rattle.lictor_core.specs.declared.fuse.FuseRt.{FuseRt}
 use Rattle.claims.specs.Calls.{answerOf}
-use Rattle.host_layout.specs.State.{stateIn, stateOut}
+use Rattle.host_state.specs.State.{stateIn, stateOut}
 use Rattle.host_c.specs.declared.Called.{Called}
 use Rattle.host_c.specs.Call.{steppedOf, resetRun}
 use Rattle.host_c.proofs.Stored.{tick-on-stored}

@@ -10,9 +10,9 @@ use Rattle.claims.specs.Calls.{Call, answerOf}
 use Rattle.host_layout.specs.declared.input.Settings.{Settings}
 use Rattle.host_layout.specs.declared.input.Input.{Input}
 use Rattle.host_layout.specs.declared.input.Outcome.{Outcome}
-use Rattle.host_layout.specs.declared.state.RunState.{RunState}
+use Rattle.host_state.specs.declared.RunState.{RunState}
 use Rattle.host_layout.specs.Input.{settingsIn, inputIn, outcomeIn}
-use Rattle.host_layout.specs.State.{stateIn}
+use Rattle.host_state.specs.State.{stateIn}
 use Rattle.host_c.specs.declared.Called.{Called}
 use Rattle.host_c.specs.Call.{steppedOf, callOf, resetRun}
 

@@ -1,4 +1,3 @@
 pub mod Flags
 pub mod Input
-pub mod State
 pub mod Verdict

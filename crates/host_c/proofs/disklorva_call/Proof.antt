@@ -9,7 +9,7 @@ use Rattle.host.proofs.Lending.{lending-meets}
 use Rattle.host_layout.specs.declared.input.Input.{Input}
 use Rattle.host_layout.specs.declared.input.Outcome.{Outcome}
 use Rattle.host_layout.specs.declared.input.Settings.{Settings}
-use Rattle.host_layout.specs.declared.state.RunState.{RunState}
+use Rattle.host_state.specs.declared.RunState.{RunState}
 use Rattle.host_c.specs.declared.Answer.{Answer}
 use Rattle.host_c.proofs.Says.{given, Says}
 use Rattle.host_c.proofs.Types.{S, G, I, O, R, Z, parts, joined}

@@ -9,7 +9,7 @@ use Rattle.host.proofs.Call.{Fs, taken-meets}
 use Rattle.host_layout.specs.declared.input.Input.{Input}
 use Rattle.host_layout.specs.declared.input.Outcome.{Outcome}
 use Rattle.host_layout.specs.declared.input.Settings.{Settings}
-use Rattle.host_layout.specs.declared.state.RunState.{RunState}
+use Rattle.host_state.specs.declared.RunState.{RunState}
 use Rattle.host_c.specs.declared.Called.{Called}
 use Rattle.host_c.specs.Call.{steppedOf, answerOf}
 use Rattle.host_c.proofs.Refused.{all-stored, nothing-stored}
