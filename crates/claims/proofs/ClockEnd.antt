@@ -15,7 +15,7 @@ use Rattle.lictor_core.specs.declared.state.FuseState.the-variants.{Fault}
 use Rattle.lictor_core.specs.Masks.{anyOf, nonfinite, schema, watchdog, faultBits}
 use Rattle.lictor_settings.specs.Settings.{configOf}
 use Rattle.lictor_guard.specs.Guard.{clockBad, schemaBad, bitIf, guardOf}
-use Rattle.lictor_stages.specs.Ingest.{faultMotion}
+use Rattle.lictor_ingest.specs.Ingest.{faultMotion}
 use Rattle.lictor_stages.specs.Judge.{faultInput}
 use Rattle.lictor_verdict.specs.Verdict.{faultVerdict}
 use Rattle.lictor_table.specs.declared.FsmInput.{FsmInput}

@@ -8,7 +8,7 @@ use Rattle.lictor_core.specs.Masks as M
 use Rattle.lictor_settings.specs.Settings.{checkOf, configOf}
 use Rattle.lictor_guard.specs.Guard.{deliveredOf, bitIf, guardOf}
 use Rattle.lictor_stages.specs.declared.judge.Findings.{Findings}
-use Rattle.lictor_stages.specs.Ingest.{ingestOf, faultMotion}
+use Rattle.lictor_ingest.specs.Ingest.{ingestOf, faultMotion}
 use Rattle.lictor_stages.specs.Judge.{judgeOf, machineInput, faultInput}
 use Rattle.lictor_table.specs.declared.Turn.{Turn}
 use Rattle.lictor_table.specs.Table.{nextOf}

@@ -7,7 +7,7 @@ use Rattle.lictor_core.specs.Initial.{zeros, emptyTally, freshControl, freshMot
 use Rattle.lictor_core.specs.Masks.{anyOf}
 use Rattle.lictor_core.specs.Rows.{rowTo}
 use Rattle.lictor_settings.specs.Settings.{badCode, badSize, badFloat, anyBelow, crossedOf, badBox, settingsTable, firstRow, checkOf, configOf}
-use Rattle.lictor_detect.specs.Brake.{component, boxedComponent, boxedRow, scaledComponent, scaledRow, boxedAction, scaledAction, eps, brakeFactor, brakeAction, holdAction}
+use Rattle.lictor_brake.specs.Brake.{component, boxedComponent, boxedRow, scaledComponent, scaledRow, boxedAction, scaledAction, eps, brakeFactor, brakeAction, holdAction}
 use Rattle.lictor_detect.specs.Window.{bitOf, pushOf, hitsOf, clearWindow, tripOf}
 use Rattle.lictor_guard.specs.Guard.{deliveredOf, nonFinite, lengthsOf, shapeBad, sizesBad, placeBad, headBad, deliveryBad, clockBad, schemaBad, bitIf, guardOf}
 use Rattle.lictor_table.specs.Consumed.{consumedOf}
@@ -16,9 +16,9 @@ use Rattle.lictor_table.specs.Rows.{faultRow, rearmAck, resumeRow, terminateRow
 use Rattle.lictor_table.specs.Table.{firstOf, table, nextFrom, nextOf}
 use Rattle.lictor_tally.specs.History.{recorded}
 use Rattle.lictor_tally.specs.Tally.{count, bitOf as bitOf·lictor_tally, countBit, eachFrom, countBits, first, firstReason, mostAt, mostLive, recordOf, recordChunk}
-use Rattle.lictor_stages.specs.Ingest.{takenRow, stepRate, ratesRow, stillRow, velocityOf, ingestOf, isFit, withPos, faultMotion}
+use Rattle.lictor_ingest.specs.Ingest.{takenRow, stepRate, ratesRow, stillRow, velocityOf, ingestOf, isFit, withPos, faultMotion}
 use Rattle.lictor_stages.specs.Judge.{withBrake, maskedOf, warnOf, slowOf, standstillOf, chunkOk, scoredOf, judgeOf, machineInput, faultInput}
-use Rattle.lictor_verdict.specs.Act.{statusOf, sourceOf, cutRow, passedOf, insteadOf, enforcedOf, byMode, actOf}
+use Rattle.lictor_act.specs.Act.{statusOf, sourceOf, cutRow, passedOf, insteadOf, enforcedOf, byMode, actOf}
 use Rattle.lictor_verdict.specs.Verdict.{liveValid, scoresOf, disarmedScores, actionDim, enteredOf, handoffOf, hasAck, consumedFlag, verdictOf, faultVerdict, eventsOf, noEvents, rejectedOf}
 use Rattle.lictor_steps.specs.Steps.{readyOf}
 use Rattle.lictor_closing.specs.Clock.{nextChunk, cleanClock, chunkTally, faultClock}
@@ -27,7 +27,7 @@ use Rattle.text.specs.Commas.{behindCommas, commas, numbersText, floatsText}
 use Rattle.text.specs.Line.{lineOf, putOf, pushOf as pushOf·text}
 use Rattle.text.specs.Number.{decimalIn, signedOf, hexIn, floatText}
 use Rattle.report.specs.Lines.{marginText, tickText, stoppedOf, endText, refusedText}
-use Rattle.report.specs.Margin.{nearestWhole, marginOf}
+use Rattle.margin.specs.Margin.{nearestWhole, marginOf}
 use Rattle.bytes_le.specs.Little.{leAt, floatAt, floatsAt}
 use Rattle.records.specs.Body.{limitsOf, calibrationOf, settingsOf, ackOf, headOf, scoresOf as scoresOf·records, outcomeOf, tickOf as tickOf·records, recordOf as recordOf·records}
 use Rattle.records.specs.Kinds.{isKnown, bodyLen}

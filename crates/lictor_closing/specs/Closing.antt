@@ -12,11 +12,11 @@ use Rattle.lictor_core.specs.declared.outcome.Outcome.{Outcome}
 use Rattle.lictor_core.specs.declared.state.FuseState.{FuseState}
 use Rattle.lictor_core.specs.declared.tally.Tally.{Tally}
 use Rattle.lictor_core.specs.declared.verdict.SafetyVerdict.{SafetyVerdict}
-use Rattle.lictor_detect.specs.Brake.{holdAction}
+use Rattle.lictor_brake.specs.Brake.{holdAction}
 use Rattle.lictor_guard.specs.Guard.{deliveredOf}
 use Rattle.lictor_stages.specs.declared.judge.Findings.{Findings}
 use Rattle.lictor_table.specs.declared.Turn.{Turn}
-use Rattle.lictor_verdict.specs.Act.{actOf}
+use Rattle.lictor_act.specs.Act.{actOf}
 use Rattle.lictor_verdict.specs.Verdict.{verdictOf, faultVerdict, eventsOf, noEvents}
 use Rattle.lictor_closing.specs.declared.Closing.{Closing}
 use Rattle.lictor_closing.specs.Clock.{cleanClock, chunkTally, faultClock}

@@ -1,4 +1,3 @@
-// What is ported of the Rust crate lictor-detect: the hit window, the strict trip, and the brake and hold actions.
-pub mod brake; // brake.rs: brake_action, hold_action
+// What is ported of the Rust crate lictor-detect: the hit window and the strict trip. (Its brake and hold actions are in lictor_brake.)
 pub mod conformal; // conformal.rs: trip
 pub mod window; // window.rs: Window

@@ -24,11 +24,11 @@ use Rattle.lictor_core.specs.declared.verdict.Status.the-variants.{Nominal}
 use Rattle.lictor_core.specs.Initial.{zeros}
 use Rattle.lictor_core.specs.Num.{satUp}
 use Rattle.lictor_settings.specs.Settings.{checkOf, checkNumber, configOf}
-use Rattle.lictor_detect.specs.Brake.{holdAction}
+use Rattle.lictor_brake.specs.Brake.{holdAction}
 use Rattle.lictor_guard.specs.Guard.{deliveredOf, guardOf}
-use Rattle.lictor_stages.specs.Ingest.{ingestOf, faultMotion}
+use Rattle.lictor_ingest.specs.Ingest.{ingestOf, faultMotion}
 use Rattle.lictor_stages.specs.Judge.{judgeOf, machineInput, faultInput}
-use Rattle.lictor_verdict.specs.Act.{actOf}
+use Rattle.lictor_act.specs.Act.{actOf}
 use Rattle.lictor_verdict.specs.Verdict.{disarmedScores, verdictOf, faultVerdict, eventsOf, noEvents}
 use Rattle.lictor_stages.specs.declared.judge.Findings.{Findings}
 use Rattle.lictor_table.specs.declared.Turn.{Turn}

@@ -13,7 +13,7 @@ use Rattle.lictor_core.specs.declared.fuse.Window.{Window}
 use Rattle.lictor_core.specs.declared.outcome.Outcome.{Outcome}
 use Rattle.lictor_guard.specs.Guard.{deliveredOf}
 use Rattle.lictor_stages.specs.declared.judge.Findings.{Findings}
-use Rattle.lictor_stages.specs.Ingest.{ingestOf, faultMotion}
+use Rattle.lictor_ingest.specs.Ingest.{ingestOf, faultMotion}
 use Rattle.lictor_stages.specs.Judge.{judgeOf, machineInput, faultInput}
 use Rattle.lictor_table.specs.declared.Turn.{Turn}
 use Rattle.lictor_table.specs.Table.{nextOf}

@@ -25,8 +25,8 @@ use Rattle.lictor_core.specs.Masks as M
 use Rattle.lictor_detect.specs.Window.{hitsOf}
 use Rattle.lictor_table.specs.declared.Turn.{Turn}
 use Rattle.lictor_tally.specs.declared.TickEvents.{TickEvents}
-use Rattle.lictor_verdict.specs.Act.{statusOf}
-use Rattle.lictor_verdict.specs.declared.act.Acted.{Acted}
+use Rattle.lictor_act.specs.Act.{statusOf}
+use Rattle.lictor_act.specs.declared.Acted.{Acted}
 use Rattle.lictor_stages.specs.declared.judge.Findings.{Findings}
 
 -- which features were computed: none without a calibration mask (docs/DECISIONS.md), else the outcome's

@@ -15,8 +15,8 @@ use Rattle.text.specs.Ascii.{ascii}
 use Rattle.text.proofs.Digits.{decimal-20}
 use Rattle.lictor_core.specs.Codes.{stateCode, reasonCode, sourceCode}
 use Rattle.report.specs.Lines.{marginText}
-use Rattle.report.specs.declared.margin.Margin.{Margin}
-use Rattle.report.specs.Margin.{marginOf}
+use Rattle.margin.specs.declared.Margin.{Margin}
+use Rattle.margin.specs.Margin.{marginOf}
 use Rattle.text.proofs.Lines.{line-text}
 use Rattle.report.proofs.Fits.{tick-fits, margin-21}
 use Rattle.trace_lines.specs.Trace.{traceText}

@@ -10,7 +10,7 @@ use lictor_core::reason::reason_code;
 use lictor_core::state::state_code;
 use lictor_core::verdict::SafetyVerdict;
 use lictor_core::verdict::source_code;
-use report::margin::margin_of;
+use margin::margin_of;
 use text::Line;
 use trace_lines::TRACE_LINES;
 

@@ -6,7 +6,7 @@ use lib.Count.{trailingZeros}
 use lib.Ieee.{nan, binary64, ofBits, ofFields, odd}
 use Rattle.text.specs.Ascii.{ascii}
 use Rattle.text.specs.Number.{decimalIn, signedOf}
-use Rattle.report.specs.Margin.{nearestWhole, marginOf}
+use Rattle.margin.specs.Margin.{nearestWhole, marginOf}
 use Rattle.lictor_core.specs.declared.reason.ReasonCode.the-variants.{FaultSchema}
 use Rattle.lictor_core.specs.declared.state.FuseState.the-variants.{Fault}
 use Rattle.lictor_core.specs.declared.tally.Tally.{Tally}

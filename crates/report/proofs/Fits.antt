@@ -9,9 +9,9 @@ use Rattle.text.proofs.Digits.{decimal-20, signed-21}
 use Rattle.lictor_core.specs.Codes.{stateCode, reasonCode, sourceCode}
 use Rattle.lictor_core.specs.declared.tally.Tally.{Tally}
 use Rattle.lictor_core.specs.declared.verdict.SafetyVerdict.{SafetyVerdict}
-use Rattle.report.specs.declared.margin.Margin.{Margin}
-use Rattle.report.specs.declared.margin.Margin.the-variants.{NoMargin, PlusFar, MinusFar, Millis}
-use Rattle.report.specs.Margin.{marginOf}
+use Rattle.margin.specs.declared.Margin.{Margin}
+use Rattle.margin.specs.declared.Margin.the-variants.{NoMargin, PlusFar, MinusFar, Millis}
+use Rattle.margin.specs.Margin.{marginOf}
 use Rattle.report.specs.Lines.{marginText, tickText, stoppedOf, endText, refusedText}
 
 pub margin-21 : (m : Margin) → length (marginText m) ≤ 21

@@ -1,4 +1,2 @@
 -- Definitions that the contracts of this crate, and of those above it, cite, and the statements of its theorems.
-pub mod Margin
-pub mod Nearest
 pub mod Lines

@@ -6,9 +6,9 @@ use Rattle.text.specs.Number.{decimalOf, signedOf}
 use Rattle.lictor_core.specs.Codes.{stateCode, reasonCode, sourceCode}
 use Rattle.lictor_core.specs.declared.tally.Tally.{Tally}
 use Rattle.lictor_core.specs.declared.verdict.SafetyVerdict.{SafetyVerdict}
-use Rattle.report.specs.declared.margin.Margin.{Margin}
-use Rattle.report.specs.declared.margin.Margin.the-variants.{NoMargin, PlusFar, MinusFar, Millis}
-use Rattle.report.specs.Margin.{marginOf}
+use Rattle.margin.specs.declared.Margin.{Margin}
+use Rattle.margin.specs.declared.Margin.the-variants.{NoMargin, PlusFar, MinusFar, Millis}
+use Rattle.margin.specs.Margin.{marginOf}
 
 unfoldable pub marginText : Margin → List ℕ
 marginText NoMargin = ascii "none"

@@ -1,3 +1,2 @@
-// What `fuse` prints: the margin in millimetres, the lines.
+// What `fuse` prints.
 pub mod lines;
-pub mod margin;

@@ -2,8 +2,8 @@
 ghost use mathlib.Core.Path.{_≡_};
 ghost use Rattle.text.specs.Line.{lineOf, pushOf};
 ghost use Rattle.report.specs.Lines.{marginText, fieldText, tickText, stoppedOf, endText, refusedText};
-use crate::margin::Margin;
-use crate::margin::margin_of;
+use margin::Margin;
+use margin::margin_of;
 use lictor_core::reason::reason_code;
 use lictor_core::state::state_code;
 use lictor_core::tally::Tally;

@@ -7,7 +7,7 @@ use lib.IntN.{pos}
 use lib.ListN.{getD, set}
 use lib.Ieee.{Float, nan, inf, fin, binary64, ofBits, toBits}
 use Rattle.fmath.specs.Root.{rootOf}
-use Rattle.report.specs.Margin.{marginOf}
+use Rattle.margin.specs.Margin.{marginOf}
 use Rattle.report.specs.Lines.{marginText}
 use Rattle.text.specs.Ascii.{ascii}
 use Rattle.lictor_core.specs.declared.ack.AckDecision.{AckDecision}

@@ -5,7 +5,7 @@ use lib.ListN.{length, take}
 use Rattle.text.specs.declared.Line.{Line}
 use Rattle.text.proofs.Lines.{line-text}
 use Rattle.report.specs.Lines.{marginText}
-use Rattle.report.specs.Margin.{marginOf}
+use Rattle.margin.specs.Margin.{marginOf}
 use Rattle.report.proofs.Fits.{margin-21}
 use Rattle.render.proofs.Laws.{put-on, tick-by, numbers-most, margin-shows, line-most}
 use borrow.Author.Needs.{needs}

@@ -1,0 +1,54 @@
+use Prim.Native.Nat.{_≤_, _-_}
+use mathlib.Core.Path.{_≡_}
+use native.Mathlib.Omega.{arith}
+use Rattle.lictor_core.specs.Rows.{rowTo}
+use Rattle.lictor_core.proofs.Rows.{row-none, row-more}
+use Rattle.lictor_ingest.specs.Ingest.{atRest}
+use borrow.Author.Needs.{needs}
+use Rattle.lictor_ingest.proofs.zeroed.Statement.{statement}
+use Rattle.lictor_ingest.proofs.zeroed.Tie as tie
+
+abbrev Inv-loop : tie.InvT-loop
+Inv-loop n h₀ c₀ h c = (c ≤ n) × (h ≡ rowTo atRest h₀ c)
+
+abbrev μ-loop : tie.MeasureT-loop
+μ-loop n h₀ c₀ h c = n - c
+
+loop-holds : tie.Need-loop-holds Inv-loop μ-loop
+loop-holds c = search (needs, row-none)
+
+zero-requires : tie.Need-zero-requires Inv-loop μ-loop
+zero-requires c κs = search needs
+
+mul-h : tie.Need-mul-h Inv-loop μ-loop
+mul-h c = search needs
+
+array-write-h : tie.Need-array-write-h Inv-loop μ-loop
+array-write-h c = search needs
+
+add-c : tie.Need-add-c Inv-loop μ-loop
+add-c c = search needs
+
+loop-less : tie.Need-loop-less Inv-loop μ-loop
+loop-less c = search needs
+
+loop-again : tie.Need-loop-again Inv-loop μ-loop
+loop-again c = search (needs, row-more)
+
+returns : tie.Need-returns Inv-loop μ-loop
+returns c = let e : c .before .loop .c ≡ c .before .before .args .n = omega arith in cc
+
+pub zeroed-spec : {M : Type 1} → statement M
+zeroed-spec =
+    tie.close
+    (tie.spec
+    Inv-loop
+    μ-loop
+    loop-holds
+    zero-requires
+    mul-h
+    array-write-h
+    add-c
+    loop-less
+    loop-again
+    returns)
