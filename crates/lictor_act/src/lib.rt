@@ -2,6 +2,8 @@
 ghost use mathlib.Core.Path.{_≡_};
 ghost use Rattle.lictor_brake.specs.Brake.{brakeAction, holdAction};
 ghost use Rattle.lictor_act.specs.Act.{statusOf, sourceOf, cutRow, passedOf, insteadOf, enforcedOf, byMode, actOf};
+use lictor_brake::brake_action;
+use lictor_brake::hold_action;
 use lictor_core::envelope::FuseConfig;
 use lictor_core::fuse::Motion;
 use lictor_core::outcome::Outcome;
@@ -11,8 +13,6 @@ use lictor_core::verdict::ActionSource;
 use lictor_core::verdict::Status;
 use lictor_core::verdict::is_policy;
 use lictor_core::zero::no_row;
-use lictor_brake::brake_action;
-use lictor_brake::hold_action;
 use lictor_ingest::taken;
 
 // The action, where it comes from, and whether it is another than the policy's.

@@ -2,13 +2,13 @@
 ghost use mathlib.Core.Path.{_≡_};
 ghost use Rattle.text.specs.Line.{lineOf, pushOf};
 ghost use Rattle.report.specs.Lines.{marginText, fieldText, tickText, stoppedOf, endText, refusedText};
-use margin::Margin;
-use margin::margin_of;
 use lictor_core::reason::reason_code;
 use lictor_core::state::state_code;
 use lictor_core::tally::Tally;
 use lictor_core::verdict::SafetyVerdict;
 use lictor_core::verdict::source_code;
+use margin::Margin;
+use margin::margin_of;
 use text::Line;
 use text::empty;
 use text::push;
