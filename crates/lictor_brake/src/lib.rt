@@ -114,11 +114,12 @@ pub fn brake_action(cfg: FuseConfig, pos: [f64; 8], vel: [f64; 8]) -> [f64; 8]
 {
     let kind = cfg.kind;
     match kind {
-        ActionKind::EePosition => boxed_action(cfg, pos),
+        ActionKind::EePosition | ActionKind::JointPosition | ActionKind::Other => boxed_action(
+            cfg,
+            pos,
+        ),
         ActionKind::EeDelta => brake_delta(cfg, vel),
-        ActionKind::JointPosition => boxed_action(cfg, pos),
         ActionKind::JointVelocity => brake_velocity(cfg, vel),
-        ActionKind::Other => boxed_action(cfg, pos),
     }
 }
 
@@ -128,10 +129,10 @@ pub fn hold_action(cfg: FuseConfig, hold: [f64; 8]) -> [f64; 8]
 {
     let kind = cfg.kind;
     match kind {
-        ActionKind::EePosition => boxed_action(cfg, hold),
-        ActionKind::EeDelta => no_row(),
-        ActionKind::JointPosition => boxed_action(cfg, hold),
-        ActionKind::JointVelocity => no_row(),
-        ActionKind::Other => boxed_action(cfg, hold),
+        ActionKind::EePosition | ActionKind::JointPosition | ActionKind::Other => boxed_action(
+            cfg,
+            hold,
+        ),
+        ActionKind::EeDelta | ActionKind::JointVelocity => no_row(),
     }
 }

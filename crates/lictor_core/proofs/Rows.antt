@@ -1,7 +1,7 @@
 -- Laws of `rowTo`: how a loop makes it place by place, and what stands at each place of it.
 use mathlib.Core.Path.{_≡_, refl, sym, _∙_, ap}
 use mathlib.Core.List.{List}
-use Prim.Native.Nat.{ℕ, zero, suc, _+_, _<_, _≤_}
+use Prim.Native.Nat.{ℕ, zero, suc, _+_, _<_, _≤_, min}
 use native.Mathlib.Numerals.{add-one}
 use native.Mathlib.Omega.{arith}
 use native.Mathlib.Decide.{ℕ-discrete}
@@ -17,6 +17,20 @@ row-none f h = refl
 pub row-more : (f : ℕ → Float) (h g : List Float) (k : ℕ) (v : Float) → g ≡ rowTo f h k → v ≡ f k → set g k v ≡ rowTo f h (k + 1)
 unfolding rowTo
 row-more f h g k v p q = rw (add-one, p, q)
+
+-- the same for a loop over more places than are given, which leaves those from n on as they are
+pub row-start : (f : ℕ → Float) (h : List Float) (n : ℕ) → h ≡ rowTo f h (min 0 n)
+row-start f h n = let a : 0 ≡ min 0 n = omega arith in row-none f h ∙ ap (rowTo f h) a
+
+pub row-took : (f : ℕ → Float) (h g : List Float) (n k : ℕ) (v : Float) → g ≡ rowTo f h (min k n) → k < n → v ≡ f k → set g k v ≡ rowTo f h (min (k + 1) n)
+row-took f h g n k v p l q =
+    let a : min k n ≡ k = omega arith in let b : min (k + 1) n ≡ k + 1 = omega arith in row-more f h g k v (p ∙ ap (rowTo f h) a) q ∙ sym (ap (rowTo f h) b)
+
+pub row-left : (f : ℕ → Float) (h g : List Float) (n k : ℕ) → g ≡ rowTo f h (min k n) → n ≤ k → g ≡ rowTo f h (min (k + 1) n)
+row-left f h g n k p l = let a : min k n ≡ min (k + 1) n = omega arith in p ∙ ap (rowTo f h) a
+
+pub row-done : (f : ℕ → Float) (h g : List Float) (n k : ℕ) → g ≡ rowTo f h (min k n) → n ≤ k → g ≡ rowTo f h n
+row-done f h g n k p l = let a : min k n ≡ n = omega arith in p ∙ ap (rowTo f h) a
 
 pub row-length : (f : ℕ → Float) (h : List Float) (n : ℕ) → length (rowTo f h n) ≡ length h
 unfolding rowTo

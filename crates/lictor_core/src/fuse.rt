@@ -11,12 +11,14 @@ pub struct Window {
     pub bits: u64,
 }
 
-// What the state machine works on.
+// What the state machine works on. The rows stand before the small fields, here and in Motion: with a gap in front of a row a copy of it is slow.
 pub struct Control {
     pub window: Window,
-    pub state: FuseState,
+    // the highest nonce consumed from each operator slot
+    pub last_nonce: [u64; 8],
     // the latched hold setpoint
     pub hold: [f64; 8],
+    pub state: FuseState,
     pub clean_run: u16,
     pub clamp_streak: u8,
     pub clamps: u16,
@@ -28,8 +30,6 @@ pub struct Control {
     pub rearms: u8,
     pub handoff_seq: u32,
     pub handoff_pending: bool,
-    // the highest nonce consumed from each operator slot
-    pub last_nonce: [u64; 8],
 }
 
 // Where the arm is and how it moves.
@@ -37,9 +37,9 @@ pub struct Motion {
     pub pos: [f64; 8],
     pub prev_pos: [f64; 8],
     pub vel: [f64; 8],
-    pub have_prev_pos: bool,
     // the last action that was given out
     pub last_cmd: [f64; 8],
+    pub have_prev_pos: bool,
 }
 
 // What the guard checks continuity against.

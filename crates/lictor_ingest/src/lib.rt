@@ -12,6 +12,8 @@ use lictor_core::envelope::FuseConfig;
 use lictor_core::fuse::Motion;
 use lictor_core::num::least;
 
+// The loops below go over all 8 places and test each: such a loop is unrolled, and the row stays in registers. Up to n, the compiler would call memcpy.
+
 // `old` with its first n places copied from `s`.
 fn copied(s: &[f64], old: [f64; 8], n: usize) -> [f64; 8]
     requires { ⌜ (n ≤ 8) × (n ≤ length (now s)) ⌝ }
@@ -19,8 +21,10 @@ fn copied(s: &[f64], old: [f64; 8], n: usize) -> [f64; 8]
 {
     let mut h = old;
     let mut c: usize = 0;
-    while c < n {
-        h[c] = s[c];
+    while c < 8 {
+        if c < n {
+            h[c] = s[c];
+        }
         c += 1;
     }
     h
@@ -49,8 +53,10 @@ fn rates(p: [f64; 8], q: [f64; 8], inv_dt: f64, old: [f64; 8], n: usize) -> [f64
 {
     let mut h = old;
     let mut c: usize = 0;
-    while c < n {
-        h[c] = step_rate(p, q, inv_dt, c);
+    while c < 8 {
+        if c < n {
+            h[c] = step_rate(p, q, inv_dt, c);
+        }
         c += 1;
     }
     h
@@ -68,8 +74,10 @@ fn zeroed(old: [f64; 8], n: usize) -> [f64; 8]
 {
     let mut h = old;
     let mut c: usize = 0;
-    while c < n {
-        h[c] = zero();
+    while c < 8 {
+        if c < n {
+            h[c] = zero();
+        }
         c += 1;
     }
     h

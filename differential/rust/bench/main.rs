@@ -8,7 +8,7 @@
 
 use std::{fs, hint::black_box, process::ExitCode};
 
-use disklorva::{Input, Lists, RunState, Verdict};
+use disklorva::{Answer, Input, Lists, RunState};
 use lictor_core::{ChunkView, EpisodeInit, ExecMode, FuseConfig, ObsView, SafetyVerdict};
 use lictor_fuse::fuse::{decide, FuseRt, TickInput};
 use oracle::{
@@ -153,8 +153,8 @@ fn lists(call: &Call) -> Lists<'_> {
 }
 
 impl Ours {
-    fn tick(&self, rt: &mut RunState, call: &Call) -> Verdict {
-        disklorva::tick_lent(rt, &self.settings, &call.input, &call.ours, &lists(call)).verdict
+    fn tick(&self, rt: &mut RunState, call: &Call) -> Answer {
+        disklorva::tick_lent(rt, &self.settings, &call.input, &call.ours, &lists(call))
     }
 
     fn lent(&self, calls: &[Call]) {
@@ -186,7 +186,7 @@ impl Ours {
                 rust.reset(&mut theirs);
                 disklorva::reset(&mut rt);
             }
-            let (a, b) = (rust.tick(&mut theirs, call), self.tick(&mut rt, call));
+            let (a, b) = (rust.tick(&mut theirs, call), self.tick(&mut rt, call).verdict);
             assert_eq!((a.seq, a.state as u8, a.reason as u8), (b.seq, b.state, b.reason));
             assert_eq!((a.trips, a.action_src as u8, a.window), (b.trips, b.action_src, b.window));
             let pairs = a.action[..8].iter().zip(&b.action).chain([(&a.brake_margin, &b.brake_margin)]);
