@@ -1,7 +1,2 @@
-pub mod Call
-pub mod Data
-pub mod Lending
-pub mod Lent
 pub mod Refused
-pub mod Thin
 pub mod Types

@@ -1,4 +1,4 @@
--- The types of the fuse as a walk takes them (`Data.antt`), and how the core's result and the answer lie.
+-- The types of the fuse as a walk takes them (the crate `lent`, `Data.antt`), and how the core's result and the answer lie.
 --     S, G, I, O   the run state, the settings, a tick's numbers, the outcome.        R, Z     the result of the by-value `tick`, and the answer of the lent one
 -- Assumes nothing.
 use mathlib.Core.Path.{refl}
@@ -21,8 +21,8 @@ use Rattle.lictor_fuse.proofs.tick.Ticked.Laws as Tk′
 use Rattle.host.specs.Host.{answerOf}
 use Rattle.host.proofs.Answer as An
 use Rattle.host.proofs.Answer.Laws as An′
-use Rattle.host.proofs.Call.{Parts}
-use Rattle.host.proofs.Data.{Data, struct, vals}
+use Rattle.lent.proofs.Call.{Parts}
+use Rattle.lent.proofs.Data.{Data, struct, vals}
 
 abbrev pub S : Data
 S = struct St.the-type St′.the-laws St′.the-plain

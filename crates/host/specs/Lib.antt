@@ -1,2 +1,1 @@
-pub mod Example
 pub mod Host

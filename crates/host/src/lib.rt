@@ -12,8 +12,6 @@ use lictor_core::outcome::Outcome;
 use lictor_core::verdict::SafetyVerdict;
 use lictor_settings::SettingsCheck;
 
-pub mod example; // shows how a caller uses `tick`; no host needs it
-
 // What a call answers: what the check of the settings says, and the verdict where it accepts them.
 pub struct Answer {
     pub check: SettingsCheck,

@@ -1,17 +1,18 @@
--- A call whose settings are refused, and what a call stores.
-use mathlib.Core.Path.{_≡_, refl, _∙_, ap}
+-- A call whose settings are refused, and one whose settings are accepted.
+use mathlib.Core.Path.{_≡_, refl, sym, _∙_, ap, subst}
 use mathlib.Core.Bool.{Bool, true, false, cond, not}
 use mathlib.Core.List.{List}
 use Prim.Native.Nat.{ℕ}
-use lib.Dec.{T, eqb}
+use lib.Dec.{T}
 use lib.Ieee.{Float}
 use Rattle.lictor_core.specs.declared.envelope.Settings.{Settings}
 use Rattle.lictor_core.specs.declared.fuse.FuseRt.{FuseRt}
 use Rattle.lictor_core.specs.declared.fuse.TickInput.{TickInput}
 use Rattle.lictor_core.specs.declared.outcome.Outcome.{Outcome}
 use Rattle.lictor_settings.specs.Settings.{checkOf, checkNumber}
+use Rattle.lictor_fuse.specs.declared.tick.Decided.{Decided}
 use Rattle.lictor_fuse.specs.declared.tick.Ticked.{Ticked}
-use Rattle.lictor_fuse.specs.Tick.{isAccepted, noVerdict, tickOf}
+use Rattle.lictor_fuse.specs.Tick.{isAccepted, noVerdict, acceptedTick, refusedTick, givenOf, tickBy, tickOf}
 use Rattle.host.proofs.Refused.{refused-call}
 use Rattle.host_state.specs.declared.RunState.{RunState}
 use Rattle.host_c.specs.Call.{steppedOf, keptOf, callOf, answerOf}
@@ -27,22 +28,24 @@ refused-fields before s rt inp out pos vel aux ext chunk bad =
     let t = tickOf s rt inp out pos vel aux ext chunk in
     (e .0, ap verdictOut (e .1), ap (λ (n : ℕ). keptOf n before (stateOut (t .rt))) (e .0) ∙ ap (λ (b : Bool). cond b (stateOut (t .rt)) before) bad)
 
--- a call with the number 0 gives what the fuse gives, and one with another number the run state that it got, so that nothing has to be stored
-by-test : (b : Bool) (before after : RunState) → T b → after ≡ cond b after before
-by-test true before after zero = refl
-by-test false before after zero = absurd zero
+-- what a test tells
+yes : (b : Bool) → T (not (not b)) → b ≡ true
+yes true fine = refl
+yes false fine = absurd fine
 
-by-other : (b : Bool) (before after : RunState) → T (not b) → before ≡ cond b after before
-by-other true before after other = absurd other
-by-other false before after other = refl
+pub no : (b : Bool) → T (not b) → b ≡ false
+no true other = absurd other
+no false other = refl
 
-pub all-stored : (before : RunState) (t : Ticked) → T (eqb (steppedOf t .number) 0) → steppedOf t .rt ≡ callOf before t .rt
-unfolding steppedOf callOf keptOf
-all-stored before t = by-test (eqb (checkNumber (t .check)) 0) before (stateOut (t .rt))
+-- a call whose settings are accepted gives what the tick under them gives, and all of its run state is stored
+pub accepted-call : (s : Settings) (rt : FuseRt) (inp : TickInput) (out : Outcome) (pos vel aux ext chunk : List Float) → T (not (not (isAccepted (checkOf s))))
+    → tickOf s rt inp out pos vel aux ext chunk ≡ acceptedTick s rt inp out pos vel aux ext chunk
+unfolding tickOf tickBy
+accepted-call s rt inp out pos vel aux ext chunk fine = ap (λ (b : Bool). cond b (acceptedTick s rt inp out pos vel aux ext chunk) (refusedTick (checkOf s) rt)) (yes (isAccepted (checkOf s)) fine)
 
-pub nothing-stored : (before : RunState) (t : Ticked) → T (not (eqb (steppedOf t .number) 0)) → before ≡ callOf before t .rt
-unfolding steppedOf callOf keptOf
-nothing-stored before t = by-other (eqb (checkNumber (t .check)) 0) before (stateOut (t .rt))
+pub all-stored : (before : RunState) (t : Ticked) (d : Decided) → t ≡ givenOf d → steppedOf t .rt ≡ callOf before t .rt
+unfolding steppedOf callOf keptOf givenOf
+all-stored before t d e = subst (λ (y : Ticked). steppedOf y .rt ≡ callOf before y .rt) (sym e) refl
 
 -- number and verdict are those of the fuse
 pub answer-same : (before : RunState) (t : Ticked) → answerOf (steppedOf t) ≡ answerOf (callOf before t)

@@ -1,4 +1,4 @@
--- What `disklorva_tick` promises of its answer and of the last state, as a walk takes it (the crate `host`, `Call.antt`).
+-- What `disklorva_tick` promises of its answer and of the last state, as a walk takes it (the crate `lent`, `Call.antt`).
 --     given        what a call by value gives.        Says     the contract, of the answer a and of the last state z.        told     it holds of what the fuse's tick gives, whatever is stored, as long as that is what a call by value gives
 -- Assumes nothing.
 use mathlib.Core.Path.{_≡_, _∙_}
@@ -6,7 +6,7 @@ use mathlib.Core.Bool.{false}
 use Rattle.lictor_settings.specs.Settings.{checkOf, checkNumber}
 use Rattle.lictor_fuse.specs.declared.tick.Ticked.{Ticked}
 use Rattle.lictor_fuse.specs.Tick.{tickOf, isAccepted, noVerdict}
-use Rattle.host.proofs.Call.{Fs}
+use Rattle.lent.proofs.Call.{Fs}
 use Rattle.host_layout.specs.declared.input.Input.{Input}
 use Rattle.host_layout.specs.declared.input.Outcome.{Outcome}
 use Rattle.host_layout.specs.declared.input.Settings.{Settings}

@@ -1,15 +1,19 @@
--- The library's types as a walk takes them (the crate `host`, `Data.antt`), how the result of a step and the answer lie, how the result's number is tested, and how the two are put together.
+-- The library's types as a walk takes them (the crate `lent`, `Data.antt`), how the result of a step and the answer lie, how settings are turned away, and how result and answer are put together.
 --     S, G, I, O   the run state, the settings, a tick's numbers, the outcome.        R, Z     the result of `stepped` and of `disklorva_call`, and the answer of `disklorva_tick`
 -- Assumes nothing.
 use mathlib.Core.Path.{refl}
-use lib.Dec.{eqb}
+use mathlib.Core.Bool.{not}
 use mir.Syntax.{w8, tyInt}
 use mir.Val.{vint}
 use denote.Struct.Laws as LL
-use Rattle.host.proofs.Call.{Parts, Tested}
-use Rattle.host.proofs.Data.{Data, struct, vals}
-use Rattle.host.proofs.Lending.{Joined}
-use Rattle.host_c.specs.Call.{answerOf}
+use Rattle.lent.proofs.Call.{Parts, Turning}
+use Rattle.lent.proofs.Data.{Data, struct, vals}
+use Rattle.lent.proofs.Lending.{Joined}
+use Rattle.lictor_settings.specs.Settings.{checkOf, checkNumber}
+use Rattle.lictor_fuse.specs.Tick.{isAccepted, noVerdict}
+use Rattle.host_layout.specs.Input.{settingsIn}
+use Rattle.host_layout.specs.Verdict.{verdictOut}
+use Rattle.host_c.specs.Call.{refusalOf, answerOf}
 use Rattle.host_state.proofs.RunState as St
 use Rattle.host_state.proofs.RunState.Laws as St′
 use Rattle.host_layout.proofs.input.Settings as Se
@@ -61,8 +65,16 @@ parts = record {
   an-of = λ r is. LL.owes An.the-type An′.the-laws (answerOf r) (LL.owed Ca.the-type Ca′.the-laws r (vals R r) is .0, (LL.owed Ca.the-type Ca′.the-laws r (vals R r) is .1 .1 .0, tt));
 }
 
-abbrev pub tested : Tested S R Z parts
-tested = record { is-zero = λ r. eqb (r .number) 0; may = λ r. tt; tests = λ r. refl }
+abbrev pub turning : Turning G Z
+turning = record {
+  turn = λ s. refusalOf (checkOf (settingsIn s));
+  tc = λ s. vint w8 (checkNumber (checkOf (settingsIn s)));
+  tv = λ s. LL.val Ve.the-type Ve′.the-laws (verdictOut noVerdict);
+  turn-val = λ s. refl;
+  is-other = λ s. not (isAccepted (checkOf (settingsIn s)));
+  may = λ s. tt;
+  tests = λ s. refl;
+}
 
 abbrev pub joined : Joined S R Z parts
 joined = record {

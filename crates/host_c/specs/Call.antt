@@ -5,12 +5,18 @@ use Prim.Native.Nat.{ℕ}
 use lib.Dec.{eqb}
 use Rattle.lictor_core.specs.Initial.{resetOf}
 use Rattle.lictor_settings.specs.Settings.{checkNumber}
+use Rattle.lictor_settings.specs.declared.SettingsCheck.{SettingsCheck}
 use Rattle.lictor_fuse.specs.declared.tick.Ticked.{Ticked}
+use Rattle.lictor_fuse.specs.Tick.{noVerdict}
 use Rattle.host_c.specs.declared.Answer.{Answer}
 use Rattle.host_c.specs.declared.Called.{Called}
 use Rattle.host_state.specs.declared.RunState.{RunState}
 use Rattle.host_state.specs.State.{stateIn, stateOut}
 use Rattle.host_layout.specs.Verdict.{verdictOut}
+
+-- what refused settings are answered: the number of the cause, and no verdict
+abbrev pub refusalOf : SettingsCheck → Answer
+refusalOf c = record { number = checkNumber c; verdict = verdictOut noVerdict }
 
 -- what the fuse gives, as numbers
 unfoldable pub steppedOf : Ticked → Called

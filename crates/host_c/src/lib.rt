@@ -5,8 +5,8 @@ ghost use mathlib.Core.Bool.{false};
 ghost use Rattle.fmath.specs.Root.{rootOf};
 ghost use Rattle.lictor_core.specs.Initial.{newOf};
 ghost use Rattle.lictor_settings.specs.Settings.{checkOf, checkNumber};
-ghost use Rattle.lictor_fuse.specs.Tick.{tickOf, isAccepted, noVerdict};
-ghost use Rattle.host_c.specs.Call.{steppedOf, callOf, answerOf, resetRun};
+ghost use Rattle.lictor_fuse.specs.Tick.{acceptedTick, givenOf, tickOf, isAccepted, noVerdict};
+ghost use Rattle.host_c.specs.Call.{refusalOf, steppedOf, callOf, answerOf, resetRun};
 ghost use Rattle.host_layout.specs.Input.{settingsIn, inputIn, outcomeIn};
 ghost use Rattle.host_state.specs.State.{stateIn, stateOut};
 ghost use Rattle.host_layout.specs.Verdict.{verdictOut};
@@ -21,8 +21,12 @@ use host_layout::verdict::verdict_out;
 use host_state::RunState;
 use host_state::state_in;
 use host_state::state_out;
-use lictor_fuse::tick::Ticked;
+use lictor_fuse::tick::Decided;
+use lictor_fuse::tick::decide;
+use lictor_fuse::tick::no_verdict;
+use lictor_settings::check;
 use lictor_settings::check_number;
+use lictor_settings::config;
 
 // What a call answers: 0 and the verdict, or the number of a refusal of the settings.
 #[repr(C)]
@@ -39,23 +43,33 @@ pub struct Called {
     pub verdict: Verdict,
 }
 
-fn packed(t: Ticked) -> Called
-    ensures { λ r. ⌜ r ≡ steppedOf t ⌝ }
+// What a call with these settings answers where they are refused, and the number 0 where they are accepted.
+fn refusal(s: Settings) -> Answer
+    ensures { λ r. ⌜ r ≡ refusalOf (checkOf (settingsIn s)) ⌝ }
 {
-    let c = t.check;
+    let g = settings_in(s);
+    let c = check(g);
     let number = check_number(c);
-    let z = t.rt;
+    let v = no_verdict();
+    let verdict = verdict_out(v);
+    Answer { number, verdict }
+}
+
+fn packed(d: Decided) -> Called
+    ensures { λ r. ⌜ r ≡ steppedOf (givenOf d) ⌝ }
+{
+    let z = d.rt;
     let rt = state_out(z);
-    let v = t.verdict;
+    let v = d.verdict;
     let verdict = verdict_out(v);
     Called {
-        number,
+        number: 0,
         rt,
         verdict,
     }
 }
 
-// One tick from numbers to numbers. Its run state is what the fuse gives, whatever the number: whether it is stored is for the caller to test.
+// One tick from numbers to numbers, with settings that are accepted.
 fn stepped(
     s: Settings,
     rt: RunState,
@@ -67,14 +81,15 @@ fn stepped(
     ext: &[f64],
     chunk: &[f64],
 ) -> Called
-    ensures { λ r. ⌜ r ≡ steppedOf (tickOf (settingsIn s) (stateIn rt) (inputIn inp) (outcomeIn out) (now (pos .entry)) (now (vel .entry)) (now (aux .entry)) (now (ext .entry)) (now (chunk .entry))) ⌝ }
+    ensures { λ r. ⌜ r ≡ steppedOf (acceptedTick (settingsIn s) (stateIn rt) (inputIn inp) (outcomeIn out) (now (pos .entry)) (now (vel .entry)) (now (aux .entry)) (now (ext .entry)) (now (chunk .entry))) ⌝ }
 {
     let g = settings_in(s);
+    let cfg = config(g);
     let z = state_in(rt);
     let i = input_in(inp);
     let u = outcome_in(out);
-    let t = lictor_fuse::tick::tick(g, z, i, u, pos, vel, aux, ext, chunk);
-    packed(t)
+    let d = decide(cfg, z, i, u, pos, vel, aux, ext, chunk);
+    packed(d)
 }
 
 fn restarted(rt: RunState) -> RunState
@@ -121,10 +136,12 @@ pub extern "C" fn disklorva_tick(
         × (now (rt .exit) ≡ callOf (now (rt .entry)) (tickOf (settingsIn s) (stateIn (now (rt .entry))) (inputIn inp) (outcomeIn out) (now (pos .entry)) (now (vel .entry)) (now (aux .entry)) (now (ext .entry)) (now (chunk .entry))) .rt)
         × (isAccepted (checkOf (settingsIn s)) ≡ false → (r .number ≡ checkNumber (checkOf (settingsIn s))) × (r .verdict ≡ verdictOut noVerdict) × (now (rt .exit) ≡ now (rt .entry))) ⌝ }
 {
-    let t = stepped(s, *rt, inp, out, pos, vel, aux, ext, chunk);
-    if t.number == 0 {
-        *rt = t.rt;
+    let a = refusal(s);
+    if a.number != 0 {
+        return a;
     }
+    let t = stepped(s, *rt, inp, out, pos, vel, aux, ext, chunk);
+    *rt = t.rt;
     Answer {
         number: t.number,
         verdict: t.verdict,

@@ -119,7 +119,7 @@ fn is_accepted(c: SettingsCheck) -> bool
 }
 
 // What stands in the verdict's place where the settings are refused.
-fn no_verdict() -> SafetyVerdict
+pub fn no_verdict() -> SafetyVerdict
     ensures { λ r. ⌜ r ≡ noVerdict ⌝ }
 {
     let action = no_row();

@@ -8,7 +8,7 @@ use Rattle.lictor_episode.proofs.reset as core
 use Rattle.lictor_episode.proofs.reset.Symbol as core-def
 use Rattle.lictor_episode.proofs.reset.Symbol.{name as #core}
 use Rattle.lictor_episode.proofs.reset.Met as core-thm
-use Rattle.host.proofs.Call.{restored-meets}
+use Rattle.lent.proofs.Call.{restored-meets}
 use Rattle.host.proofs.Types.{S}
 use Rattle.host.proofs.reset.Key.{name as #this}
 use Rattle.host.proofs.reset as this

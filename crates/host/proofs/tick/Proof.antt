@@ -18,7 +18,7 @@ use Rattle.lictor_fuse.proofs.tick.tick.Symbol.{name as #core}
 use Rattle.lictor_fuse.proofs.tick.tick.Met as core-thm
 use Rattle.host.specs.declared.Answer.{Answer}
 use Rattle.host.specs.Host.{answerOf, numberOf}
-use Rattle.host.proofs.Call.{Fs, answered-meets}
+use Rattle.lent.proofs.Call.{Fs, answered-meets}
 use Rattle.host.proofs.Refused.{refused-call}
 use Rattle.host.proofs.Types.{S, G, I, O, R, Z, parts}
 use Rattle.host.proofs.tick.Key.{name as #this}

@@ -4,8 +4,8 @@ use mathlib.Core.Path.{_≡_}
 use contract.Running.{givenOf, tables, tablesOf}
 use denote.Triple.Spec.{tripleOf}
 use denote.Triple.Table.{entered, cited}
-use Rattle.host.proofs.Call.{Fs}
-use Rattle.host.proofs.Lending.{lending-meets}
+use Rattle.lent.proofs.Call.{Fs}
+use Rattle.lent.proofs.Lending.{lending-meets}
 use Rattle.host_layout.specs.declared.input.Input.{Input}
 use Rattle.host_layout.specs.declared.input.Outcome.{Outcome}
 use Rattle.host_layout.specs.declared.input.Settings.{Settings}

@@ -3,7 +3,7 @@
 use contract.Running.{givenOf, tables, tablesOf}
 use denote.Triple.Spec.{tripleOf}
 use denote.Triple.Table.{entered, cited}
-use Rattle.host.proofs.Call.{restored-meets}
+use Rattle.lent.proofs.Call.{restored-meets}
 use Rattle.host_c.specs.Call.{resetRun}
 use Rattle.host_c.proofs.Types.{S}
 use Rattle.host_c.proofs.restarted as core

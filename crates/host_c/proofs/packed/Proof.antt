@@ -1,10 +1,8 @@
+use Rattle.lictor_fuse.specs.Tick.{givenOf}
 use Rattle.host_c.specs.Call.{steppedOf}
 use borrow.Author.Needs.{needs}
 use Rattle.host_c.proofs.packed.Statement.{statement}
 use Rattle.host_c.proofs.packed.Tie as tie
-
-check-number-requires : tie.Need-check-number-requires
-check-number-requires c κs = search needs
 
 state-out-requires : tie.Need-state-out-requires
 state-out-requires c κs = search needs
@@ -13,8 +11,8 @@ verdict-out-requires : tie.Need-verdict-out-requires
 verdict-out-requires c κs = search needs
 
 returns : tie.Need-returns
-unfolding steppedOf
+unfolding steppedOf givenOf
 returns c = cc
 
 pub packed-spec : {M : Type 1} → statement M
-packed-spec = tie.close (tie.spec check-number-requires state-out-requires verdict-out-requires returns)
+packed-spec = tie.close (tie.spec state-out-requires verdict-out-requires returns)

@@ -1,9 +1,13 @@
+use Rattle.lictor_fuse.specs.Tick.{acceptedTick}
 use borrow.Author.Needs.{needs}
 use Rattle.host_c.proofs.stepped.Statement.{statement}
 use Rattle.host_c.proofs.stepped.Tie as tie
 
 settings-in-requires : tie.Need-settings-in-requires
 settings-in-requires c κs = search needs
+
+config-requires : tie.Need-config-requires
+config-requires c κs = search needs
 
 state-in-requires : tie.Need-state-in-requires
 state-in-requires c κs = search needs
@@ -14,23 +18,26 @@ input-in-requires c κs = search needs
 outcome-in-requires : tie.Need-outcome-in-requires
 outcome-in-requires c κs = search needs
 
-tick-requires : tie.Need-tick-requires
-tick-requires c κs = search needs
+decide-requires : tie.Need-decide-requires
+decide-requires c κs = search needs
 
 packed-requires : tie.Need-packed-requires
 packed-requires c κs = search needs
 
 returns : tie.Need-returns
-returns c = rw (c .packed .ensures, c .before .tick .ensures, c .before .before .outcome-in .ensures, c .before .before .before .input-in .ensures, c .before .before .before .before .state-in .ensures, c .before .before .before .before .before .settings-in .ensures)
+unfolding acceptedTick
+returns c =
+    rw (c .packed .ensures, c .before .decide .ensures, c .before .before .outcome-in .ensures, c .before .before .before .input-in .ensures, c .before .before .before .before .state-in .ensures, c .before .before .before .before .before .config .ensures, c .before .before .before .before .before .before .settings-in .ensures)
 
 pub stepped-spec : {M : Type 1} → statement M
 stepped-spec =
     tie.close
     (tie.spec
     settings-in-requires
+    config-requires
     state-in-requires
     input-in-requires
     outcome-in-requires
-    tick-requires
+    decide-requires
     packed-requires
     returns)

@@ -1,7 +1,7 @@
-use Rattle.host.specs.Example.{threeOf}
+use Rattle.host_example.specs.Example.{threeOf}
 use borrow.Author.Needs.{needs}
-use Rattle.host.proofs.example.three.Statement.{statement}
-use Rattle.host.proofs.example.three.Tie as tie
+use Rattle.host_example.proofs.three.Statement.{statement}
+use Rattle.host_example.proofs.three.Tie as tie
 
 once-requires : tie.Need-once-requires
 once-requires c κs = search needs

@@ -1,4 +1,4 @@
--- `host::example::once` meets its contract: it is `lending` over the lent `tick`.
+-- `host_example::once` meets its contract: it is `lending` over the lent `tick`.
 -- Assumes nothing.
 use mathlib.Core.Path.{_≡_, refl}
 use mathlib.Core.Bool.{false}
@@ -15,22 +15,22 @@ use Rattle.lictor_fuse.specs.declared.tick.Ticked.{Ticked}
 use Rattle.lictor_fuse.specs.Tick.{tickOf, isAccepted, noVerdict}
 use Rattle.lictor_fuse.proofs.tick.Ticked as Tk
 use Rattle.lictor_fuse.proofs.tick.Ticked.Laws as Tk′
 use Rattle.host.specs.declared.Answer.{Answer}
 use Rattle.host.specs.Host.{answerOf, numberOf}
 use Rattle.host.proofs.Answer as An
 use Rattle.host.proofs.Answer.Laws as An′
-use Rattle.host.proofs.Call.{Fs}
-use Rattle.host.proofs.Data.{vals}
-use Rattle.host.proofs.Lending.{Joined, lending-meets}
+use Rattle.lent.proofs.Call.{Fs}
+use Rattle.lent.proofs.Data.{vals}
+use Rattle.lent.proofs.Lending.{Joined, lending-meets}
 use Rattle.host.proofs.Types.{S, G, I, O, R, Z, parts}
 use Rattle.host.proofs.tick as tick
 use Rattle.host.proofs.tick.Symbol as tick-def
 use Rattle.host.proofs.tick.Symbol.{name as #tick}
 use Rattle.host.proofs.tick.Met as tick-thm
-use Rattle.host.proofs.example.once.Key.{name as #this}
-use Rattle.host.proofs.example.once as this
-use Rattle.host.proofs.example.once.Statement as stated
-use Rattle.host.proofs.example.once.Code as code
+use Rattle.host_example.proofs.once.Key.{name as #this}
+use Rattle.host_example.proofs.once as this
+use Rattle.host_example.proofs.once.Statement as stated
+use Rattle.host_example.proofs.once.Code as code
 
 abbrev joined : Joined S R Z parts
 joined = record {

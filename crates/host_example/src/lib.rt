@@ -2,7 +2,7 @@
 // `once` lends a local run state for one tick, and gives what the tick by value gives; `three` calls it three times, and its proof needs nothing more.
 ghost use mathlib.Core.Path.{_≡_};
 ghost use Rattle.lictor_fuse.specs.Tick.{tickOf};
-ghost use Rattle.host.specs.Example.{threeOf};
+ghost use Rattle.host_example.specs.Example.{threeOf};
 use lictor_core::envelope::Settings;
 use lictor_core::fuse::FuseRt;
 use lictor_core::fuse::TickInput;
@@ -24,7 +24,7 @@ pub fn once(
     ensures { λ r. ⌜ r ≡ tickOf s rt inp out (now (pos .entry)) (now (vel .entry)) (now (aux .entry)) (now (ext .entry)) (now (chunk .entry)) ⌝ }
 {
     let mut lent = rt;
-    let a = crate::tick(&mut lent, s, inp, out, pos, vel, aux, ext, chunk);
+    let a = host::tick(&mut lent, s, inp, out, pos, vel, aux, ext, chunk);
     Ticked {
         check: a.check,
         rt: lent,

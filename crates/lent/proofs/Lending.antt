@@ -31,10 +31,10 @@ use denote.Triple.Spec.{Meets, tripleOf}
 use denote.Triple.Clauses.{closing, ensured, lasts}
 use denote.Triple.Walked.{says, Stays, stay-dropped, walkOf, AllGo, goes-dropped, ends-at, walked, walk-meets}
 use denote.Exit.{yes}
-use Rattle.host.proofs.Call.{Fs, Ls, nows, listVal, listTy, listVals, Lists, list-typed, tickSig, tickEnded, tickClauses, coreSig, coreEnded, coreClauses, resultVal, answerVal, Parts, retyped}
-use Rattle.host.proofs.Data.{Data, row, vals, Of, spelled, typed, had}
-use Rattle.host.proofs.Lent.{lending, lends}
-use Rattle.host.proofs.Thin.{resultTy, answerTy}
+use Rattle.lent.proofs.Call.{Fs, Ls, nows, listVal, listTy, listVals, Lists, list-typed, tickSig, tickEnded, tickClauses, coreSig, coreEnded, coreClauses, resultVal, answerVal, Parts, retyped}
+use Rattle.lent.proofs.Data.{Data, row, vals, Of, spelled, typed, had}
+use Rattle.lent.proofs.Lent.{lending, lends}
+use Rattle.lent.proofs.Thin.{resultTy, answerTy}
 
 -- How an answer and a state are put together to a result, of which they are the parts. Of types that are written out, each equation is a `refl`.
 pub record Joined (S R Z : Data) (P : Parts S R Z) : Type 0 where

@@ -29,8 +29,8 @@ use denote.Lend.{lends-ref, ref-back}
 use denote.Steps.{peeks}
 use denote.Struct.Steps.{spelt}
 use denote.Triple.Call.{calls-from}
-use Rattle.host.proofs.Data.{Data, row, vals, Of, typed, had}
-use Rattle.host.proofs.Thin.{resultTy, answerTy, has-ty}
+use Rattle.lent.proofs.Data.{Data, row, vals, Of, typed, had}
+use Rattle.lent.proofs.Thin.{resultTy, answerTy, has-ty}
 
 -- ---- the function
 abbrev pub lending : (S : Data) (τ2 τ3 τ4 τ5 τ6 τ7 τ8 τ9 τc τv : Ty) (νR νZ : Sym) → Name → Fn

@@ -1,0 +1,5 @@
+pub mod Call
+pub mod Data
+pub mod Lending
+pub mod Lent
+pub mod Thin
