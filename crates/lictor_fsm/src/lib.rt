@@ -1,6 +1,6 @@
 // The escalation state machine (fsm.rs). `next` does what the table of lictor_table says; every row of fsm.rs is under its own number, with every
-// change of a counter: rows 4 to 13, of Held and Escalated, in the crate lictor_held, rows 17 to 23, of the running states, in lictor_running, the
-// others here. The run state goes in by value and comes back.
+// change of a counter: rows 4 to 8, of Escalated, in the crate lictor_escalated, rows 9 to 13, of Held, in lictor_held, rows 17 to 23, of the running
+// states, in lictor_running, the others here. The run state goes in by value and comes back.
 //
 // Three kinds of function: tests and numbers over plain values; rows, which change the run state and do not branch; and choices, which only test
 // and hand on.
@@ -24,9 +24,9 @@ use lictor_core::state::FuseState;
 use lictor_core::state::state_code;
 use lictor_core::verdict;
 use lictor_core::verdict::any;
-use lictor_held::accepted_ack;
+use lictor_escalated::accepted_ack;
+use lictor_escalated::escalated;
 use lictor_held::count_clean;
-use lictor_held::escalated;
 use lictor_held::held;
 use lictor_running::running;
 use lictor_table::FsmInput;

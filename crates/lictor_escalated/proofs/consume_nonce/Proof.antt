@@ -5,8 +5,8 @@ use lib.Seq.{set-out}
 use Rattle.lictor_core.proofs.Branch.{branches}
 use Rattle.lictor_table.specs.Helpers.{consumeNonce}
 use borrow.Author.Needs.{needs}
-use Rattle.lictor_held.proofs.consume_nonce.Statement.{statement}
-use Rattle.lictor_held.proofs.consume_nonce.Tie as tie
+use Rattle.lictor_escalated.proofs.consume_nonce.Statement.{statement}
+use Rattle.lictor_escalated.proofs.consume_nonce.Tie as tie
 
 cast-slot : tie.Need-cast-slot
 cast-slot c = search needs

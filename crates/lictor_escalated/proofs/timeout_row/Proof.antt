@@ -1,7 +1,7 @@
 use Rattle.lictor_table.specs.Rows.{timeoutRow}
 use borrow.Author.Needs.{needs}
-use Rattle.lictor_held.proofs.timeout_row.Statement.{statement}
-use Rattle.lictor_held.proofs.timeout_row.Tie as tie
+use Rattle.lictor_escalated.proofs.timeout_row.Statement.{statement}
+use Rattle.lictor_escalated.proofs.timeout_row.Tie as tie
 
 returns : tie.Need-returns
 unfolding timeoutRow

@@ -1,8 +1,8 @@
 use Rattle.lictor_core.proofs.Branch.{branches}
 use Rattle.lictor_table.specs.Helpers.{acceptedBy}
 use borrow.Author.Needs.{needs}
-use Rattle.lictor_held.proofs.accepted.Statement.{statement}
-use Rattle.lictor_held.proofs.accepted.Tie as tie
+use Rattle.lictor_escalated.proofs.accepted.Statement.{statement}
+use Rattle.lictor_escalated.proofs.accepted.Tie as tie
 
 cast-slot : tie.Need-cast-slot
 cast-slot c = search needs

@@ -1,7 +1,7 @@
 use Rattle.lictor_table.specs.Rows.{waitRow}
 use borrow.Author.Needs.{needs}
-use Rattle.lictor_held.proofs.wait_row.Statement.{statement}
-use Rattle.lictor_held.proofs.wait_row.Tie as tie
+use Rattle.lictor_escalated.proofs.wait_row.Statement.{statement}
+use Rattle.lictor_escalated.proofs.wait_row.Tie as tie
 
 sat-u32-requires : tie.Need-sat-u32-requires
 sat-u32-requires c κs = search needs

@@ -1,8 +1,8 @@
 use Rattle.lictor_core.proofs.Branch.{branches}
 use Rattle.lictor_table.specs.Rows.{escalatedOf}
 use borrow.Author.Needs.{needs}
-use Rattle.lictor_held.proofs.escalated.Statement.{statement}
-use Rattle.lictor_held.proofs.escalated.Tie as tie
+use Rattle.lictor_escalated.proofs.escalated.Statement.{statement}
+use Rattle.lictor_escalated.proofs.escalated.Tie as tie
 
 enum-known-ack : tie.Need-enum-known-ack
 enum-known-ack c = search needs

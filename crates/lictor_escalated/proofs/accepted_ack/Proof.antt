@@ -1,8 +1,8 @@
 use Rattle.lictor_core.proofs.Branch.{branches}
 use Rattle.lictor_table.specs.Helpers.{acceptedAck}
 use borrow.Author.Needs.{needs}
-use Rattle.lictor_held.proofs.accepted_ack.Statement.{statement}
-use Rattle.lictor_held.proofs.accepted_ack.Tie as tie
+use Rattle.lictor_escalated.proofs.accepted_ack.Statement.{statement}
+use Rattle.lictor_escalated.proofs.accepted_ack.Tie as tie
 
 enum-told : tie.Need-enum-told
 enum-told c = search needs

@@ -1,8 +1,8 @@
 use Rattle.lictor_core.proofs.Branch.{branches}
 use Rattle.lictor_table.specs.Rows.{waitingOf}
 use borrow.Author.Needs.{needs}
-use Rattle.lictor_held.proofs.waiting.Statement.{statement}
-use Rattle.lictor_held.proofs.waiting.Tie as tie
+use Rattle.lictor_escalated.proofs.waiting.Statement.{statement}
+use Rattle.lictor_escalated.proofs.waiting.Tie as tie
 
 timeout-row-requires : tie.Need-timeout-row-requires
 timeout-row-requires c κs = search needs

@@ -1,0 +1,1 @@
+-- What these functions compute is defined in the crate lictor_table; nothing is added here.
