@@ -13,7 +13,7 @@ use Rattle.bytes_le.specs.Little.{byteAt}
 use Rattle.lictor_core.specs.declared.fuse.TickInput.{TickInput}
 use Rattle.lictor_fuse.specs.declared.tick.Decided.{Decided}
 use Rattle.records.specs.Kinds.{journalKinds, bodyLen}
-use Rattle.records.specs.Body.{settingsOf}
+use Rattle.long_records.specs.Long.{settingsOf}
 use Rattle.judge.specs.declared.Refusal.{Refusal}
 use Rattle.reader.specs.declared.Reader.{Reader}
 use Rattle.reader.specs.declared.Progress.{Progress}

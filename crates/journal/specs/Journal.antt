@@ -13,7 +13,7 @@ use Rattle.lictor_fuse.specs.declared.tick.Decided.{Decided}
 use Rattle.lictor_fuse.specs.Tick.{decideOf}
 use Rattle.bytes_le.specs.Little.{byteAt}
 use Rattle.records.specs.Kinds.{journalKinds, bodyLen}
-use Rattle.records.specs.Body.{settingsOf}
+use Rattle.long_records.specs.Long.{settingsOf}
 use Rattle.judge.specs.declared.Refusal.{Refusal}
 use Rattle.judge.specs.declared.Refusal.the-variants.{CutBody}
 use Rattle.reader.specs.Stream.{Next, wait, halt, go, tell, End, waiting, halted, settled, advanced, Reached, goesOn}

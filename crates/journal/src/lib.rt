@@ -134,7 +134,7 @@ fn begin_at(rd: Reader, s: &[u8], at: usize) -> Step
     let k = s[at];
     let a = at + 1;
     let e = a + records::body_len(k);
-    let settings = records::read_settings(&s[a..e]);
+    let settings = long_records::read_settings(&s[a..e]);
     Step {
         reader: reader::begun(rd),
         run: begin(settings),
@@ -198,7 +198,7 @@ fn take_step(rd: Reader, run: Run, lists: &mut [f64; 576], s: &[u8], at: usize) 
 pub fn start() -> Run
     ensures { λ r. ⌜ r ≡ startRun ⌝ }
 {
-    begin(records::read_settings(b""))
+    begin(long_records::read_settings(b""))
 }
 
 // Takes all records up to the next tick, to one that is turned away or to one that is not there whole, and says which comes there.

@@ -15,7 +15,8 @@ use Rattle.bytes_le.specs.Little.{byteAt, floatAt}
 use Rattle.bytes_le.proofs.Laws.{leAt-under}
 use Rattle.records.specs.declared.Record.the-variants.{Settings, Reset, Ack, Head, Value, Outcome, Tick}
 use Rattle.records.specs.Kinds.{journalKinds, bodyLen, settingsKind, resetKind, ackKind, headKind, valueKind, outcomeKind}
-use Rattle.records.specs.Body.{limitsOf, settingsOf, ackOf, headOf, tickOf, recordOf}
+use Rattle.long_records.specs.Long.{limitsOf, settingsOf}
+use Rattle.records.specs.Body.{ackOf, headOf, tickOf, recordOf}
 use Rattle.judge.specs.declared.Refusal.{Refusal}
 use Rattle.judge.specs.declared.Seen.{Seen}
 use Rattle.judge.specs.declared.Judged.{Judged}

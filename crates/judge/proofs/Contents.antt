@@ -8,7 +8,7 @@ use Rattle.bytes_le.specs.Little.{byteAt}
 use Rattle.lictor_settings.specs.declared.SettingsCheck.{SettingsCheck}
 use Rattle.lictor_settings.specs.declared.SettingsCheck.the-variants as S
 use Rattle.lictor_settings.specs.Settings.{badCode, badSize, badFloat, badBox, settingsTable, firstRow, checkOf}
-use Rattle.records.specs.Body.{settingsOf}
+use Rattle.long_records.specs.Long.{settingsOf}
 use Rattle.judge.specs.declared.Seen.{Seen}
 use Rattle.judge.specs.declared.Judged.{Judged}
 use Rattle.judge.specs.declared.Judged.the-variants.{Accepted, Refused}

@@ -8,7 +8,7 @@ use lib.ListN.{length, getD}
 use Rattle.bytes_le.specs.Little.{byteAt}
 use Rattle.lictor_settings.specs.Settings.{badCode, badSize, badFloat, badBox}
 use Rattle.records.specs.Kinds.{isKnown, bodyLen, settingsKind, ackKind, headKind, valueKind, outcomeKind, tickKind}
-use Rattle.records.specs.Body.{settingsOf}
+use Rattle.long_records.specs.Long.{settingsOf}
 use Rattle.judge.specs.declared.Seen.{Seen}
 
 -- the lists of values by their codes: chunk, pos, vel, aux, ext; how many values each can hold

@@ -104,7 +104,7 @@ fn is_again(seen: Seen, k: u8, b: &[u8]) -> bool
 fn judge_settings(seen: Seen, b: &[u8]) -> Judged
     ensures { λ r. ⌜ r ≡ contentsOf seen 1 (now (b .entry)) ⌝ }
 {
-    let c = lictor_settings::check(records::read_settings(b));
+    let c = lictor_settings::check(long_records::read_settings(b));
     match c {
         SettingsCheck::Accepted => Judged::Accepted,
         SettingsCheck::BadCode => Judged::Refused(Refusal::BadCode),

@@ -14,7 +14,8 @@ use Rattle.lictor_core.specs.declared.fuse.TickInput.{TickInput}
 use Rattle.records.specs.declared.Record.{Record}
 use Rattle.records.specs.declared.Record.the-variants.{Settings, Reset, Ack, Head, Value, Outcome, Tick}
 use Rattle.records.specs.Kinds.{journalKinds, bodyLen}
-use Rattle.records.specs.Body.{recordOf, settingsOf}
+use Rattle.records.specs.Body.{recordOf}
+use Rattle.long_records.specs.Long.{settingsOf}
 use Rattle.judge.specs.declared.Refusal.{Refusal}
 use Rattle.judge.specs.declared.Refusal.the-variants.{UnknownKind, CutBody}
 use Rattle.judge.specs.declared.Judged.{Judged}

@@ -22,7 +22,8 @@ use Rattle.records.specs.declared.Record.{Record}
 use Rattle.records.specs.declared.Record.the-variants.{Settings, Reset, Ack, Head, Value, Outcome, Tick}
 use Rattle.records.proofs.Record as R
 use Rattle.records.specs.Kinds.{journalKinds, bodyLen}
-use Rattle.records.specs.Body.{recordOf, outcomeOf}
+use Rattle.records.specs.Body.{recordOf}
+use Rattle.long_records.specs.Long.{outcomeOf}
 use Rattle.judge.specs.declared.Refusal.{Refusal}
 use Rattle.judge.specs.declared.Judged.{Judged}
 use Rattle.judge.specs.declared.Judged.the-variants.{Accepted, Refused}

@@ -10,7 +10,8 @@ use Rattle.lictor_core.specs.declared.outcome.Outcome as O
 use Rattle.records.specs.declared.Record.{Record}
 use Rattle.records.specs.declared.Record.the-variants.{Settings, Reset, Ack, Head, Value, Outcome, Tick}
 use Rattle.records.specs.Kinds.{journalKinds, bodyLen}
-use Rattle.records.specs.Body.{settingsOf, outcomeOf, recordOf}
+use Rattle.records.specs.Body.{recordOf}
+use Rattle.long_records.specs.Long.{settingsOf, outcomeOf}
 use Rattle.judge.specs.declared.Seen.{Seen}
 use Rattle.judge.specs.declared.Refusal.{Refusal}
 use Rattle.judge.specs.declared.Judged.{Judged}

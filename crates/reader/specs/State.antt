@@ -11,7 +11,8 @@ use Rattle.lictor_core.specs.declared.chunk.MaybeChunk.the-variants.{NoChunk, D
 use Rattle.lictor_core.specs.declared.fuse.TickInput.{TickInput}
 use Rattle.lictor_core.specs.declared.outcome.Outcome.{Outcome}
 use Rattle.records.specs.declared.TickNumbers.{TickNumbers}
-use Rattle.records.specs.Body.{ackOf, headOf, outcomeOf}
+use Rattle.records.specs.Body.{ackOf, headOf}
+use Rattle.long_records.specs.Long.{outcomeOf}
 use Rattle.judge.specs.declared.Seen.{Seen}
 use Rattle.judge.specs.Causes.{capacities, countOf}
 use Rattle.reader.specs.declared.Waiting.{Waiting}

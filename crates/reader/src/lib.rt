@@ -343,7 +343,7 @@ fn instruct(rd: Reader, lists: &[f64; 576], s: &[u8], at: usize, n: usize, x: Re
         Record::Outcome => {
             let a = at + 1;
             let e = a + n;
-            let o = records::read_outcome(&s[a..e]);
+            let o = long_records::read_outcome(&s[a..e]);
             Turn {
                 reader: with_outcome(rd, o),
                 at: e,
@@ -433,7 +433,7 @@ pub fn start() -> Reader
         exec_steps: 0,
     };
     let waiting = Waiting { seen, ack, head };
-    let outcome = records::read_outcome(b"");
+    let outcome = long_records::read_outcome(b"");
     Reader { waiting, outcome }
 }
 

@@ -4,7 +4,7 @@ use Prim.Native.Nat.{ℕ}
 use mathlib.Core.Bool.{Bool, true, false}
 use mathlib.Core.Path.{_≡_, ap, _∙_}
 use native.Mathlib.Omega.{arith}
-use Rattle.records.specs.Body.{outcomeOf}
+use Rattle.long_records.specs.Long.{outcomeOf}
 use Rattle.reader.proofs.Steps.{body-part, instructs-outcome, instructs-settings, instructs-reset, instructs-tick, is-small}
 use Rattle.reader.proofs.instruct.Statement.{statement}
 use Rattle.reader.proofs.instruct.Tie as tie

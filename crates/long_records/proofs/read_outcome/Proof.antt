@@ -1,7 +1,7 @@
-use Rattle.records.specs.Body.{outcomeOf}
+use Rattle.long_records.specs.Long.{outcomeOf}
 use borrow.Author.Needs.{needs}
-use Rattle.records.proofs.read_outcome.Statement.{statement}
-use Rattle.records.proofs.read_outcome.Tie as tie
+use Rattle.long_records.proofs.read_outcome.Statement.{statement}
+use Rattle.long_records.proofs.read_outcome.Tie as tie
 
 read-scores-requires : tie.Need-read-scores-requires
 read-scores-requires c κs = search needs

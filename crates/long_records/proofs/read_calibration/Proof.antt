@@ -1,7 +1,7 @@
-use Rattle.records.specs.Body.{calibrationOf}
+use Rattle.long_records.specs.Long.{calibrationOf}
 use borrow.Author.Needs.{needs}
-use Rattle.records.proofs.read_calibration.Statement.{statement}
-use Rattle.records.proofs.read_calibration.Tie as tie
+use Rattle.long_records.proofs.read_calibration.Statement.{statement}
+use Rattle.long_records.proofs.read_calibration.Tie as tie
 
 le32-requires : tie.Need-le32-requires
 le32-requires c κs = search needs

@@ -1,7 +1,7 @@
-use Rattle.records.specs.Body.{scoresOf}
+use Rattle.long_records.specs.Long.{scoresOf}
 use borrow.Author.Needs.{needs}
-use Rattle.records.proofs.read_scores.Statement.{statement}
-use Rattle.records.proofs.read_scores.Tie as tie
+use Rattle.long_records.proofs.read_scores.Statement.{statement}
+use Rattle.long_records.proofs.read_scores.Tie as tie
 
 slice-aggregate-fill : tie.Need-slice-aggregate-fill
 slice-aggregate-fill c = search needs

@@ -1,8 +1,8 @@
 -- Field by field: each is what its reader promises.
-use Rattle.records.specs.Body.{settingsOf}
+use Rattle.long_records.specs.Long.{settingsOf}
 use borrow.Author.Needs.{needs}
-use Rattle.records.proofs.read_settings.Statement.{statement}
-use Rattle.records.proofs.read_settings.Tie as tie
+use Rattle.long_records.proofs.read_settings.Statement.{statement}
+use Rattle.long_records.proofs.read_settings.Tie as tie
 
 eight-requires : tie.Need-eight-requires
 eight-requires c κs = search needs

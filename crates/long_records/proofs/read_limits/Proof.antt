@@ -1,7 +1,7 @@
-use Rattle.records.specs.Body.{limitsOf}
+use Rattle.long_records.specs.Long.{limitsOf}
 use borrow.Author.Needs.{needs}
-use Rattle.records.proofs.read_limits.Statement.{statement}
-use Rattle.records.proofs.read_limits.Tie as tie
+use Rattle.long_records.proofs.read_limits.Statement.{statement}
+use Rattle.long_records.proofs.read_limits.Tie as tie
 
 byte-requires : tie.Need-byte-requires
 byte-requires c κs = search needs

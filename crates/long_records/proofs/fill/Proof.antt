@@ -3,9 +3,9 @@ use Prim.Native.Nat.{_-_}
 use mathlib.Core.Path.{refl}
 use lib.ListN.{length}
 use native.Mathlib.Omega.{arith}
-use Rattle.records.proofs.Filled.{Filled, filled-none, filled-more, filled-all}
-use Rattle.records.proofs.fill.Statement.{statement}
-use Rattle.records.proofs.fill.Tie as tie
+use Rattle.long_records.proofs.Filled.{Filled, filled-none, filled-more, filled-all}
+use Rattle.long_records.proofs.fill.Statement.{statement}
+use Rattle.long_records.proofs.fill.Tie as tie
 
 abbrev Inv-loop : tie.InvT-loop
 Inv-loop b at out₀ i₀ out i = Filled b at (length out₀) out i
