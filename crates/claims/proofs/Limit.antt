@@ -26,7 +26,8 @@ use Rattle.lictor_core.specs.Masks.{anyOf, faultBits}
 use Rattle.lictor_core.specs.Rows.{rowTo}
 use Rattle.lictor_settings.specs.Settings.{badCode, badSize, badFloat, anyBelow, crossedOf, badBox, settingsTable, firstRow, checkOf, configOf}
 use Rattle.lictor_core.proofs.Rows.{row-length}
-use Rattle.lictor_guard.specs.Guard.{deliveredOf, nonFinite, lengthsOf, shapeBad, sizesBad, placeBad, headBad, deliveryBad, clockBad, schemaBad, bitIf, guardOf}
+use Rattle.lictor_delivery.specs.Delivery.{deliveredOf, sizesBad, placeBad, headBad, deliveryBad}
+use Rattle.lictor_guard.specs.Guard.{nonFinite, lengthsOf, shapeBad, clockBad, schemaBad, bitIf, guardOf}
 use Rattle.lictor_ingest.specs.Ingest.{takenRow, velocityOf, ingestOf}
 use Rattle.lictor_stages.specs.Judge.{withBrake, maskedOf, slowOf, standstillOf, judgeOf, machineInput}
 use Rattle.lictor_verdict.specs.Verdict.{verdictOf}

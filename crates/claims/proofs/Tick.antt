@@ -6,7 +6,8 @@ use lib.Bits.{bitOr}
 use Rattle.lictor_core.specs.declared.fuse.FuseRt.{FuseRt}
 use Rattle.lictor_core.specs.Masks as M
 use Rattle.lictor_settings.specs.Settings.{checkOf, configOf}
-use Rattle.lictor_guard.specs.Guard.{deliveredOf, bitIf, guardOf}
+use Rattle.lictor_delivery.specs.Delivery.{deliveredOf}
+use Rattle.lictor_guard.specs.Guard.{bitIf, guardOf}
 use Rattle.lictor_stages.specs.declared.judge.Findings.{Findings}
 use Rattle.lictor_ingest.specs.Ingest.{ingestOf, faultMotion}
 use Rattle.lictor_stages.specs.Judge.{judgeOf, machineInput, faultInput}

@@ -13,7 +13,7 @@ use Rattle.lictor_core.specs.declared.tally.Tally.{Tally}
 use Rattle.lictor_core.specs.declared.verdict.SafetyVerdict.{SafetyVerdict}
 use Rattle.lictor_core.specs.Codes.{isState}
 use Rattle.lictor_core.specs.Initial.{resetOf}
-use Rattle.lictor_guard.specs.Guard.{deliveredOf}
+use Rattle.lictor_delivery.specs.Delivery.{deliveredOf}
 use Rattle.lictor_verdict.specs.Verdict.{eventsOf, noEvents, rejectedOf}
 use Rattle.lictor_table.specs.declared.Turn.{Turn}
 use Rattle.lictor_tally.specs.History.{Item, tallyOf}

@@ -9,7 +9,8 @@ use Rattle.lictor_core.specs.Rows.{rowTo}
 use Rattle.lictor_settings.specs.Settings.{badCode, badSize, badFloat, anyBelow, crossedOf, badBox, settingsTable, firstRow, checkOf, configOf}
 use Rattle.lictor_brake.specs.Brake.{component, boxedComponent, boxedRow, scaledComponent, scaledRow, boxedAction, scaledAction, eps, brakeFactor, brakeAction, holdAction}
 use Rattle.lictor_detect.specs.Window.{bitOf, pushOf, hitsOf, clearWindow, tripOf}
-use Rattle.lictor_guard.specs.Guard.{deliveredOf, nonFinite, lengthsOf, shapeBad, sizesBad, placeBad, headBad, deliveryBad, clockBad, schemaBad, bitIf, guardOf}
+use Rattle.lictor_delivery.specs.Delivery.{deliveredOf, sizesBad, placeBad, headBad, deliveryBad}
+use Rattle.lictor_guard.specs.Guard.{nonFinite, lengthsOf, shapeBad, clockBad, schemaBad, bitIf, guardOf}
 use Rattle.lictor_table.specs.Consumed.{consumedOf}
 use Rattle.lictor_table.specs.Helpers.{faultReason, clampReason, armedReason, acceptedBy, acceptedAck, consumeNonce, latchedOf, latchHold, countIf, upIf, isClean, countRun, settledOf}
 use Rattle.lictor_table.specs.Rows.{faultRow, rearmAck, resumeRow, terminateRow, timeoutRow, waitRow, waitingOf, escalatedOf, mayRearm, rearmRow, escalateRow, holdRow, holdingOf, heldOf, confirmedOf, standstillRow, stoppingRow, brakingOf, enterBraking, brakeRow, unclampableOf, overBudget, clampRow, clearedOf, clearRow, watchedOf, quietOf, runningOf, byFrom, transitionOf, nextByRows}

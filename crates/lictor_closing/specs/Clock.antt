@@ -5,7 +5,7 @@ use Rattle.lictor_core.specs.declared.fuse.Clock.{Clock}
 use Rattle.lictor_core.specs.declared.fuse.TickInput.{TickInput}
 use Rattle.lictor_core.specs.declared.tally.Tally.{Tally}
 use Rattle.lictor_core.specs.Num.{wrapUp}
-use Rattle.lictor_guard.specs.Guard.{deliveredOf}
+use Rattle.lictor_delivery.specs.Delivery.{deliveredOf}
 use Rattle.lictor_tally.specs.Tally.{recordChunk}
 use Rattle.lictor_verdict.specs.Verdict.{rejectedOf}
 

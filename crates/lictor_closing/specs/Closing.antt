@@ -13,7 +13,7 @@ use Rattle.lictor_core.specs.declared.state.FuseState.{FuseState}
 use Rattle.lictor_core.specs.declared.tally.Tally.{Tally}
 use Rattle.lictor_core.specs.declared.verdict.SafetyVerdict.{SafetyVerdict}
 use Rattle.lictor_brake.specs.Brake.{holdAction}
-use Rattle.lictor_guard.specs.Guard.{deliveredOf}
+use Rattle.lictor_delivery.specs.Delivery.{deliveredOf}
 use Rattle.lictor_stages.specs.declared.judge.Findings.{Findings}
 use Rattle.lictor_table.specs.declared.Turn.{Turn}
 use Rattle.lictor_act.specs.Act.{actOf}

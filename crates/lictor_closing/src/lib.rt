@@ -18,7 +18,7 @@ use lictor_core::state::FuseState;
 use lictor_core::state::Time;
 use lictor_core::tally::Tally;
 use lictor_core::verdict::SafetyVerdict;
-use lictor_guard::delivered;
+use lictor_delivery::delivered;
 use lictor_stages::judge::Findings;
 use lictor_table::Turn;
 use lictor_tally::TickEvents;

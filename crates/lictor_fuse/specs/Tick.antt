@@ -25,7 +25,8 @@ use Rattle.lictor_core.specs.Initial.{zeros}
 use Rattle.lictor_core.specs.Num.{satUp}
 use Rattle.lictor_settings.specs.Settings.{checkOf, checkNumber, configOf}
 use Rattle.lictor_brake.specs.Brake.{holdAction}
-use Rattle.lictor_guard.specs.Guard.{deliveredOf, guardOf}
+use Rattle.lictor_delivery.specs.Delivery.{deliveredOf}
+use Rattle.lictor_guard.specs.Guard.{guardOf}
 use Rattle.lictor_ingest.specs.Ingest.{ingestOf, faultMotion}
 use Rattle.lictor_stages.specs.Judge.{judgeOf, machineInput, faultInput}
 use Rattle.lictor_act.specs.Act.{actOf}

@@ -1,24 +1,19 @@
--- The guard (01-scope.md, One tick; fuse.rs, guard): NONFINITE, SCHEMA and WATCHDOG, all that apply. Each cause of a bit is an operand of one `||`.
-use mathlib.Core.Bool.{Bool, true, false, not, cond, _&&_, _||_}
+-- The guard (01-scope.md, One tick; fuse.rs, guard): NONFINITE, SCHEMA and WATCHDOG, all that apply. Each cause of a bit is an operand of one `||`;
+-- those that lie in a chunk, or in that there is none, stand in lictor_delivery specs/Delivery.
+use mathlib.Core.Bool.{Bool, not, cond, _&&_, _||_}
 use mathlib.Core.List.{List}
-use Prim.Native.Nat.{ℕ, _+_, _-_, _*_}
+use Prim.Native.Nat.{ℕ, _+_}
 use lib.ListN.{length}
 use lib.Dec.{ltb, leb, eqb}
 use lib.Bits.{bitOr}
 use lib.Ieee.{Float}
 use Rattle.fmath.specs.Float.{allFinite}
-use Rattle.lictor_core.specs.declared.chunk.ChunkHead.{ChunkHead}
-use Rattle.lictor_core.specs.declared.chunk.MaybeChunk.{MaybeChunk}
 use Rattle.lictor_core.specs.declared.envelope.FuseConfig.{FuseConfig}
 use Rattle.lictor_core.specs.declared.fuse.Clock.{Clock}
 use Rattle.lictor_core.specs.declared.fuse.TickInput.{TickInput}
-use Rattle.lictor_core.specs.Cases.{byChunk}
 use Rattle.lictor_core.specs.Masks as M
+use Rattle.lictor_delivery.specs.Delivery.{deliveredOf, deliveryBad}
 use Rattle.lictor_guard.specs.declared.Lengths.{Lengths}
-
--- the tick delivers a chunk
-unfoldable pub deliveredOf : MaybeChunk → Bool
-deliveredOf c = byChunk c false (λ h. true)
 
 -- NONFINITE: a value of pos, of a supplied velocity, of aux, of ext or of a delivered chunk is not finite, whatever the list's length
 unfoldable pub nonFinite : Bool → Bool → List Float → List Float → List Float → List Float → List Float → Bool
@@ -42,29 +37,6 @@ shapeBad cfg inp l =
     || (ltb 8 (l .aux)
     || (ltb 4 (l .ext)
     || (inp .«has_vel» && not (eqb (l .vel) (cfg .«pos_dim»)))))))
-
--- SCHEMA: a chunk's dim, horizon or exec is not the settings', or it has not horizon * dim values
-unfoldable pub sizesBad : FuseConfig → ChunkHead → ℕ → Bool
-sizesBad cfg h n =
-    not (eqb (h .dim) (cfg .dim))
-    || (not (eqb (h .horizon) (cfg .horizon))
-    || (not (eqb (h .«exec_steps») (cfg .exec))
-    || not (eqb n (h .horizon * h .dim))))
-
--- SCHEMA: its number is not the next one; it was emitted after t; idx is not t - t_emit
-unfoldable pub placeBad : ChunkHead → ℕ → ℕ → ℕ → Bool
-placeBad h next t idx =
-    not (eqb (h .seq) next)
-    || (ltb t (h .«t_emit»)
-    || not (eqb idx (t - h .«t_emit»)))
-
--- a chunk whose sizes or whose place do not fit
-unfoldable pub headBad : FuseConfig → ℕ → ℕ → ℕ → ℕ → ChunkHead → Bool
-headBad cfg next t idx n h = sizesBad cfg h n || placeBad h next t idx
-
--- SCHEMA: a bad head; without a chunk, that none was taken before
-unfoldable pub deliveryBad : FuseConfig → Clock → TickInput → ℕ → Bool
-deliveryBad cfg k inp n = byChunk (inp .chunk) (not (k .filled)) (headBad cfg (k .«next_chunk_seq») (inp .t) (inp .idx) n)
 
 -- SCHEMA: the first tick is not at 0; a later one not at last_t + 1 + missed. The sum is a plain number, so that past the clock's end no t meets it.
 unfoldable pub clockBad : ℕ → ℕ → ℕ → ℕ → Bool

@@ -11,7 +11,7 @@ use Rattle.lictor_core.specs.declared.fuse.Motion.{Motion}
 use Rattle.lictor_core.specs.declared.fuse.TickInput.{TickInput}
 use Rattle.lictor_core.specs.declared.fuse.Window.{Window}
 use Rattle.lictor_core.specs.declared.outcome.Outcome.{Outcome}
-use Rattle.lictor_guard.specs.Guard.{deliveredOf}
+use Rattle.lictor_delivery.specs.Delivery.{deliveredOf}
 use Rattle.lictor_stages.specs.declared.judge.Findings.{Findings}
 use Rattle.lictor_ingest.specs.Ingest.{ingestOf, faultMotion}
 use Rattle.lictor_stages.specs.Judge.{judgeOf, machineInput, faultInput}

@@ -9,7 +9,7 @@ use lictor_core::fuse::Motion;
 use lictor_core::fuse::TickInput;
 use lictor_core::fuse::Window;
 use lictor_core::outcome::Outcome;
-use lictor_guard::delivered;
+use lictor_delivery::delivered;
 use lictor_ingest::fault_motion;
 use lictor_ingest::ingest;
 use lictor_stages::judge::Findings;

@@ -1,7 +1,7 @@
 use Rattle.lictor_core.proofs.Branch.{branches}
-use Rattle.lictor_guard.specs.Guard.{placeBad}
-use Rattle.lictor_guard.proofs.place_bad.Statement.{statement}
-use Rattle.lictor_guard.proofs.place_bad.Tie as tie
+use Rattle.lictor_delivery.specs.Delivery.{placeBad}
+use Rattle.lictor_delivery.proofs.place_bad.Statement.{statement}
+use Rattle.lictor_delivery.proofs.place_bad.Tie as tie
 
 returns : tie.Need-returns
 unfolding placeBad

@@ -1,6 +1,6 @@
 use borrow.Author.Needs.{needs}
-use Rattle.lictor_guard.proofs.not_filled.Statement.{statement}
-use Rattle.lictor_guard.proofs.not_filled.Tie as tie
+use Rattle.lictor_delivery.proofs.not_filled.Statement.{statement}
+use Rattle.lictor_delivery.proofs.not_filled.Tie as tie
 
 area-requires : tie.Need-area-requires
 area-requires c κs = search needs

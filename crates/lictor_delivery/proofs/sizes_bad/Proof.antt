@@ -1,8 +1,8 @@
 use Rattle.lictor_core.proofs.Branch.{branches}
-use Rattle.lictor_guard.specs.Guard.{sizesBad}
+use Rattle.lictor_delivery.specs.Delivery.{sizesBad}
 use borrow.Author.Needs.{needs}
-use Rattle.lictor_guard.proofs.sizes_bad.Statement.{statement}
-use Rattle.lictor_guard.proofs.sizes_bad.Tie as tie
+use Rattle.lictor_delivery.proofs.sizes_bad.Statement.{statement}
+use Rattle.lictor_delivery.proofs.sizes_bad.Tie as tie
 
 other-requires : tie.Need-other-requires
 other-requires c κs = search needs

@@ -1,8 +1,8 @@
 use Rattle.lictor_core.proofs.Branch.{branches}
-use Rattle.lictor_guard.specs.Guard.{headBad}
+use Rattle.lictor_delivery.specs.Delivery.{headBad}
 use borrow.Author.Needs.{needs}
-use Rattle.lictor_guard.proofs.head_bad.Statement.{statement}
-use Rattle.lictor_guard.proofs.head_bad.Tie as tie
+use Rattle.lictor_delivery.proofs.head_bad.Statement.{statement}
+use Rattle.lictor_delivery.proofs.head_bad.Tie as tie
 
 sizes-bad-requires : tie.Need-sizes-bad-requires
 sizes-bad-requires c κs = search needs

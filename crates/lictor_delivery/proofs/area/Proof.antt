@@ -3,8 +3,8 @@ use native.Mathlib.Nat.{mul-le-mul}
 use Prim.Native.Nat.{_≤_}
 use mir.Facts.{fits-le, fits-lit}
 use borrow.Author.Needs.{needs}
-use Rattle.lictor_guard.proofs.area.Statement.{statement}
-use Rattle.lictor_guard.proofs.area.Tie as tie
+use Rattle.lictor_delivery.proofs.area.Statement.{statement}
+use Rattle.lictor_delivery.proofs.area.Tie as tie
 
 mul-result : tie.Need-mul-result
 mul-result c = let h : c .args .h ≤ 65535 = omega arith in let d : c .args .d ≤ 65535 = omega arith in fits-le (mul-le-mul h d) (fits-lit tt)

@@ -1,8 +1,8 @@
 use Rattle.lictor_core.proofs.Branch.{branches}
-use Rattle.lictor_guard.specs.Guard.{deliveredOf}
+use Rattle.lictor_delivery.specs.Delivery.{deliveredOf}
 use borrow.Author.Needs.{needs}
-use Rattle.lictor_guard.proofs.delivered.Statement.{statement}
-use Rattle.lictor_guard.proofs.delivered.Tie as tie
+use Rattle.lictor_delivery.proofs.delivered.Statement.{statement}
+use Rattle.lictor_delivery.proofs.delivered.Tie as tie
 
 enum-told : tie.Need-enum-told
 enum-told c = search needs
