@@ -12,9 +12,7 @@ use Rattle.lictor_core.specs.declared.fuse.Motion.{Motion}
 use Rattle.lictor_core.specs.declared.fuse.Clock.{Clock}
 use Rattle.lictor_core.specs.declared.fuse.FuseRt.{FuseRt}
 use Rattle.lictor_core.specs.declared.tally.Tally.{Tally}
-use Rattle.trace_rows.specs.Row.{flagText, stateText, reasonText, handoffText, markText, reasonMarkText, nameOf, row}
-
--- ---- the lines
+use Rattle.trace_rows.specs.Row.{flagText, stateText, reasonText, handoffText, markText, reasonMarkText, row}
 
 unfoldable pub verdictLines : SafetyVerdict → List (List ℕ)
 verdictLines v =
@@ -108,14 +106,3 @@ traceLines v rt = verdictLines v ++ runLines (rt .control) (rt .motion) (rt .clo
 -- line k, none from the last on
 unfoldable pub traceText : ℕ → SafetyVerdict → FuseRt → List ℕ
 traceText k v rt = getD (traceLines v rt) k []
-
--- ---- the names alone, as the code has them: that of line k, with its `=`
-
-unfoldable pub verdictName : ℕ → List ℕ
-verdictName = nameOf (ascii "v.") (ascii "seq t status state prev_state trips action action_dim action_src substituted clamped_dims z s valid fired tau window window_hits brake_margin reason handoff_seq ack_consumed violation_reached_env")
-
-unfoldable pub runName : ℕ → List ℕ
-runName = nameOf (ascii "rt.") (ascii "filled window state seq last_t next_chunk_seq pos prev_pos vel have_prev_pos last_cmd hold clean_run clamp_streak clamps brake_ticks stopped_ticks held_ticks held_clean escalated_ticks rearms handoff_seq handoff_pending chunk_ok_this_tick last_nonce")
-
-unfoldable pub tallyName : ℕ → List ℕ
-tallyName = nameOf (ascii "tally.") (ascii "ticks nominal watching clamped braking held escalated fault terminated substituted chunks_seen chunks_rejected clamps holds rearms escalations trips_by_bit fired_by_feat first_trip_tick first_trip_reason first_stop_tick handoff_tick violations_reached_env max_s max_z terminal_state")

@@ -5,22 +5,14 @@ ghost use Prim.Native.Nat.{_<_};
 ghost use lib.ListN.{getD};
 ghost use Rattle.text.specs.Line.{lineOf};
 ghost use Rattle.trace_rows.specs.Row.{valueText, row};
-ghost use Rattle.trace_lines.specs.Trace.{runName, runLines};
+ghost use Rattle.trace_names.specs.Names.{runName};
+ghost use Rattle.trace_lines.specs.Trace.{runLines};
 use lictor_core::fuse::Clock;
 use lictor_core::fuse::Control;
 use lictor_core::fuse::Motion;
 use text::Line;
+use trace_names::run::name_of;
 use trace_rows::Value;
-
-fn name_of(k: usize) -> Line
-    ensures { λ r. ⌜ r ≡ lineOf (runName k) ⌝ }
-{
-    trace_rows::name(
-        b"rt.",
-        b"filled window state seq last_t next_chunk_seq pos prev_pos vel have_prev_pos last_cmd hold clean_run clamp_streak clamps brake_ticks stopped_ticks held_ticks held_clean escalated_ticks rearms handoff_seq handoff_pending chunk_ok_this_tick last_nonce",
-        k,
-    )
-}
 
 // The value of line k, which is no list.
 fn value_of(k: usize, control: Control, motion: Motion, clock: Clock) -> Value

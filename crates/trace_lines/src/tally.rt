@@ -5,20 +5,12 @@ ghost use Prim.Native.Nat.{_≤_, _<_};
 ghost use lib.ListN.{getD};
 ghost use Rattle.text.specs.Line.{lineOf};
 ghost use Rattle.trace_rows.specs.Row.{valueText, row};
-ghost use Rattle.trace_lines.specs.Trace.{tallyName, tallyLines};
+ghost use Rattle.trace_names.specs.Names.{tallyName};
+ghost use Rattle.trace_lines.specs.Trace.{tallyLines};
 use lictor_core::tally::Tally;
 use text::Line;
+use trace_names::tally::name_of;
 use trace_rows::Value;
-
-fn name_of(k: usize) -> Line
-    ensures { λ r. ⌜ r ≡ lineOf (tallyName k) ⌝ }
-{
-    trace_rows::name(
-        b"tally.",
-        b"ticks nominal watching clamped braking held escalated fault terminated substituted chunks_seen chunks_rejected clamps holds rearms escalations trips_by_bit fired_by_feat first_trip_tick first_trip_reason first_stop_tick handoff_tick violations_reached_env max_s max_z terminal_state",
-        k,
-    )
-}
 
 // ---- values: that of line k, which is no list
 

@@ -5,20 +5,12 @@ ghost use Prim.Native.Nat.{_≤_, _<_};
 ghost use lib.ListN.{getD};
 ghost use Rattle.text.specs.Line.{lineOf};
 ghost use Rattle.trace_rows.specs.Row.{valueText, row};
-ghost use Rattle.trace_lines.specs.Trace.{verdictName, verdictLines};
+ghost use Rattle.trace_names.specs.Names.{verdictName};
+ghost use Rattle.trace_lines.specs.Trace.{verdictLines};
 use lictor_core::verdict::SafetyVerdict;
 use text::Line;
+use trace_names::verdict::name_of;
 use trace_rows::Value;
-
-fn name_of(k: usize) -> Line
-    ensures { λ r. ⌜ r ≡ lineOf (verdictName k) ⌝ }
-{
-    trace_rows::name(
-        b"v.",
-        b"seq t status state prev_state trips action action_dim action_src substituted clamped_dims z s valid fired tau window window_hits brake_margin reason handoff_seq ack_consumed violation_reached_env",
-        k,
-    )
-}
 
 // ---- values: that of line k, which is no list
 

@@ -3,7 +3,8 @@ use Rattle.text.specs.Line.{lineOf}
 use Rattle.trace_rows.specs.Words.{behindBlanks, upToBlank, wordAt}
 use Rattle.trace_rows.specs.Row.{nameOf}
 use Rattle.trace_rows.proofs.Rows.{is-row}
-use Rattle.trace_lines.specs.Trace.{runName, runLines}
+use Rattle.trace_names.specs.Names.{runName}
+use Rattle.trace_lines.specs.Trace.{runLines}
 use Rattle.trace_lines.proofs.Rest.{list-row}
 use borrow.Author.Needs.{needs}
 use Rattle.trace_lines.proofs.run.run_line.Statement.{statement}

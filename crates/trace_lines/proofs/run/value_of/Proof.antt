@@ -4,7 +4,8 @@ use mathlib.Core.Path.{refl}
 use mathlib.Core.List.{[], _∷_}
 use Rattle.trace_rows.specs.Words.{behindBlanks, upToBlank, wordAt}
 use Rattle.trace_rows.specs.Row.{nameOf}
-use Rattle.trace_lines.specs.Trace.{runName, runLines}
+use Rattle.trace_names.specs.Names.{runName}
+use Rattle.trace_lines.specs.Trace.{runLines}
 use Rattle.trace_lines.proofs.Rest.{rest-is, valued}
 use Rattle.trace_lines.proofs.run.value_of.Statement.{statement}
 use Rattle.trace_lines.proofs.run.value_of.Tie as tie

@@ -3,7 +3,8 @@ use Rattle.text.specs.Line.{lineOf}
 use Rattle.trace_rows.specs.Words.{behindBlanks, upToBlank, wordAt}
 use Rattle.trace_rows.specs.Row.{nameOf}
 use Rattle.trace_rows.proofs.Rows.{is-row}
-use Rattle.trace_lines.specs.Trace.{tallyName, tallyLines}
+use Rattle.trace_names.specs.Names.{tallyName}
+use Rattle.trace_lines.specs.Trace.{tallyLines}
 use Rattle.trace_lines.proofs.Rest.{list-row}
 use borrow.Author.Needs.{needs}
 use Rattle.trace_lines.proofs.tally.tally_line.Statement.{statement}

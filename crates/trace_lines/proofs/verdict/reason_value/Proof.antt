@@ -3,7 +3,8 @@ use mathlib.Core.Path.{refl}
 use mathlib.Core.List.{[], _∷_}
 use Rattle.trace_rows.specs.Words.{behindBlanks, upToBlank, wordAt}
 use Rattle.trace_rows.specs.Row.{nameOf}
-use Rattle.trace_lines.specs.Trace.{verdictName, verdictLines}
+use Rattle.trace_names.specs.Names.{verdictName}
+use Rattle.trace_lines.specs.Trace.{verdictLines}
 use Rattle.trace_lines.proofs.Rest.{rest-is, valued}
 use Rattle.trace_lines.proofs.verdict.reason_value.Statement.{statement}
 use Rattle.trace_lines.proofs.verdict.reason_value.Tie as tie

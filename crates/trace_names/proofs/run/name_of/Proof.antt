@@ -1,7 +1,7 @@
 use borrow.Author.Needs.{needs}
-use Rattle.trace_lines.specs.Trace.{tallyName}
-use Rattle.trace_lines.proofs.tally.name_of.Statement.{statement}
-use Rattle.trace_lines.proofs.tally.name_of.Tie as tie
+use Rattle.trace_names.specs.Names.{runName}
+use Rattle.trace_names.proofs.run.name_of.Statement.{statement}
+use Rattle.trace_names.proofs.run.name_of.Tie as tie
 
 slice-aggregate-name : tie.Need-slice-aggregate-name
 slice-aggregate-name c = search needs
@@ -13,7 +13,7 @@ name-requires : tie.Need-name-requires
 name-requires c κs = tt
 
 returns : tie.Need-returns
-unfolding tallyName
+unfolding runName
 returns c = c .name .ensures
 
 pub name-of-spec : {M : Type 1} → statement M

@@ -1,7 +1,7 @@
 use borrow.Author.Needs.{needs}
-use Rattle.trace_lines.specs.Trace.{verdictName}
-use Rattle.trace_lines.proofs.verdict.name_of.Statement.{statement}
-use Rattle.trace_lines.proofs.verdict.name_of.Tie as tie
+use Rattle.trace_names.specs.Names.{verdictName}
+use Rattle.trace_names.proofs.verdict.name_of.Statement.{statement}
+use Rattle.trace_names.proofs.verdict.name_of.Tie as tie
 
 slice-aggregate-name : tie.Need-slice-aggregate-name
 slice-aggregate-name c = search needs
