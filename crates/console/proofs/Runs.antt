@@ -16,8 +16,8 @@ use Rattle.judge.specs.declared.Refusal.{Refusal}
 use Rattle.judge.specs.declared.Refusal.the-variants.{CutBody}
 use Rattle.judge.specs.Table.{numberOf}
 use Rattle.judge.proofs.Exactly.{numbers}
-use Rattle.reader.specs.declared.Reader.{Reader}
-use Rattle.reader.specs.State.{startReader}
+use Rattle.waiting.specs.declared.Reader.{Reader}
+use Rattle.waiting.specs.State.{startReader}
 use Rattle.reader.specs.Stream.{End, waiting, halted, Settled, telling, settled}
 use Rattle.journal.specs.declared.Run.{Run}
 use Rattle.journal.specs.Journal.{Whole, wholeOf, replayOf, startRun, startWhole, Ending, ended, refused, Meaning, endingOf, journalOf}

@@ -12,8 +12,8 @@ use journal::Run;
 use judge::Refusal;
 use libc::STDOUT_FILENO;
 use player::Turn;
-use reader::Reader;
 use text::Line;
+use waiting::Reader;
 
 // ---- part by part
 
@@ -156,7 +156,7 @@ fn run_rounds(code: u8, lists: &mut [f64; 576], buf: &mut [u8], out: &mut [u8]) 
     requires { ⌜ (now lists ≡ zeros 576) × (65536 ≡ length (now buf)) × (tickRoom ≤ length (now out)) ⌝ }
     ensures { λ r. ⌜ Ran r ⌝ }
 {
-    let rd = reader::start();
+    let rd = waiting::start();
     let run = journal::start();
     let mut r = Round {
         reader: rd,

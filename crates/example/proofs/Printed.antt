@@ -36,7 +36,7 @@ use Rattle.records.specs.Kinds.{isKnown, bodyLen}
 use Rattle.judge.specs.Causes.{unknownKind, bodyCut, beforeSettings, again, codeNotListed, sizeOutside, floatNotFinite, boxCrossed, listFull, notReady}
 use Rattle.judge.specs.Table.{refusalTable, firstRow as firstRow·judge, judgedOf, contentsOf}
 use Rattle.reader.specs.Reading.{lookAs, lookOf, callOf, onRecord, onLook, nextOf as nextOf·reader, readOf, listsAfter}
-use Rattle.reader.specs.State.{ackWaits, headWaits, valueWaits, stored, outcomeWaits, settingsCame, emptied, startReader, valuesOf, inputOf}
+use Rattle.waiting.specs.State.{ackWaits, headWaits, valueWaits, stored, outcomeWaits, settingsCame, emptied, startReader, valuesOf, inputOf}
 use Rattle.reader.specs.Stream.{settle, settled, advance, advanced, fed, whole}
 use Rattle.journal.specs.Ends.{judgedAt}
 use Rattle.journal.specs.Journal.{begunOf, restartedOf, decidedOf, tickedOf, obey, obeyed, replayOf, startRun, startWhole, journalOf, advancedOf, listsAfter as listsAfter·journal, tickOf as tickOf·journal, begunAt, resetAt}

@@ -16,7 +16,7 @@ use Rattle.judge.specs.declared.Judged.the-variants.{Accepted, Refused}
 use Rattle.judge.specs.Table.{isCut}
 use Rattle.judge.proofs.Exactly.{numbers, cut-only}
 use Rattle.reader.specs.Stream.{Next, wait, halt, go, tell, End, waiting, halted, Settled, telling, settled}
-use Rattle.reader.specs.State.{State}
+use Rattle.waiting.specs.State.{State}
 use Rattle.reader.specs.Reading.{Instruction, begin, restart, tick, nextOf}
 use Rattle.reader.proofs.Stream.{joined, settled-wait, settled-halt, settled-still, Front, front}
 use Rattle.reader.proofs.Reading.{next-refused, halted-judged, waiting-judged}

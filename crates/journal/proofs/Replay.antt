@@ -9,7 +9,7 @@ use lib.Seq.{drop-drop}
 use Rattle.lictor_fuse.specs.declared.tick.Decided.{Decided}
 use Rattle.judge.specs.declared.Refusal.{Refusal}
 use Rattle.reader.specs.Stream.{Next, wait, halt, go, tell, Advanced, past, advance, advanced, takes, size, Machine}
-use Rattle.reader.specs.State.{State}
+use Rattle.waiting.specs.State.{State}
 use Rattle.reader.specs.Reading.{Instruction, begin, restart, tick, nextOf}
 use Rattle.reader.proofs.Reading.{machine}
 use Rattle.journal.specs.Journal.{Whole, obey, obeyed, replayOf}

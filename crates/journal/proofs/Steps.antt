@@ -15,13 +15,13 @@ use Rattle.lictor_fuse.specs.declared.tick.Decided.{Decided}
 use Rattle.records.specs.Kinds.{journalKinds, bodyLen}
 use Rattle.long_records.specs.Long.{settingsOf}
 use Rattle.judge.specs.declared.Refusal.{Refusal}
-use Rattle.reader.specs.declared.Reader.{Reader}
+use Rattle.waiting.specs.declared.Reader.{Reader}
 use Rattle.reader.specs.declared.Progress.{Progress}
 use Rattle.reader.specs.declared.What.{What}
 use Rattle.reader.specs.declared.What.the-variants as W
 use Rattle.reader.proofs.What as K
 use Rattle.reader.specs.Stream.{Next, wait, halt, go, tell, Advanced, past, advanced, Reached, goesOn}
-use Rattle.reader.specs.State.{State}
+use Rattle.waiting.specs.State.{State}
 use Rattle.reader.specs.Reading.{Instruction, begin, restart, tick, bodyOf, nextOf, whatOf, readOf, listsAfter}
 use Rattle.reader.proofs.Stream.{goes, tells-on, advanced-go, advanced-wait, advanced-halt, advanced-tell, Ahead, ahead, past-none, past-past, reached-one, reached-on}
 use Rattle.reader.proofs.Reading.{machine, begins-is, resets-is}

@@ -17,10 +17,10 @@ use Rattle.long_records.specs.Long.{settingsOf}
 use Rattle.judge.specs.declared.Refusal.{Refusal}
 use Rattle.judge.specs.declared.Refusal.the-variants.{CutBody}
 use Rattle.reader.specs.Stream.{Next, wait, halt, go, tell, End, waiting, halted, settled, advanced, Reached, goesOn}
-use Rattle.reader.specs.declared.Reader.{Reader}
+use Rattle.waiting.specs.declared.Reader.{Reader}
 use Rattle.reader.specs.declared.What.{What}
 use Rattle.reader.specs.declared.What.the-variants as W
-use Rattle.reader.specs.State.{State, settingsCame, emptied, startReader}
+use Rattle.waiting.specs.State.{State, settingsCame, emptied, startReader}
 use Rattle.reader.specs.Reading.{Call, Instruction, begin, restart, tick, callOf, nextOf}
 use Rattle.journal.specs.declared.Run.{Run}
 use Rattle.journal.specs.declared.How.{How}

@@ -5,7 +5,7 @@ ghost use lib.ListN.{length};
 ghost use Rattle.bytes_le.specs.Little.{byteAt};
 ghost use Rattle.records.specs.Kinds.{journalKinds, bodyLen};
 ghost use Rattle.reader.specs.Reading.{callOf};
-ghost use Rattle.reader.specs.State.{valuesOf};
+ghost use Rattle.waiting.specs.State.{valuesOf};
 ghost use Rattle.journal.specs.Journal.{begunOf, restartedOf, decidedOf, startRun, wholeOf, advancedOf, listsAfter, tickOf, begunAt, resetAt, howBy, Stepped};
 use judge::Refusal;
 use judge::Seen;
@@ -16,8 +16,8 @@ use lictor_core::fuse::TickInput;
 use lictor_core::verdict::SafetyVerdict;
 use lictor_fuse::tick::Decided;
 use lictor_fuse::tick::decide;
-use reader::Reader;
 use reader::What;
+use waiting::Reader;
 
 // The fuse: its configuration and its run state.
 pub struct Run {
@@ -72,7 +72,7 @@ fn values(seen: Seen, lists: &[f64], c: usize) -> &[f64]
 {
     let counts = seen.counts;
     let n = lictor_core::num::least(counts[c], judge::capacity(c));
-    let a = reader::base(c);
+    let a = waiting::base(c);
     let e = a + n;
     &lists[a..e]
 }
@@ -108,7 +108,7 @@ pub fn tick(rd: Reader, run: Run, lists: &[f64; 576], inp: TickInput) -> Ticked
     let rt = d.rt;
     let verdict = d.verdict;
     let after = Run { config, rt };
-    let reader = reader::emptied(rd);
+    let reader = waiting::emptied(rd);
     Ticked {
         reader,
         run: after,
@@ -136,7 +136,7 @@ fn begin_at(rd: Reader, s: &[u8], at: usize) -> Step
     let e = a + records::body_len(k);
     let settings = long_records::read_settings(&s[a..e]);
     Step {
-        reader: reader::begun(rd),
+        reader: waiting::begun(rd),
         run: begin(settings),
         at: e,
         how: How::Waits,
@@ -153,7 +153,7 @@ fn reset_at(rd: Reader, run: Run, s: &[u8], at: usize) -> Step
     let a = at + 1;
     let e = a + records::body_len(k);
     Step {
-        reader: reader::emptied(rd),
+        reader: waiting::emptied(rd),
         run: restart(run),
         at: e,
         how: How::Waits,

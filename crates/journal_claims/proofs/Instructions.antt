@@ -6,7 +6,7 @@ use lib.ListN.{drop}
 use Rattle.lictor_fuse.specs.declared.tick.Decided.{Decided}
 use Rattle.judge.specs.declared.Refusal.{Refusal}
 use Rattle.reader.specs.Stream.{Next, wait, halt, go, tell, Settled, after, settle, settled}
-use Rattle.reader.specs.State.{State}
+use Rattle.waiting.specs.State.{State}
 use Rattle.reader.specs.Reading.{Instruction, begin, restart, tick, nextOf}
 use Rattle.journal.specs.declared.Run.{Run}
 use Rattle.journal.specs.Journal.{begunOf, restartedOf, decidedOf, tickedOf, Whole, obey, obeyed, replayOf, startRun, startWhole, journalOf}

@@ -26,7 +26,7 @@ use Rattle.judge.specs.Table.{isCut, refusalTable, judgedOf}
 use Rattle.judge.specs.Exactly.{Passes, not-this-row}
 use Rattle.judge.proofs.Exactly.{accepted-so}
 use Rattle.reader.specs.Stream.{Next, wait, halt, go, tell, after, settle, settled}
-use Rattle.reader.specs.State.{State, ackWaits, headWaits, valueWaits, outcomeWaits, settingsCame, emptied, startReader}
+use Rattle.waiting.specs.State.{State, ackWaits, headWaits, valueWaits, outcomeWaits, settingsCame, emptied, startReader}
 use Rattle.reader.specs.Reading.{Instruction, begin, restart, tick, onRecord, nextOf}
 use Rattle.reader.proofs.Reading.{machine, next-refused, next-accepted}
 use Rattle.journal.specs.Journal.{startWhole}

@@ -17,7 +17,7 @@ use Rattle.judge.specs.declared.Refusal.{Refusal}
 use Rattle.judge.specs.Table.{numberOf}
 use Rattle.reader.specs.declared.What.the-variants as W
 use Rattle.reader.specs.Stream.{Next, wait, halt, go, tell, waiting, halted, Settled, telling, settled, Advanced, advanced, goesOn}
-use Rattle.reader.specs.State.{State, emptied}
+use Rattle.waiting.specs.State.{State, emptied}
 use Rattle.reader.specs.Reading.{Instruction, begin, restart, tick, callOf, withReader, nextOf, whatOf}
 use Rattle.reader.proofs.Stream.{Ahead, ahead, settled-wait, settled-halt, settled-tell, tells-on, telling-telling}
 use Rattle.reader.proofs.Reading.{ticks-is}

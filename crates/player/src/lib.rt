@@ -8,7 +8,7 @@ ghost use Rattle.player.specs.Play.{tickRoom, tickedOf, Turned, goesOnOf
 use journal::How;
 use journal::Run;
 use lictor_core::fuse::TickInput;
-use reader::Reader;
+use waiting::Reader;
 
 // ---- from tick to tick
 

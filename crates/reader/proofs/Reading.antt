@@ -29,7 +29,7 @@ use Rattle.reader.specs.declared.Look.the-variants as L
 use Rattle.reader.specs.Stream.{Next, wait, halt, tell, takes, size, Machine, End, waiting, halted, settled}
 use Rattle.reader.specs.declared.What.{What}
 use Rattle.reader.specs.declared.What.the-variants as W
-use Rattle.reader.specs.State.{State, settingsCame, emptied, inputOf}
+use Rattle.waiting.specs.State.{State, settingsCame, emptied, inputOf}
 use Rattle.reader.specs.Reading.{Instruction, begin, restart, tick, lookAs, lookOf, callOf, withReader, onRecord, bodyOf, onLook, nextOf, whatOf}
 use Rattle.reader.proofs.Stream.{settled-still}
 

@@ -33,13 +33,13 @@ use Rattle.judge.specs.Table.{isCut, judgedOf}
 use Rattle.judge.proofs.Framing.{accepted-whole, accepted-list, accepted-room}
 use Rattle.reader.specs.declared.Look.{Look}
 use Rattle.reader.specs.declared.Look.the-variants as L
-use Rattle.reader.specs.declared.Waiting.{Waiting}
-use Rattle.reader.specs.declared.Reader.{Reader}
+use Rattle.waiting.specs.declared.Waiting.{Waiting}
+use Rattle.waiting.specs.declared.Reader.{Reader}
 use Rattle.reader.specs.declared.What.{What}
 use Rattle.reader.specs.declared.What.the-variants as W
 use Rattle.reader.specs.declared.Took.{Took}
 use Rattle.reader.specs.declared.Turn.{Turn}
-use Rattle.reader.specs.State.{State, bases, ackWaits, headWaits, valueWaits, stored, outcomeWaits, inputOf}
+use Rattle.waiting.specs.State.{State, bases, ackWaits, headWaits, valueWaits, stored, outcomeWaits, inputOf}
 use Rattle.reader.specs.Stream.{go, goesOn, Reached}
 use Rattle.reader.specs.Reading.{Instruction, lookAs, lookOf, callOf, onRecord, onLook, nextOf, whatOf, bodyOf}
 use Rattle.reader.specs.Steps.{stateOf, Room, isSmall, looksSmall, Added, TookOne, Collected, Instructs, Turned}

@@ -17,14 +17,14 @@ use Rattle.judge.specs.declared.Refusal.{Refusal}
 use Rattle.judge.specs.declared.Judged.{Judged}
 use Rattle.judge.specs.declared.Judged.the-variants.{Accepted, Refused}
 use Rattle.judge.specs.Table.{isCut, judgedOf}
-use Rattle.reader.specs.declared.Reader.{Reader}
+use Rattle.waiting.specs.declared.Reader.{Reader}
 use Rattle.reader.specs.declared.Look.{Look}
 use Rattle.reader.specs.declared.Look.the-variants as L
 use Rattle.reader.specs.declared.What.{What}
 use Rattle.reader.specs.declared.What.the-variants.{Waits, Refuses, Begins, Resets, Ticks}
 use Rattle.reader.specs.declared.Progress.{Progress}
 use Rattle.reader.specs.Stream.{Next, wait, halt, go, tell, advanced}
-use Rattle.reader.specs.State.{State, ackWaits, headWaits, valueWaits, stored, withWaiting, outcomeWaits, settingsCame, emptied, valuesOf, inputOf}
+use Rattle.waiting.specs.State.{State, ackWaits, headWaits, valueWaits, stored, withWaiting, outcomeWaits, settingsCame, emptied, valuesOf, inputOf}
 
 -- ---- the record at the front
 

@@ -12,14 +12,14 @@ use Rattle.records.specs.declared.Record.the-variants.{Settings, Reset, Ack, He
 use Rattle.judge.specs.declared.Refusal.{Refusal}
 use Rattle.judge.specs.declared.Seen.{Seen}
 use Rattle.judge.specs.Causes.{capacities, countOf}
-use Rattle.reader.specs.declared.Waiting.{Waiting}
-use Rattle.reader.specs.declared.Reader.{Reader}
+use Rattle.waiting.specs.declared.Waiting.{Waiting}
+use Rattle.waiting.specs.declared.Reader.{Reader}
 use Rattle.reader.specs.declared.Look.{Look}
 use Rattle.reader.specs.declared.Look.the-variants as L
 use Rattle.reader.specs.declared.Took.{Took}
 use Rattle.reader.specs.declared.Turn.{Turn}
 use Rattle.reader.specs.Stream.{go, goesOn, Reached}
-use Rattle.reader.specs.State.{State}
+use Rattle.waiting.specs.State.{State}
 use Rattle.reader.specs.Reading.{Instruction, lookOf, bodyOf, onRecord, nextOf, whatOf}
 
 abbrev pub stateOf : Waiting → O.Outcome → List Float → State

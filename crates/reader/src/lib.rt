@@ -1,43 +1,22 @@
 // Reads a journal, in parts of any sizes: bytes to instructions for the fuse.
-ghost use mathlib.Core.Bool.{Bool, false, cond};
+ghost use mathlib.Core.Bool.{false};
 ghost use mathlib.Core.List.{[]};
 ghost use mathlib.Core.Path.{_≡_};
 ghost use Prim.Native.Nat.{_+_, _<_, _≤_, _^_};
 ghost use lib.ListN.{length, drop, getD};
 ghost use Rattle.judge.specs.declared.Judged.the-variants as Judged;
-ghost use Rattle.lictor_core.specs.declared.ack.MaybeAck.the-variants as MaybeAck;
-ghost use Rattle.lictor_core.specs.declared.chunk.MaybeChunk.the-variants as MaybeChunk;
 ghost use Rattle.judge.specs.Causes.{capacities, countOf};
 ghost use Rattle.judge.specs.Table.{isCut};
-ghost use Rattle.reader.specs.State.{bases, ackWaits, headWaits, valueWaits, stored, outcomeWaits, settingsCame, emptied as State·emptied, startReader, inputOf};
+ghost use Rattle.waiting.specs.State.{valueWaits, stored};
 ghost use Rattle.reader.specs.Reading.{lookAs, lookOf, readOf, listsAfter};
 ghost use Rattle.reader.specs.Steps.{Room, isSmall, Added, TookOne, Collected, Instructs, Turned};
 use judge::Judged;
 use judge::Refusal;
 use judge::Seen;
-use lictor_core::ack::AckDecision;
-use lictor_core::ack::MaybeAck;
-use lictor_core::ack::VerifiedAck;
-use lictor_core::chunk::ChunkHead;
-use lictor_core::chunk::MaybeChunk;
 use lictor_core::fuse::TickInput;
-use lictor_core::outcome::Outcome;
 use records::Record;
-use records::TickNumbers;
-
-// What waits for a tick, but for the outcome: small, since it goes by value with each record.
-pub struct Waiting {
-    pub seen: Seen,
-    // the last that came; it waits where `seen` says so
-    pub ack: VerifiedAck,
-    pub head: ChunkHead,
-}
-
-// All that waits, but for the values of the lists, which are in lent memory.
-pub struct Reader {
-    pub waiting: Waiting,
-    pub outcome: Outcome,
-}
+use waiting::Reader;
+use waiting::Waiting;
 
 // The record at the front of some bytes.
 pub enum Look {
@@ -62,19 +41,6 @@ pub struct Progress {
     // the bytes up to there
     pub used: usize,
     pub what: What,
-}
-
-// Where a list begins in the lent memory, 0 for one that is not listed.
-pub fn base(c: usize) -> usize
-    ensures { λ r. ⌜ r ≡ getD bases c 0 ⌝ }
-{
-    match c {
-        1 => 512,
-        2 => 528,
-        3 => 544,
-        4 => 560,
-        _ => 0,
-    }
 }
 
 fn is_cut(r: Refusal) -> bool
@@ -120,24 +86,6 @@ fn look_at(seen: Seen, s: &[u8], at: usize) -> Look
 
 // ---- records that only wait
 
-fn with_ack(w: Waiting, a: VerifiedAck) -> Waiting
-    ensures { λ r. ⌜ r ≡ ackWaits w a ⌝ }
-{
-    let mut seen = w.seen;
-    seen.ack = true;
-    let head = w.head;
-    Waiting { seen, ack: a, head }
-}
-
-fn with_head(w: Waiting, h: ChunkHead) -> Waiting
-    ensures { λ r. ⌜ r ≡ headWaits w h ⌝ }
-{
-    let mut seen = w.seen;
-    seen.head = true;
-    let ack = w.ack;
-    Waiting { seen, ack, head: h }
-}
-
 fn with_value(w: Waiting, c: u8) -> Waiting
     requires { ⌜ (c < 5) × (countOf (w .seen) c < getD capacities c 0) ⌝ }
     ensures { λ r. ⌜ r ≡ valueWaits w c ⌝ }
@@ -159,7 +107,7 @@ fn store(lists: &mut [f64; 576], seen: Seen, c: u8, x: f64) -> usize
 {
     let i = c as usize;
     let counts = seen.counts;
-    let at = base(i) + counts[i];
+    let at = waiting::base(i) + counts[i];
     lists[at] = x;
     at
 }
@@ -181,13 +129,13 @@ fn add(w: Waiting, lists: &mut [f64; 576], at: usize, n: usize, x: Record) -> To
     let e = at + n + 1;
     match x {
         Record::Ack(a) => Took {
-            waiting: with_ack(w, a),
+            waiting: waiting::with_ack(w, a),
             at: e,
             look: Look::Waits,
             more: true,
         },
         Record::Head(h) => Took {
-            waiting: with_head(w, h),
+            waiting: waiting::with_head(w, h),
             at: e,
             look: Look::Waits,
             more: true,
@@ -247,84 +195,6 @@ fn collect(w: Waiting, lists: &mut [f64; 576], s: &[u8], at: usize) -> Took
 
 // ---- records that instruct
 
-fn chunk_of(w: Waiting) -> MaybeChunk
-    ensures { λ r. ⌜ r ≡ cond (w .seen .head) (MaybeChunk.Delivered (w .head)) MaybeChunk.NoChunk ⌝ }
-{
-    let seen = w.seen;
-    if seen.head {
-        let head = w.head;
-        return MaybeChunk::Delivered(head);
-    }
-    MaybeChunk::NoChunk
-}
-
-fn ack_of(w: Waiting) -> MaybeAck
-    ensures { λ r. ⌜ r ≡ cond (w .seen .ack) (MaybeAck.Given (w .ack)) MaybeAck.NoAck ⌝ }
-{
-    let seen = w.seen;
-    if seen.ack {
-        let ack = w.ack;
-        return MaybeAck::Given(ack);
-    }
-    MaybeAck::NoAck
-}
-
-fn input_of(w: Waiting, n: TickNumbers) -> TickInput
-    ensures { λ r. ⌜ r ≡ inputOf w n ⌝ }
-{
-    let chunk = chunk_of(w);
-    let ack = ack_of(w);
-    TickInput {
-        t: n.t,
-        idx: n.idx,
-        missed_ticks: n.missed_ticks,
-        schema_fault: n.schema_fault,
-        has_vel: n.has_vel,
-        chunk,
-        ack,
-    }
-}
-
-fn with_outcome(rd: Reader, o: Outcome) -> Reader
-    ensures { λ r. ⌜ r ≡ outcomeWaits rd o ⌝ }
-{
-    let mut waiting = rd.waiting;
-    let mut seen = waiting.seen;
-    seen.outcome = true;
-    waiting.seen = seen;
-    Reader {
-        waiting,
-        outcome: o,
-    }
-}
-
-// The reader after settings.
-pub fn begun(rd: Reader) -> Reader
-    ensures { λ r. ⌜ r ≡ settingsCame rd ⌝ }
-{
-    let mut waiting = rd.waiting;
-    let mut seen = waiting.seen;
-    seen.settings = true;
-    waiting.seen = seen;
-    let outcome = rd.outcome;
-    Reader { waiting, outcome }
-}
-
-// The reader after a reset or a tick: nothing waits.
-pub fn emptied(rd: Reader) -> Reader
-    ensures { λ r. ⌜ r ≡ State·emptied rd ⌝ }
-{
-    let mut waiting = rd.waiting;
-    let mut seen = waiting.seen;
-    seen.ack = false;
-    seen.head = false;
-    seen.outcome = false;
-    seen.counts = [0; 5];
-    waiting.seen = seen;
-    let outcome = rd.outcome;
-    Reader { waiting, outcome }
-}
-
 struct Turn {
     reader: Reader,
     at: usize,
@@ -345,7 +215,7 @@ fn instruct(rd: Reader, lists: &[f64; 576], s: &[u8], at: usize, n: usize, x: Re
             let e = a + n;
             let o = long_records::read_outcome(&s[a..e]);
             Turn {
-                reader: with_outcome(rd, o),
+                reader: waiting::with_outcome(rd, o),
                 at: e,
                 what: What::Waits,
                 more: true,
@@ -366,7 +236,7 @@ fn instruct(rd: Reader, lists: &[f64; 576], s: &[u8], at: usize, n: usize, x: Re
         Record::Tick(t) => Turn {
             reader: rd,
             at,
-            what: What::Ticks(input_of(w, t)),
+            what: What::Ticks(waiting::input_of(w, t)),
             more: false,
         },
         Record::Ack(_) | Record::Head(_) | Record::Value(_, _) => Turn {
@@ -405,36 +275,6 @@ fn take_turn(rd: Reader, lists: &mut [f64; 576], s: &[u8], at: usize) -> Turn
             more: false,
         },
     }
-}
-
-// The reader before the first byte.
-pub fn start() -> Reader
-    ensures { λ r. ⌜ r ≡ startReader ⌝ }
-{
-    let seen = Seen {
-        settings: false,
-        ack: false,
-        head: false,
-        outcome: false,
-        counts: [0; 5],
-    };
-    let decision = AckDecision::Resume;
-    let ack = VerifiedAck {
-        decision,
-        operator_slot: 0,
-        nonce: 0,
-        handoff_seq: 0,
-    };
-    let head = ChunkHead {
-        seq: 0,
-        t_emit: 0,
-        horizon: 0,
-        dim: 0,
-        exec_steps: 0,
-    };
-    let waiting = Waiting { seen, ack, head };
-    let outcome = long_records::read_outcome(b"");
-    Reader { waiting, outcome }
 }
 
 // Takes all records up to the next that instructs the fuse, that is turned away or that is not there whole, and says what comes there.

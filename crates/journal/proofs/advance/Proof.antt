@@ -8,7 +8,7 @@ use lib.ListN.{length, drop}
 use lib.Ieee.{Float}
 use Rattle.lictor_fuse.specs.declared.tick.Decided.{Decided}
 use Rattle.judge.specs.declared.Refusal.{Refusal}
-use Rattle.reader.specs.declared.Reader.{Reader}
+use Rattle.waiting.specs.declared.Reader.{Reader}
 use Rattle.reader.specs.Stream.{Advanced, Reached, goesOn}
 use Rattle.reader.specs.Reading.{nextOf}
 use Rattle.reader.proofs.Stream.{reached-none, reached-on, reached-end}

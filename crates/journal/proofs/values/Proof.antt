@@ -5,7 +5,7 @@ use native.Mathlib.Nat.{add-sub-cancel-left}
 use native.Mathlib.Omega.{arith}
 use lib.ListN.{getD, take, drop}
 use Rattle.judge.specs.Causes.{capacities, countOf}
-use Rattle.reader.specs.State.{bases, valuesOf}
+use Rattle.waiting.specs.State.{bases, valuesOf}
 use Rattle.reader.proofs.Steps.{list-fits}
 use Rattle.journal.proofs.values.Statement.{statement}
 use Rattle.journal.proofs.values.Tie as tie

@@ -7,7 +7,7 @@ use mathlib.Core.List.{List}
 use lib.ListN.{length, drop}
 use lib.Ieee.{Float}
 use Rattle.lictor_core.specs.declared.outcome.Outcome.{Outcome}
-use Rattle.reader.specs.declared.Waiting.{Waiting}
+use Rattle.waiting.specs.declared.Waiting.{Waiting}
 use Rattle.reader.specs.declared.Look.the-variants as L
 use Rattle.reader.specs.declared.Took.{Took}
 use Rattle.reader.specs.Stream.{Reached}

@@ -8,10 +8,10 @@ use lib.ListN.{length, drop}
 use lib.Ieee.{Float}
 use Rattle.judge.specs.declared.Refusal.{Refusal}
 use Rattle.reader.specs.declared.Progress.{Progress}
-use Rattle.reader.specs.declared.Reader.{Reader}
+use Rattle.waiting.specs.declared.Reader.{Reader}
 use Rattle.reader.specs.declared.Turn.{Turn}
 use Rattle.reader.specs.declared.What.the-variants.{Waits}
-use Rattle.reader.specs.State.{State}
+use Rattle.waiting.specs.State.{State}
 use Rattle.reader.specs.Stream.{Advanced, Reached, goesOn}
 use Rattle.reader.specs.Reading.{Instruction, nextOf, whatOf, readOf, listsAfter}
 use Rattle.reader.specs.Steps.{Turned}

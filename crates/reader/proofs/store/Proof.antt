@@ -3,7 +3,7 @@ use mathlib.Core.Path.{refl}
 use Rattle.judge.specs.Causes.{countOf}
 use native.Mathlib.Omega.{arith}
 use Rattle.reader.proofs.Steps.{room-fits}
-use Rattle.reader.specs.State.{stored}
+use Rattle.waiting.specs.State.{stored}
 use borrow.Author.Needs.{needs}
 use Rattle.reader.proofs.store.Statement.{statement}
 use Rattle.reader.proofs.store.Tie as tie

@@ -2,7 +2,7 @@ use mathlib.Core.Path.{refl}
 use Rattle.judge.specs.Causes.{countOf}
 use native.Mathlib.Omega.{arith}
 use Rattle.reader.proofs.Steps.{room-fits}
-use Rattle.reader.specs.State.{valueWaits}
+use Rattle.waiting.specs.State.{valueWaits}
 use borrow.Author.Needs.{needs}
 use Rattle.reader.proofs.with_value.Statement.{statement}
 use Rattle.reader.proofs.with_value.Tie as tie

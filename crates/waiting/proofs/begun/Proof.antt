@@ -1,7 +1,7 @@
 use mathlib.Core.Path.{refl}
-use Rattle.reader.specs.State.{settingsCame}
-use Rattle.reader.proofs.begun.Statement.{statement}
-use Rattle.reader.proofs.begun.Tie as tie
+use Rattle.waiting.specs.State.{settingsCame}
+use Rattle.waiting.proofs.begun.Statement.{statement}
+use Rattle.waiting.proofs.begun.Tie as tie
 
 returns : tie.Need-returns
 unfolding settingsCame

@@ -1,7 +1,7 @@
-use Rattle.reader.specs.State.{inputOf}
+use Rattle.waiting.specs.State.{inputOf}
 use borrow.Author.Needs.{needs}
-use Rattle.reader.proofs.input_of.Statement.{statement}
-use Rattle.reader.proofs.input_of.Tie as tie
+use Rattle.waiting.proofs.input_of.Statement.{statement}
+use Rattle.waiting.proofs.input_of.Tie as tie
 
 chunk-of-requires : tie.Need-chunk-of-requires
 chunk-of-requires c κs = search needs

@@ -1,7 +1,7 @@
 use Rattle.lictor_core.proofs.Branch.{branches}
 use borrow.Author.Needs.{needs}
-use Rattle.reader.proofs.chunk_of.Statement.{statement}
-use Rattle.reader.proofs.chunk_of.Tie as tie
+use Rattle.waiting.proofs.chunk_of.Statement.{statement}
+use Rattle.waiting.proofs.chunk_of.Tie as tie
 
 returns : tie.Need-returns
 returns c = search branches depth 12

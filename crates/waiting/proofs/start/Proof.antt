@@ -1,10 +1,10 @@
-use Rattle.reader.specs.State.{startReader}
+use Rattle.waiting.specs.State.{startReader}
 use Rattle.records.specs.Body.{ackOf, headOf}
 use Rattle.lictor_core.specs.Codes.{decisionOf}
 use Rattle.bytes_le.specs.Little.{leAt}
 use borrow.Author.Needs.{needs}
-use Rattle.reader.proofs.start.Statement.{statement}
-use Rattle.reader.proofs.start.Tie as tie
+use Rattle.waiting.proofs.start.Statement.{statement}
+use Rattle.waiting.proofs.start.Tie as tie
 
 slice-aggregate-read-outcome : tie.Need-slice-aggregate-read-outcome
 slice-aggregate-read-outcome c = search needs

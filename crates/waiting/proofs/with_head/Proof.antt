@@ -1,7 +1,7 @@
 use mathlib.Core.Path.{refl}
-use Rattle.reader.specs.State.{headWaits}
-use Rattle.reader.proofs.with_head.Statement.{statement}
-use Rattle.reader.proofs.with_head.Tie as tie
+use Rattle.waiting.specs.State.{headWaits}
+use Rattle.waiting.proofs.with_head.Statement.{statement}
+use Rattle.waiting.proofs.with_head.Tie as tie
 
 returns : tie.Need-returns
 unfolding headWaits

@@ -2,10 +2,10 @@
 use Prim.Native.Nat.{ℕ, zero, suc}
 use mathlib.Core.Path.{_≡_, refl}
 use lib.ListN.{getD}
-use Rattle.reader.specs.State.{bases}
+use Rattle.waiting.specs.State.{bases}
 use borrow.Author.Needs.{needs}
-use Rattle.reader.proofs.base.Statement.{statement}
-use Rattle.reader.proofs.base.Tie as tie
+use Rattle.waiting.proofs.base.Statement.{statement}
+use Rattle.waiting.proofs.base.Tie as tie
 
 other : (c : ℕ) → (c ≡ 1 → ⊥) → (c ≡ 2 → ⊥) → (c ≡ 3 → ⊥) → (c ≡ 4 → ⊥) → 0 ≡ getD bases c 0
 other zero p q r s = refl

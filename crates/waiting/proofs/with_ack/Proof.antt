@@ -1,7 +1,7 @@
 use mathlib.Core.Path.{refl}
-use Rattle.reader.specs.State.{ackWaits}
-use Rattle.reader.proofs.with_ack.Statement.{statement}
-use Rattle.reader.proofs.with_ack.Tie as tie
+use Rattle.waiting.specs.State.{ackWaits}
+use Rattle.waiting.proofs.with_ack.Statement.{statement}
+use Rattle.waiting.proofs.with_ack.Tie as tie
 
 returns : tie.Need-returns
 unfolding ackWaits

@@ -15,8 +15,8 @@ use Rattle.records.specs.Body.{ackOf, headOf}
 use Rattle.long_records.specs.Long.{outcomeOf}
 use Rattle.judge.specs.declared.Seen.{Seen}
 use Rattle.judge.specs.Causes.{capacities, countOf}
-use Rattle.reader.specs.declared.Waiting.{Waiting}
-use Rattle.reader.specs.declared.Reader.{Reader}
+use Rattle.waiting.specs.declared.Waiting.{Waiting}
+use Rattle.waiting.specs.declared.Reader.{Reader}
 
 -- the reader, and the lent memory: 512 places for the chunk's values, then 16 each for pos, vel, aux and ext
 pub record State : Type 0 where

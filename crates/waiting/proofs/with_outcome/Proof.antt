@@ -1,7 +1,7 @@
 use mathlib.Core.Path.{refl}
-use Rattle.reader.specs.State.{outcomeWaits}
-use Rattle.reader.proofs.with_outcome.Statement.{statement}
-use Rattle.reader.proofs.with_outcome.Tie as tie
+use Rattle.waiting.specs.State.{outcomeWaits}
+use Rattle.waiting.proofs.with_outcome.Statement.{statement}
+use Rattle.waiting.proofs.with_outcome.Tie as tie
 
 returns : tie.Need-returns
 unfolding outcomeWaits

@@ -1,7 +1,7 @@
 use mathlib.Core.Path.{refl}
-use Rattle.reader.specs.State.{emptied}
-use Rattle.reader.proofs.emptied.Statement.{statement}
-use Rattle.reader.proofs.emptied.Tie as tie
+use Rattle.waiting.specs.State.{emptied}
+use Rattle.waiting.proofs.emptied.Statement.{statement}
+use Rattle.waiting.proofs.emptied.Tie as tie
 
 returns : tie.Need-returns
 unfolding emptied
