@@ -13,7 +13,8 @@ use Rattle.lictor_fuse.specs.declared.tick.Decided.{Decided}
 use Rattle.judge.specs.declared.Refusal.{Refusal}
 use Rattle.reader.specs.Stream.{Next, wait, halt, go, tell, End, waiting, halted, Settled, telling, settled}
 use Rattle.reader.proofs.Stream.{goes, tells-on, settled-wait, settled-halt, settled-go, settled-tell, telling-telling}
-use Rattle.journal.specs.Journal.{Whole, wholeOf, replayOf}
+use Rattle.journal_tick.specs.Tick.{Whole, wholeOf}
+use Rattle.journal.specs.Journal.{replayOf}
 use Rattle.journal.proofs.Replay.{replay}
 use Rattle.render.specs.Text.{eventText}
 use Rattle.player.specs.declared.Turn.{Turn}

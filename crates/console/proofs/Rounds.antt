@@ -14,7 +14,8 @@ use Rattle.reader.specs.Stream.{wait, End, waiting, halted, telling, settled}
 use Rattle.reader.specs.Reading.{nextOf}
 use Rattle.reader.proofs.Stream.{joined, settled-still, telling-telling}
 use Rattle.reader.proofs.Reading.{waits-short}
-use Rattle.journal.specs.Journal.{Whole, wholeOf, replayOf}
+use Rattle.journal_tick.specs.Tick.{Whole, wholeOf}
+use Rattle.journal.specs.Journal.{replayOf}
 use Rattle.journal.proofs.Replay.{replay}
 use Rattle.journal.proofs.Ends.{waits-as}
 use Rattle.intake.specs.Intake.{movedDown, Came}

@@ -19,8 +19,9 @@ use Rattle.judge.proofs.Exactly.{numbers}
 use Rattle.waiting.specs.declared.Reader.{Reader}
 use Rattle.waiting.specs.State.{startReader}
 use Rattle.reader.specs.Stream.{End, waiting, halted, Settled, telling, settled}
-use Rattle.journal.specs.declared.Run.{Run}
-use Rattle.journal.specs.Journal.{Whole, wholeOf, replayOf, startRun, startWhole, Ending, ended, refused, Meaning, endingOf, journalOf}
+use Rattle.journal_tick.specs.declared.Run.{Run}
+use Rattle.journal_tick.specs.Tick.{Whole, wholeOf}
+use Rattle.journal.specs.Journal.{replayOf, startRun, startWhole, Ending, ended, refused, Meaning, endingOf, journalOf}
 use Rattle.report.specs.Lines.{endText, refusedText}
 use Rattle.console.specs.declared.Round.{Round}
 use Rattle.console.specs.declared.Ended.{Ended}

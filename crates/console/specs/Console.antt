@@ -13,8 +13,9 @@ use Rattle.judge.specs.declared.Refusal.{Refusal}
 use Rattle.judge.specs.declared.Refusal.the-variants.{CutBody}
 use Rattle.judge.specs.Table.{numberOf}
 use Rattle.reader.specs.Stream.{End, waiting, halted, telling, settled}
-use Rattle.journal.specs.declared.Run.{Run}
-use Rattle.journal.specs.Journal.{Whole, wholeOf, replayOf, Ending, ended, refused, journalOf}
+use Rattle.journal_tick.specs.declared.Run.{Run}
+use Rattle.journal_tick.specs.Tick.{Whole, wholeOf}
+use Rattle.journal.specs.Journal.{replayOf, Ending, ended, refused, journalOf}
 use Rattle.report.specs.Lines.{endText, refusedText}
 use Rattle.player.specs.declared.Turn.{Turn}
 use Rattle.player.specs.Play.{eventsText, Fed}

@@ -39,7 +39,8 @@ use Rattle.reader.specs.Reading.{lookAs, lookOf, callOf, onRecord, onLook, next
 use Rattle.waiting.specs.State.{ackWaits, headWaits, valueWaits, stored, outcomeWaits, settingsCame, emptied, startReader, valuesOf, inputOf}
 use Rattle.reader.specs.Stream.{settle, settled, advance, advanced, fed, whole}
 use Rattle.journal.specs.Ends.{judgedAt}
-use Rattle.journal.specs.Journal.{begunOf, restartedOf, decidedOf, tickedOf, obey, obeyed, replayOf, startRun, startWhole, journalOf, advancedOf, listsAfter as listsAfter·journal, tickOf as tickOf·journal, begunAt, resetAt}
+use Rattle.journal_tick.specs.Tick.{decidedOf, tickedOf, tickOf as tickOf·journal}
+use Rattle.journal.specs.Journal.{begunOf, restartedOf, obey, obeyed, replayOf, startRun, startWhole, journalOf, advancedOf, listsAfter as listsAfter·journal, begunAt, resetAt}
 use Rattle.render.specs.Text.{traceUpTo, eventText, placeAfter, memoryAfter}
 use Rattle.player.specs.Play.{eventsText, played, playOf, fedOf, turnOf, goesOnOf}
 use Rattle.console.specs.Console.{lastText, textOf, endedOf, endNumber, endPlace, lastOf}

@@ -20,7 +20,8 @@ use Rattle.waiting.specs.State.{State}
 use Rattle.reader.specs.Reading.{Instruction, begin, restart, tick, nextOf}
 use Rattle.reader.proofs.Stream.{joined, settled-wait, settled-halt, settled-still, Front, front}
 use Rattle.reader.proofs.Reading.{next-refused, halted-judged, waiting-judged}
-use Rattle.journal.specs.Journal.{Whole, obey, obeyed, replayOf, startWhole, Ending, ended, refused, Meaning, endingOf, journalOf}
+use Rattle.journal_tick.specs.Tick.{Whole}
+use Rattle.journal.specs.Journal.{obey, obeyed, replayOf, startWhole, Ending, ended, refused, Meaning, endingOf, journalOf}
 use Rattle.journal.specs.Ends.{judgedAt, TurnedAway, LeftAsBefore, Ends, with-end, with-refusal}
 use Rattle.journal.proofs.Replay.{replay-is, replay}
 

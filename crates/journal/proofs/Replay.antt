@@ -12,7 +12,8 @@ use Rattle.reader.specs.Stream.{Next, wait, halt, go, tell, Advanced, past, adv
 use Rattle.waiting.specs.State.{State}
 use Rattle.reader.specs.Reading.{Instruction, begin, restart, tick, nextOf}
 use Rattle.reader.proofs.Reading.{machine}
-use Rattle.journal.specs.Journal.{Whole, obey, obeyed, replayOf}
+use Rattle.journal_tick.specs.Tick.{Whole}
+use Rattle.journal.specs.Journal.{obey, obeyed, replayOf}
 
 -- the journal takes what the reader takes
 obey-takes : (w : Whole) (st : State) (n : ℕ) (i : Instruction) → takes (obey w st n i) ≡ true

@@ -25,11 +25,12 @@ use Rattle.waiting.specs.State.{State}
 use Rattle.reader.specs.Reading.{Instruction, begin, restart, tick, bodyOf, nextOf, whatOf, readOf, listsAfter}
 use Rattle.reader.proofs.Stream.{goes, tells-on, advanced-go, advanced-wait, advanced-halt, advanced-tell, Ahead, ahead, past-none, past-past, reached-one, reached-on}
 use Rattle.reader.proofs.Reading.{machine, begins-is, resets-is}
-use Rattle.journal.specs.declared.Run.{Run}
+use Rattle.journal_tick.specs.declared.Run.{Run}
 use Rattle.journal.specs.declared.How.{How}
 use Rattle.journal.specs.declared.How.the-variants.{Waits, Refuses, Ticks}
 use Rattle.journal.specs.declared.Step.{Step}
-use Rattle.journal.specs.Journal.{Whole, obey, obeyed, replayOf, howOf, wholeOf, begunAt, resetAt, howBy, Stepped}
+use Rattle.journal_tick.specs.Tick.{Whole, wholeOf}
+use Rattle.journal.specs.Journal.{obey, obeyed, replayOf, howOf, begunAt, resetAt, howBy, Stepped}
 use Rattle.journal.proofs.Replay.{replay-is, replay}
 
 -- ---- what the reader takes, the journal takes

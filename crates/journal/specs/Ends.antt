@@ -9,7 +9,8 @@ use Rattle.judge.specs.declared.Refusal.{Refusal}
 use Rattle.judge.specs.declared.Judged.the-variants.{Accepted, Refused}
 use Rattle.judge.specs.Table.{numberOf, judgedOf}
 use Rattle.judge.specs.declared.Judged.{Judged}
-use Rattle.journal.specs.Journal.{Whole, ended, refused, journalOf}
+use Rattle.journal_tick.specs.Tick.{Whole}
+use Rattle.journal.specs.Journal.{ended, refused, journalOf}
 
 -- what the table says of the record whose kind byte stands at place p, for a reader that is left so
 unfoldable pub judgedAt : Whole → List ℕ → ℕ → Judged

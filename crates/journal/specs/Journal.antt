@@ -6,11 +6,9 @@ use Prim.Native.Nat.{ℕ, _+_, _-_, _<_}
 use lib.Ieee.{Float}
 use lib.ListN.{length, take, drop}
 use Rattle.lictor_core.specs.declared.envelope.Settings.{Settings}
-use Rattle.lictor_core.specs.declared.fuse.TickInput.{TickInput}
 use Rattle.lictor_core.specs.Initial.{zeros, newOf, resetOf}
 use Rattle.lictor_settings.specs.Settings.{configOf}
 use Rattle.lictor_fuse.specs.declared.tick.Decided.{Decided}
-use Rattle.lictor_fuse.specs.Tick.{decideOf}
 use Rattle.bytes_le.specs.Little.{byteAt}
 use Rattle.records.specs.Kinds.{journalKinds, bodyLen}
 use Rattle.long_records.specs.Long.{settingsOf}
@@ -21,15 +19,15 @@ use Rattle.waiting.specs.declared.Reader.{Reader}
 use Rattle.reader.specs.declared.What.{What}
 use Rattle.reader.specs.declared.What.the-variants as W
 use Rattle.waiting.specs.State.{State, settingsCame, emptied, startReader}
-use Rattle.reader.specs.Reading.{Call, Instruction, begin, restart, tick, callOf, nextOf}
-use Rattle.journal.specs.declared.Run.{Run}
+use Rattle.reader.specs.Reading.{Instruction, begin, restart, tick, nextOf}
+use Rattle.journal_tick.specs.declared.Run.{Run}
+use Rattle.journal_tick.specs.Tick.{decidedOf, tickedOf, Whole, wholeOf}
 use Rattle.journal.specs.declared.How.{How}
 use Rattle.journal.specs.declared.How.the-variants.{Waits, Refuses, Ticks}
 use Rattle.journal.specs.declared.Advanced.{Advanced}
-use Rattle.journal.specs.declared.Ticked.{Ticked}
 use Rattle.journal.specs.declared.Step.{Step}
 
--- ---- what an instruction does
+-- ---- what an instruction does; a tick: journal_tick specs/Tick
 
 -- settings give the run state of `new`
 unfoldable pub begunOf : Settings → Run
@@ -38,18 +36,7 @@ begunOf s = record { config = configOf s; rt = newOf }
 unfoldable pub restartedOf : Run → Run
 restartedOf r = record { config = r .config; rt = resetOf (r .rt) }
 
-unfoldable pub decidedOf : Run → Call → Decided
-decidedOf r c = decideOf (r .config) (r .rt) (c .input) (c .outcome) (c .pos) (c .vel) (c .aux) (c .ext) (c .chunk)
-
-unfoldable pub tickedOf : Run → Decided → Run
-tickedOf r d = record { config = r .config; rt = d .rt }
-
 -- ---- one record
-
--- all that a journal works on: the reader with the lent lists, and the fuse
-pub record Whole : Type 0 where
-  pub state : State
-  pub run : Run
 
 -- settings and a reset say nothing; a tick gives its verdict, with the run state that it leaves
 unfoldable pub obey : Whole → State → ℕ → Instruction → Next Whole Decided Refusal
@@ -122,16 +109,7 @@ advancedOf w s =
 unfoldable pub listsAfter : Whole → List ℕ → List Float
 listsAfter w s = advanced replayOf w s .state .state .lists
 
--- a tick: its verdict, the fuse after it, and the reader with nothing that waits
-unfoldable pub tickOf : Whole → TickInput → Ticked
-tickOf w input =
-    let d = decidedOf (w .run) (callOf (w .state) input) in
-    record { reader = emptied (w .state .reader); run = tickedOf (w .run) d; verdict = d .verdict }
-
 -- ---- what its own functions promise each other
-
-abbrev pub wholeOf : Reader → Run → List Float → Whole
-wholeOf rd run l = record { state = record { reader = rd; lists = l }; run = run }
 
 -- settings, or a reset, of which the kind byte stands at place `at` of s
 unfoldable pub begunAt : Reader → List ℕ → ℕ → Step

@@ -8,8 +8,9 @@ use Rattle.judge.specs.declared.Refusal.{Refusal}
 use Rattle.reader.specs.Stream.{Next, wait, halt, go, tell, Settled, after, settle, settled}
 use Rattle.waiting.specs.State.{State}
 use Rattle.reader.specs.Reading.{Instruction, begin, restart, tick, nextOf}
-use Rattle.journal.specs.declared.Run.{Run}
-use Rattle.journal.specs.Journal.{begunOf, restartedOf, decidedOf, tickedOf, Whole, obey, obeyed, replayOf, startRun, startWhole, journalOf}
+use Rattle.journal_tick.specs.declared.Run.{Run}
+use Rattle.journal_tick.specs.Tick.{decidedOf, tickedOf, Whole}
+use Rattle.journal.specs.Journal.{begunOf, restartedOf, obey, obeyed, replayOf, startRun, startWhole, journalOf}
 use Rattle.journal_claims.specs.Instructions.{instructionsOf, leftBy, played}
 
 -- where the reader and the journal settle, from the fuse r on

@@ -19,8 +19,9 @@ use Rattle.claims.specs.Demand3.{Sized, Demand3}
 use Rattle.claims.proofs.Tick.{by-step}
 use Rattle.claims.proofs.Demand3.{stops-from, faults-from, rearms-from, acks-from, stops-close}
 use Rattle.reader.specs.Reading.{Call, Instruction, begin, restart, tick}
-use Rattle.journal.specs.declared.Run.{Run}
-use Rattle.journal.specs.Journal.{begunOf, restartedOf, decidedOf, tickedOf, startRun}
+use Rattle.journal_tick.specs.declared.Run.{Run}
+use Rattle.journal_tick.specs.Tick.{decidedOf, tickedOf}
+use Rattle.journal.specs.Journal.{begunOf, restartedOf, startRun}
 use Rattle.journal_claims.specs.Instructions.{instructionsOf, leaves, leftBy, verdictsOf, played}
 use Rattle.journal_claims.specs.JournalStops.{NoSettings, SettledBy, Episode, Opens, In, opened, callUnder, callsOf, answerIn, answersFrom, EpisodeStops, EndsWith, StopsIn, with-settings, without, JournalStops}
 use Rattle.journal_claims.proofs.Instructions.{events-played}

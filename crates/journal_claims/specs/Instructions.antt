@@ -6,8 +6,9 @@ use Prim.Native.Nat.{ℕ}
 use Rattle.lictor_fuse.specs.declared.tick.Decided.{Decided}
 use Rattle.reader.specs.Stream.{settled}
 use Rattle.reader.specs.Reading.{Instruction, begin, restart, tick, nextOf}
-use Rattle.journal.specs.declared.Run.{Run}
-use Rattle.journal.specs.Journal.{begunOf, restartedOf, decidedOf, tickedOf, startWhole}
+use Rattle.journal_tick.specs.declared.Run.{Run}
+use Rattle.journal_tick.specs.Tick.{decidedOf, tickedOf}
+use Rattle.journal.specs.Journal.{begunOf, restartedOf, startWhole}
 
 -- The instructions of a journal up to its end, or up to the record that is turned away. The run state has no part in them (reader, specs/Reading).
 unfoldable pub instructionsOf : List ℕ → List Instruction

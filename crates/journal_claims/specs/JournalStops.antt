@@ -16,7 +16,7 @@ use Rattle.claims.specs.Calls as C
 use Rattle.claims.specs.Calls.{stepOf, ticksFrom}
 use Rattle.claims.specs.Demand3.{Sized, Demand3}
 use Rattle.reader.specs.Reading.{Call, Instruction, begin, restart, tick}
-use Rattle.journal.specs.declared.Run.{Run}
+use Rattle.journal_tick.specs.declared.Run.{Run}
 use Rattle.journal.specs.Journal.{startRun, journalOf}
 use Rattle.journal_claims.specs.Instructions.{instructionsOf, leaves, leftBy, played}
 

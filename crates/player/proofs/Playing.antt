@@ -12,7 +12,8 @@ use Rattle.lictor_fuse.specs.declared.tick.Decided.{Decided}
 use Rattle.judge.specs.declared.Refusal.{Refusal}
 use Rattle.reader.specs.Stream.{Next, wait, halt, go, tell, settled, advanced, takes, size}
 use Rattle.reader.proofs.Stream.{goes, settled-go, advanced-go, advanced-wait, advanced-halt, advanced-tell}
-use Rattle.journal.specs.Journal.{Whole, replayOf}
+use Rattle.journal_tick.specs.Tick.{Whole}
+use Rattle.journal.specs.Journal.{replayOf}
 use Rattle.journal.proofs.Replay.{replay}
 use Rattle.player.specs.Play.{tickRoom, Playing, full, played, playOf}
 

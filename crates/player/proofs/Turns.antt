@@ -23,7 +23,8 @@ use Rattle.reader.proofs.Stream.{Ahead, ahead, settled-wait, settled-halt, sett
 use Rattle.reader.proofs.Reading.{ticks-is}
 use Rattle.journal.specs.declared.How.the-variants.{Waits, Refuses, Ticks}
 use Rattle.journal.specs.declared.Advanced as J
-use Rattle.journal.specs.Journal.{Whole, wholeOf, decidedOf, tickedOf as after, tickOf, obey, obeyed, replayOf, howOf, advancedOf, listsAfter}
+use Rattle.journal_tick.specs.Tick.{Whole, wholeOf, decidedOf, tickedOf as after, tickOf}
+use Rattle.journal.specs.Journal.{obey, obeyed, replayOf, howOf, advancedOf, listsAfter}
 use Rattle.journal.proofs.Replay.{replay-is, replay}
 use Rattle.journal.proofs.Steps.{part-from}
 use Rattle.render.specs.Text.{Put, eventText}

@@ -10,8 +10,9 @@ use Rattle.lictor_fuse.specs.declared.tick.Decided.{Decided}
 use Rattle.judge.specs.declared.Refusal.{Refusal}
 use Rattle.judge.specs.Table.{numberOf}
 use Rattle.reader.specs.Stream.{Next, wait, halt, go, tell, End, waiting, halted, Settled, telling, settled}
-use Rattle.journal.specs.declared.Ticked.{Ticked}
-use Rattle.journal.specs.Journal.{Whole, wholeOf, replayOf}
+use Rattle.journal_tick.specs.declared.Ticked.{Ticked}
+use Rattle.journal_tick.specs.Tick.{Whole, wholeOf}
+use Rattle.journal.specs.Journal.{replayOf}
 use Rattle.render.specs.Text.{Put, eventText}
 use Rattle.player.specs.declared.Turn.{Turn}
 

@@ -3,10 +3,10 @@ ghost use mathlib.Core.Path.{_≡_};
 ghost use mathlib.Core.Bool.{true, false};
 ghost use Prim.Native.Nat.{_+_, _-_, _<_, _≤_};
 ghost use lib.ListN.{length};
-ghost use Rattle.journal.specs.Journal.{wholeOf, tickOf};
+ghost use Rattle.journal_tick.specs.Tick.{wholeOf, tickOf};
 ghost use Rattle.player.specs.Play.{tickRoom, tickedOf, Turned, goesOnOf, Fed};
 use journal::How;
-use journal::Run;
+use journal_tick::Run;
 use lictor_core::fuse::TickInput;
 use waiting::Reader;
 
@@ -38,7 +38,7 @@ fn play_tick(
     requires { ⌜ n + tickRoom ≤ length (now out) ⌝ }
     ensures { λ r. ⌜ tickedOf code (tickOf (wholeOf rd run (now (lists .entry))) inp) at (now (out .entry)) n r (now (out .exit)) ⌝ }
 {
-    let t = journal::tick(rd, run, lists, inp);
+    let t = journal_tick::tick(rd, run, lists, inp);
     let reader = t.reader;
     let after = t.run;
     let verdict = t.verdict;

@@ -12,11 +12,12 @@ use Rattle.waiting.specs.declared.Reader.{Reader}
 use Rattle.reader.specs.Stream.{Advanced, Reached, goesOn}
 use Rattle.reader.specs.Reading.{nextOf}
 use Rattle.reader.proofs.Stream.{reached-none, reached-on, reached-end}
-use Rattle.journal.specs.declared.Run.{Run}
+use Rattle.journal_tick.specs.declared.Run.{Run}
 use Rattle.journal.specs.declared.How.the-variants.{Waits}
 use Rattle.journal.specs.declared.Step.{Step}
 use Rattle.journal.specs.declared.Advanced as J
-use Rattle.journal.specs.Journal.{Whole, replayOf, howOf, wholeOf, advancedOf, listsAfter, Stepped}
+use Rattle.journal_tick.specs.Tick.{Whole, wholeOf}
+use Rattle.journal.specs.Journal.{replayOf, howOf, advancedOf, listsAfter, Stepped}
 use Rattle.journal.proofs.Replay.{replay}
 use Rattle.journal.proofs.Steps.{step-less}
 use Rattle.journal.proofs.advance.Statement.{statement}

@@ -1,8 +1,8 @@
 use borrow.Author.Needs.{needs}
 use Rattle.reader.specs.Reading.{callOf}
-use Rattle.journal.specs.Journal.{decidedOf}
-use Rattle.journal.proofs.decide_on.Statement.{statement}
-use Rattle.journal.proofs.decide_on.Tie as tie
+use Rattle.journal_tick.specs.Tick.{decidedOf}
+use Rattle.journal_tick.proofs.decide_on.Statement.{statement}
+use Rattle.journal_tick.proofs.decide_on.Tie as tie
 
 values-requires : tie.Need-values-requires
 values-requires c κs = search needs

@@ -7,8 +7,8 @@ use lib.ListN.{getD, take, drop}
 use Rattle.judge.specs.Causes.{capacities, countOf}
 use Rattle.waiting.specs.State.{bases, valuesOf}
 use Rattle.reader.proofs.Steps.{list-fits}
-use Rattle.journal.proofs.values.Statement.{statement}
-use Rattle.journal.proofs.values.Tie as tie
+use Rattle.journal_tick.proofs.values.Statement.{statement}
+use Rattle.journal_tick.proofs.values.Tie as tie
 
 mul-least : tie.Need-mul-least
 mul-least c = search needs

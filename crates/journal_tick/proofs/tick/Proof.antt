@@ -1,7 +1,7 @@
 use borrow.Author.Needs.{needs}
-use Rattle.journal.specs.Journal.{tickedOf, tickOf}
-use Rattle.journal.proofs.tick.Statement.{statement}
-use Rattle.journal.proofs.tick.Tie as tie
+use Rattle.journal_tick.specs.Tick.{tickedOf, tickOf}
+use Rattle.journal_tick.proofs.tick.Statement.{statement}
+use Rattle.journal_tick.proofs.tick.Tie as tie
 
 decide-on-requires : tie.Need-decide-on-requires
 decide-on-requires c κs = search needs
