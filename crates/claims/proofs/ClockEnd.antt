@@ -21,9 +21,10 @@ use Rattle.lictor_verdict.specs.Verdict.{faultVerdict}
 use Rattle.lictor_table.specs.declared.FsmInput.{FsmInput}
 use Rattle.lictor_table.specs.Helpers.{settledOf}
 use Rattle.lictor_table.specs.Table.{firstOf, table, nextFrom, nextOf}
-use Rattle.lictor_fuse.specs.declared.tick.Decided.{Decided}
+use Rattle.lictor_decide.specs.declared.Decided.{Decided}
 use Rattle.lictor_fuse.specs.declared.tick.Ticked.{Ticked}
-use Rattle.lictor_fuse.specs.Tick.{closedOf, closeFault, faultTick, givenOf}
+use Rattle.lictor_decide.specs.Decide.{closedOf, closeFault, faultTick}
+use Rattle.lictor_fuse.specs.Tick.{givenOf}
 use Rattle.claims.specs.Calls.{Call, accepted, answerOf, guardBits}
 use Rattle.claims.specs.ClockEnd.{lastTime, PastTheEnd, ClockEnds}
 use Rattle.claims.proofs.Tick.{by-call, by-guard, decided, faultTurn, guard-faults}

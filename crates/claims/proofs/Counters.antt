@@ -36,9 +36,10 @@ use Rattle.lictor_table.specs.Table.{nextOf}
 use Rattle.lictor_table.proofs.ByTable.{tells}
 use Rattle.lictor_table.proofs.Lines.{by-test}
 use Rattle.lictor_tally.specs.declared.TickEvents.{TickEvents}
-use Rattle.lictor_fuse.specs.declared.tick.Decided.{Decided}
+use Rattle.lictor_decide.specs.declared.Decided.{Decided}
 use Rattle.lictor_fuse.specs.declared.tick.Ticked.{Ticked}
-use Rattle.lictor_fuse.specs.Tick.{readyOf, nextChunk, cleanClock, faultClock, closedOf, closeClean, cleanTick, closeFault, faultTick, givenOf}
+use Rattle.lictor_decide.specs.Decide.{readyOf, nextChunk, cleanClock, faultClock, closedOf, closeClean, cleanTick, closeFault, faultTick}
+use Rattle.lictor_fuse.specs.Tick.{givenOf}
 use Rattle.claims.specs.Calls.{Call, accepted, answerOf, guardBits}
 use Rattle.claims.specs.Tallies.{turnOf, itemOf}
 use Rattle.claims.specs.Counters.{Rises, stays, rises, Counts, kept, counted, cleared, Numbers, same, next, MachineCounts, ClockCounts, CountersTold}

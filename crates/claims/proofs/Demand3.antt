@@ -24,8 +24,9 @@ use Rattle.lictor_table.specs.Consumed.{takenIn, consumedOf}
 use Rattle.lictor_table.specs.Helpers.{acceptedAck, settledOf}
 use Rattle.lictor_table.specs.Table.{nextFrom, nextOf}
 use Rattle.lictor_table.proofs.Stops.{StopLaw, stop-law, nonce-law, fresh-law}
-use Rattle.lictor_fuse.specs.declared.tick.Decided.{Decided}
-use Rattle.lictor_fuse.specs.Tick.{readyOf, closedOf, closeClean, cleanTick, closeFault, faultTick, givenOf}
+use Rattle.lictor_decide.specs.declared.Decided.{Decided}
+use Rattle.lictor_decide.specs.Decide.{readyOf, closedOf, closeClean, cleanTick, closeFault, faultTick}
+use Rattle.lictor_fuse.specs.Tick.{givenOf}
 use Rattle.claims.specs.Runs.{All, total, Step}
 use Rattle.claims.specs.Calls.{Call, Under, guardBits, tripsOf, bitsOf, ackOf, tookOf, Seen, seenOf, stepOf, ticksFrom}
 use Rattle.claims.specs.Demand3.{maxRearms, Sized, rearms, Stops, Faults, Acks, StopsClose}

@@ -29,9 +29,10 @@ use Rattle.lictor_table.specs.Rows.{faultRow, resumeRow, terminateRow, timeoutR
 use Rattle.lictor_table.specs.Table.{nextOf}
 use Rattle.lictor_table.proofs.ByTable.{tells}
 use Rattle.lictor_table.proofs.Lines.{by-bool}
-use Rattle.lictor_fuse.specs.declared.tick.Decided.{Decided}
+use Rattle.lictor_decide.specs.declared.Decided.{Decided}
 use Rattle.lictor_fuse.specs.declared.tick.Ticked.{Ticked}
-use Rattle.lictor_fuse.specs.Tick.{readyOf, closedOf, closeClean, cleanTick, closeFault, faultTick, givenOf}
+use Rattle.lictor_decide.specs.Decide.{readyOf, closedOf, closeClean, cleanTick, closeFault, faultTick}
+use Rattle.lictor_fuse.specs.Tick.{givenOf}
 use Rattle.claims.specs.Calls.{Call, accepted, tripsOf, bitsOf, ackOf, tookOf}
 use Rattle.claims.specs.Demand3.{none?}
 use Rattle.claims.specs.Flag.{FlagTells}

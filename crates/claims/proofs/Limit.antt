@@ -37,8 +37,9 @@ use Rattle.lictor_table.specs.Rows.{confirmedOf, standstillRow, stoppingRow, br
 use Rattle.lictor_table.specs.Table.{nextOf}
 use Rattle.lictor_table.proofs.ByTable.{tells}
 use Rattle.lictor_table.proofs.Stops.{StopLaw, stop-law}
-use Rattle.lictor_fuse.specs.declared.tick.Decided.{Decided}
-use Rattle.lictor_fuse.specs.Tick.{isAccepted, readyOf, cleanClock, closedOf, closeClean, cleanTick, givenOf}
+use Rattle.lictor_decide.specs.declared.Decided.{Decided}
+use Rattle.lictor_decide.specs.Decide.{readyOf, cleanClock, closedOf, closeClean, cleanTick}
+use Rattle.lictor_fuse.specs.Tick.{isAccepted, givenOf}
 use Rattle.claims.specs.Runs.{All, Some, here, later, First, Where, at, past, series, Step, silent, event, andThen, trace}
 use Rattle.claims.specs.Demand3.{begins, closes, limit, StopsWithin}
 use Rattle.claims.specs.Calls.{Seen, Call, accepted, guardBits, stepOf, seenOf, ticksFrom}

@@ -15,9 +15,10 @@ use Rattle.lictor_verdict.specs.Verdict.{verdictOf, faultVerdict, eventsOf}
 use Rattle.lictor_tally.specs.History as H
 use Rattle.lictor_tally.specs.History.{Item, recorded, tallyFrom, tallyOf}
 use Rattle.lictor_tally.proofs.History.{history}
-use Rattle.lictor_fuse.specs.declared.tick.Decided.{Decided}
+use Rattle.lictor_decide.specs.declared.Decided.{Decided}
 use Rattle.lictor_fuse.specs.declared.tick.Ticked.{Ticked}
-use Rattle.lictor_fuse.specs.Tick.{isAccepted, chunkTally, closedOf, closeClean, cleanTick, closeFault, faultTick, givenOf}
+use Rattle.lictor_decide.specs.Decide.{chunkTally, closedOf, closeClean, cleanTick, closeFault, faultTick}
+use Rattle.lictor_fuse.specs.Tick.{isAccepted, givenOf}
 use Rattle.claims.specs.Runs.{Step, silent, event, andThen}
 use Rattle.claims.specs.Calls.{Call, answerOf, tripsOf, after}
 use Rattle.claims.specs.Tallies.{itemBy, itemOf, historyFrom, verdictsFrom, number, endedIn, endedNominal, TalliesTold}

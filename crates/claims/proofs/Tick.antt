@@ -14,9 +14,10 @@ use Rattle.lictor_stages.specs.Judge.{judgeOf, machineInput, faultInput}
 use Rattle.lictor_table.specs.declared.Turn.{Turn}
 use Rattle.lictor_table.specs.Table.{nextOf}
 use Rattle.lictor_table.proofs.Lines.{by-test}
-use Rattle.lictor_fuse.specs.declared.tick.Decided.{Decided}
+use Rattle.lictor_decide.specs.declared.Decided.{Decided}
 use Rattle.lictor_fuse.specs.declared.tick.Ticked.{Ticked}
-use Rattle.lictor_fuse.specs.Tick.{readyOf, cleanTick, faultTick, decideBy, decideOf, givenOf, acceptedTick, refusedTick, tickBy, tickOf}
+use Rattle.lictor_decide.specs.Decide.{readyOf, cleanTick, faultTick, decideBy, decideOf}
+use Rattle.lictor_fuse.specs.Tick.{givenOf, acceptedTick, refusedTick, tickBy, tickOf}
 use Rattle.claims.specs.Runs.{Step, silent, event}
 use Rattle.claims.specs.Calls.{Call, answerOf, accepted, guardBits, stepBy, stepOf}
 

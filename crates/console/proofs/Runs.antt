@@ -11,7 +11,7 @@ use lib.Ieee.{Float}
 use borrow.Author.Tests.{eq-eqb, ne-eqb}
 use Rattle.lictor_core.specs.declared.tally.Tally.{Tally}
 use Rattle.lictor_core.specs.Initial.{zeros}
-use Rattle.lictor_fuse.specs.declared.tick.Decided.{Decided}
+use Rattle.lictor_decide.specs.declared.Decided.{Decided}
 use Rattle.judge.specs.declared.Refusal.{Refusal}
 use Rattle.judge.specs.declared.Refusal.the-variants.{CutBody}
 use Rattle.judge.specs.Table.{numberOf}

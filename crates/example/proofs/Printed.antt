@@ -23,7 +23,8 @@ use Rattle.lictor_act.specs.Act.{statusOf, sourceOf, cutRow, passedOf, insteadO
 use Rattle.lictor_verdict.specs.Verdict.{liveValid, scoresOf, disarmedScores, actionDim, enteredOf, handoffOf, hasAck, consumedFlag, verdictOf, faultVerdict, eventsOf, noEvents, rejectedOf}
 use Rattle.lictor_steps.specs.Steps.{readyOf}
 use Rattle.lictor_closing.specs.Clock.{nextChunk, cleanClock, chunkTally, faultClock}
-use Rattle.lictor_fuse.specs.Tick.{closedOf, closeClean, cleanTick, closeFault, faultTick, decideBy, decideOf, noVerdict, refusedTick, givenOf, acceptedTick, tickBy, tickOf}
+use Rattle.lictor_decide.specs.Decide.{closedOf, closeClean, cleanTick, closeFault, faultTick, decideBy, decideOf}
+use Rattle.lictor_fuse.specs.Tick.{noVerdict, refusedTick, givenOf, acceptedTick, tickBy, tickOf}
 use Rattle.text.specs.Commas.{behindCommas, commas, numbersText, floatsText}
 use Rattle.text.specs.Line.{lineOf, putOf, pushOf as pushOf·text}
 use Rattle.text.specs.Number.{decimalIn, signedOf, hexIn, floatText}

@@ -11,7 +11,7 @@ use denote.Enum.Declared.{tagOf}
 use types.Run.{OneOf, miss}
 use Rattle.bytes_le.specs.Little.{byteAt}
 use Rattle.lictor_core.specs.declared.fuse.TickInput.{TickInput}
-use Rattle.lictor_fuse.specs.declared.tick.Decided.{Decided}
+use Rattle.lictor_decide.specs.declared.Decided.{Decided}
 use Rattle.records.specs.Kinds.{journalKinds, bodyLen}
 use Rattle.long_records.specs.Long.{settingsOf}
 use Rattle.judge.specs.declared.Refusal.{Refusal}

@@ -8,7 +8,7 @@ use lib.ListN.{length, take, drop}
 use Rattle.lictor_core.specs.declared.envelope.Settings.{Settings}
 use Rattle.lictor_core.specs.Initial.{zeros, newOf, resetOf}
 use Rattle.lictor_settings.specs.Settings.{configOf}
-use Rattle.lictor_fuse.specs.declared.tick.Decided.{Decided}
+use Rattle.lictor_decide.specs.declared.Decided.{Decided}
 use Rattle.bytes_le.specs.Little.{byteAt}
 use Rattle.records.specs.Kinds.{journalKinds, bodyLen}
 use Rattle.long_records.specs.Long.{settingsOf}

@@ -3,7 +3,7 @@
 -- The instructions are those of 01-scope.md, Journal: settings, reset and tick.
 use mathlib.Core.List.{List, [], _∷_, _++_}
 use Prim.Native.Nat.{ℕ}
-use Rattle.lictor_fuse.specs.declared.tick.Decided.{Decided}
+use Rattle.lictor_decide.specs.declared.Decided.{Decided}
 use Rattle.reader.specs.Stream.{settled}
 use Rattle.reader.specs.Reading.{Instruction, begin, restart, tick, nextOf}
 use Rattle.journal_tick.specs.declared.Run.{Run}

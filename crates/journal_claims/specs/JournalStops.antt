@@ -9,7 +9,7 @@ use Rattle.lictor_core.specs.declared.envelope.Settings.{Settings}
 use Rattle.lictor_core.specs.declared.fuse.FuseRt.{FuseRt}
 use Rattle.lictor_settings.specs.declared.SettingsCheck.the-variants.{Accepted}
 use Rattle.lictor_settings.specs.Settings.{checkOf}
-use Rattle.lictor_fuse.specs.declared.tick.Decided.{Decided}
+use Rattle.lictor_decide.specs.declared.Decided.{Decided}
 use Rattle.lictor_fuse.specs.declared.tick.Ticked.{Ticked}
 use Rattle.claims.specs.Runs.{All, trace}
 use Rattle.claims.specs.Calls as C

@@ -2,8 +2,8 @@
 use mathlib.Core.List.{List}
 use lib.Ieee.{Float}
 use Rattle.lictor_core.specs.declared.fuse.TickInput.{TickInput}
-use Rattle.lictor_fuse.specs.declared.tick.Decided.{Decided}
-use Rattle.lictor_fuse.specs.Tick.{decideOf}
+use Rattle.lictor_decide.specs.declared.Decided.{Decided}
+use Rattle.lictor_decide.specs.Decide.{decideOf}
 use Rattle.waiting.specs.declared.Reader.{Reader}
 use Rattle.waiting.specs.State.{State, emptied}
 use Rattle.reader.specs.Reading.{Call, callOf}

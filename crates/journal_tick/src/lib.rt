@@ -10,8 +10,8 @@ use lictor_core::envelope::FuseConfig;
 use lictor_core::fuse::FuseRt;
 use lictor_core::fuse::TickInput;
 use lictor_core::verdict::SafetyVerdict;
-use lictor_fuse::tick::Decided;
-use lictor_fuse::tick::decide;
+use lictor_decide::Decided;
+use lictor_decide::decide;
 use waiting::Reader;
 
 // The fuse: its configuration and its run state.

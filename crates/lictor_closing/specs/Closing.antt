@@ -1,5 +1,5 @@
 -- What a tick comes to after the state machine, as the code goes: the verdict, the clock, the tally and what it is told. That a tick put together from this is the
--- tick of the papers is shown in lictor_fuse.
+-- tick of the papers is shown in lictor_decide.
 use mathlib.Core.Bool.{cond}
 use Prim.Native.Nat.{ℕ}
 use lib.Dec.{eqb}

@@ -1,5 +1,5 @@
 // What a tick comes to after the state machine: its verdict, the clock, the count of chunks, and what the tally is told (fuse.rs, fault_tick and decide).
-// Internal: lictor_fuse puts the tick together.
+// Internal: lictor_decide puts the tick together.
 ghost use mathlib.Core.Path.{_≡_};
 ghost use Rattle.lictor_tally.specs.Tally.{recordChunk};
 ghost use Rattle.lictor_verdict.specs.Verdict.{rejectedOf};

@@ -1,5 +1,5 @@
 -- What a tick brings to the state machine, as the code goes: both kinds of tick through one call of the machine. That a tick put together from this is the tick
--- of the papers is shown in lictor_fuse.
+-- of the papers is shown in lictor_decide.
 use mathlib.Core.Bool.{false, cond}
 use mathlib.Core.List.{List}
 use Prim.Native.Nat.{ℕ}

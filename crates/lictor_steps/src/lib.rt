@@ -1,5 +1,5 @@
 // What a tick brings to the state machine, be it clean or a fault tick, and the machine's turn on it (fuse.rs, fault_tick and decide).
-// Internal: lictor_fuse puts the tick together. Both kinds of tick come to one call of the machine, which the compiler then puts in its place.
+// Internal: lictor_decide puts the tick together. Both kinds of tick come to one call of the machine, which the compiler then puts in its place.
 ghost use mathlib.Core.Path.{_≡_};
 ghost use Rattle.lictor_steps.specs.Steps.{readyOf};
 ghost use Rattle.lictor_steps.specs.Asked.{faultFindings, cleanAsked, faultAsked, askedOf, steppedOf};

@@ -8,7 +8,7 @@ use lib.ListN.{length, drop, length-drop}
 use lib.Seq.{drop-drop}
 use lib.Dec.{leb}
 use borrow.Author.Tests.{leb-true, leb-false, le-leb, lt-leb}
-use Rattle.lictor_fuse.specs.declared.tick.Decided.{Decided}
+use Rattle.lictor_decide.specs.declared.Decided.{Decided}
 use Rattle.judge.specs.declared.Refusal.{Refusal}
 use Rattle.reader.specs.Stream.{Next, wait, halt, go, tell, settled, advanced, takes, size}
 use Rattle.reader.proofs.Stream.{goes, settled-go, advanced-go, advanced-wait, advanced-halt, advanced-tell}

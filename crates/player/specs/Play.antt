@@ -6,7 +6,7 @@ use Prim.Native.Nat.{ℕ, _+_, _-_, _≤_, _<_}
 use lib.Dec.{leb}
 use lib.Ieee.{Float}
 use lib.ListN.{length, drop}
-use Rattle.lictor_fuse.specs.declared.tick.Decided.{Decided}
+use Rattle.lictor_decide.specs.declared.Decided.{Decided}
 use Rattle.judge.specs.declared.Refusal.{Refusal}
 use Rattle.judge.specs.Table.{numberOf}
 use Rattle.reader.specs.Stream.{Next, wait, halt, go, tell, End, waiting, halted, Settled, telling, settled}

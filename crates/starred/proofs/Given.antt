@@ -22,7 +22,8 @@ use Rattle.lictor_act.specs.Act.{statusOf, sourceOf, cutRow, passedOf, insteadO
 use Rattle.lictor_ingest.specs.Ingest.{takenRow, stepRate, ratesRow, stillRow, velocityOf, ingestOf, isFit, withPos, faultMotion}
 use Rattle.lictor_stages.specs.Judge.{withBrake, maskedOf, warnOf, slowOf, standstillOf, chunkOk, scoredOf, judgeOf, machineInput, faultInput}
 use Rattle.lictor_verdict.specs.Verdict.{liveValid, scoresOf, disarmedScores, actionDim, enteredOf, handoffOf, hasAck, consumedFlag, verdictOf, faultVerdict, eventsOf, noEvents, rejectedOf}
-use Rattle.lictor_fuse.specs.Tick.{closedOf, nextChunk, cleanClock, readyOf, chunkTally, closeClean, cleanTick, faultClock, closeFault, faultTick, decideBy, decideOf, noVerdict, refusedTick, givenOf, acceptedTick, tickBy, tickOf}
+use Rattle.lictor_decide.specs.Decide.{closedOf, nextChunk, cleanClock, readyOf, chunkTally, closeClean, cleanTick, faultClock, closeFault, faultTick, decideBy, decideOf}
+use Rattle.lictor_fuse.specs.Tick.{noVerdict, refusedTick, givenOf, acceptedTick, tickBy, tickOf}
 use Rattle.report.specs.Lines.{marginText, tickText, stoppedOf, endText, refusedText}
 use Rattle.margin.specs.Margin.{nearestWhole, marginOf}
 use Rattle.text.specs.Number.{decimalIn, signedOf}

@@ -6,7 +6,7 @@ use mathlib.Core.List.{List}
 use native.Mathlib.Omega.{arith}
 use lib.ListN.{length, drop}
 use lib.Ieee.{Float}
-use Rattle.lictor_fuse.specs.declared.tick.Decided.{Decided}
+use Rattle.lictor_decide.specs.declared.Decided.{Decided}
 use Rattle.judge.specs.declared.Refusal.{Refusal}
 use Rattle.waiting.specs.declared.Reader.{Reader}
 use Rattle.reader.specs.Stream.{Advanced, Reached, goesOn}

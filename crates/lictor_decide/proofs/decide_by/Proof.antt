@@ -1,7 +1,7 @@
-use Rattle.lictor_fuse.proofs.One.{one-way}
+use Rattle.lictor_decide.proofs.One.{one-way}
 use borrow.Author.Needs.{needs}
-use Rattle.lictor_fuse.proofs.tick.decide_by.Statement.{statement}
-use Rattle.lictor_fuse.proofs.tick.decide_by.Tie as tie
+use Rattle.lictor_decide.proofs.decide_by.Statement.{statement}
+use Rattle.lictor_decide.proofs.decide_by.Tie as tie
 
 ask-requires : tie.Need-ask-requires
 ask-requires c κs = search needs

@@ -14,8 +14,8 @@ use Rattle.lictor_steps.specs.declared.Asked.{Asked}
 use Rattle.lictor_steps.specs.Asked.{cleanAsked, faultFindings, faultAsked, askedOf, steppedOf}
 use Rattle.lictor_closing.specs.declared.Closing.{Closing}
 use Rattle.lictor_closing.specs.Closing.{cleanVerdict, cleanClosing, faultClosing, closingOf}
-use Rattle.lictor_fuse.specs.declared.tick.Decided.{Decided}
-use Rattle.lictor_fuse.specs.Tick.{readyOf, closedOf, closeClean, cleanTick, closeFault, faultTick, decideBy}
+use Rattle.lictor_decide.specs.declared.Decided.{Decided}
+use Rattle.lictor_decide.specs.Decide.{readyOf, closedOf, closeClean, cleanTick, closeFault, faultTick, decideBy}
 
 -- the tick as the code puts it together
 abbrev ended : Turn → Asked → Closing → Decided

@@ -1,7 +1,7 @@
-use Rattle.lictor_fuse.specs.Tick.{decideOf}
+use Rattle.lictor_decide.specs.Decide.{decideOf}
 use borrow.Author.Needs.{needs}
-use Rattle.lictor_fuse.proofs.tick.decide.Statement.{statement}
-use Rattle.lictor_fuse.proofs.tick.decide.Tie as tie
+use Rattle.lictor_decide.proofs.decide.Statement.{statement}
+use Rattle.lictor_decide.proofs.decide.Tie as tie
 
 guard-requires : tie.Need-guard-requires
 guard-requires c κs = search needs

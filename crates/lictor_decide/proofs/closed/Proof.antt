@@ -1,7 +1,7 @@
-use Rattle.lictor_fuse.specs.Tick.{closedOf}
+use Rattle.lictor_decide.specs.Decide.{closedOf}
 use borrow.Author.Needs.{needs}
-use Rattle.lictor_fuse.proofs.tick.closed.Statement.{statement}
-use Rattle.lictor_fuse.proofs.tick.closed.Tie as tie
+use Rattle.lictor_decide.proofs.closed.Statement.{statement}
+use Rattle.lictor_decide.proofs.closed.Tie as tie
 
 record-requires : tie.Need-record-requires
 record-requires c κs = search needs
