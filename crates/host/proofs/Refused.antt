@@ -1,4 +1,4 @@
--- A call whose settings are refused: what the definition of a tick gives for it.
+-- What the definition of a tick gives for a call, by the test of its settings.
 use mathlib.Core.Path.{_≡_, ap}
 use mathlib.Core.Bool.{Bool, false, cond}
 use mathlib.Core.List.{List}
@@ -12,10 +12,15 @@ use Rattle.lictor_fuse.specs.declared.tick.Ticked.{Ticked}
 use Rattle.lictor_fuse.specs.Tick.{isAccepted, acceptedTick, refusedTick, noVerdict, tickBy, tickOf}
 use Rattle.host.specs.Host.{answerOf, numberOf}
 
--- the answer has the number of the cause and no verdict, and the run state is the one that came in
+pub by-test : (s : Settings) (rt : FuseRt) (inp : TickInput) (out : Outcome) (pos vel aux ext chunk : List Float) (b : Bool) → isAccepted (checkOf s) ≡ b
+    → tickOf s rt inp out pos vel aux ext chunk ≡ cond b (acceptedTick s rt inp out pos vel aux ext chunk) (refusedTick (checkOf s) rt)
+unfolding tickOf tickBy
+by-test s rt inp out pos vel aux ext chunk b e = ap (λ (t : Bool). cond t (acceptedTick s rt inp out pos vel aux ext chunk) (refusedTick (checkOf s) rt)) e
+
+-- where they are refused, the answer has the number of the cause and no verdict, and the run state is the one that came in
 pub refused-call : (s : Settings) (rt : FuseRt) (inp : TickInput) (out : Outcome) (pos vel aux ext chunk : List Float) → isAccepted (checkOf s) ≡ false
     → (numberOf (answerOf (tickOf s rt inp out pos vel aux ext chunk)) ≡ checkNumber (checkOf s)) × (tickOf s rt inp out pos vel aux ext chunk .verdict ≡ noVerdict) × (tickOf s rt inp out pos vel aux ext chunk .rt ≡ rt)
-unfolding tickOf tickBy refusedTick
+unfolding refusedTick
 refused-call s rt inp out pos vel aux ext chunk bad =
-    let e : tickOf s rt inp out pos vel aux ext chunk ≡ refusedTick (checkOf s) rt = ap (λ (b : Bool). cond b (acceptedTick s rt inp out pos vel aux ext chunk) (refusedTick (checkOf s) rt)) bad in
+    let e : tickOf s rt inp out pos vel aux ext chunk ≡ refusedTick (checkOf s) rt = by-test s rt inp out pos vel aux ext chunk false bad in
     (ap (λ (t : Ticked). numberOf (answerOf t)) e, ap (λ (t : Ticked). t .verdict) e, ap (λ (t : Ticked). t .rt) e)

@@ -12,7 +12,7 @@ use Rattle.lictor_core.specs.declared.outcome.Outcome.{Outcome}
 use Rattle.lictor_settings.specs.Settings.{checkOf, checkNumber}
 use Rattle.lictor_decide.specs.declared.Decided.{Decided}
 use Rattle.lictor_fuse.specs.declared.tick.Ticked.{Ticked}
-use Rattle.lictor_fuse.specs.Tick.{isAccepted, noVerdict, acceptedTick, refusedTick, givenOf, tickBy, tickOf}
+use Rattle.lictor_fuse.specs.Tick.{isAccepted, noVerdict, givenOf, tickOf}
 use Rattle.host.proofs.Refused.{refused-call}
 use Rattle.host_state.specs.declared.RunState.{RunState}
 use Rattle.host_c.specs.Call.{steppedOf, keptOf, callOf, answerOf}
@@ -29,7 +29,7 @@ refused-fields before s rt inp out pos vel aux ext chunk bad =
     (e .0, ap verdictOut (e .1), ap (λ (n : ℕ). keptOf n before (stateOut (t .rt))) (e .0) ∙ ap (λ (b : Bool). cond b (stateOut (t .rt)) before) bad)
 
 -- what a test tells
-yes : (b : Bool) → T (not (not b)) → b ≡ true
+pub yes : (b : Bool) → T (not (not b)) → b ≡ true
 yes true fine = refl
 yes false fine = absurd fine
 
@@ -37,12 +37,7 @@ pub no : (b : Bool) → T (not b) → b ≡ false
 no true other = absurd other
 no false other = refl
 
--- a call whose settings are accepted gives what the tick under them gives, and all of its run state is stored
-pub accepted-call : (s : Settings) (rt : FuseRt) (inp : TickInput) (out : Outcome) (pos vel aux ext chunk : List Float) → T (not (not (isAccepted (checkOf s))))
-    → tickOf s rt inp out pos vel aux ext chunk ≡ acceptedTick s rt inp out pos vel aux ext chunk
-unfolding tickOf tickBy
-accepted-call s rt inp out pos vel aux ext chunk fine = ap (λ (b : Bool). cond b (acceptedTick s rt inp out pos vel aux ext chunk) (refusedTick (checkOf s) rt)) (yes (isAccepted (checkOf s)) fine)
-
+-- of a call whose settings are accepted all of the run state is stored
 pub all-stored : (before : RunState) (t : Ticked) (d : Decided) → t ≡ givenOf d → steppedOf t .rt ≡ callOf before t .rt
 unfolding steppedOf callOf keptOf givenOf
 all-stored before t d e = subst (λ (y : Ticked). steppedOf y .rt ≡ callOf before y .rt) (sym e) refl

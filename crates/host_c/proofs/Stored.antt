@@ -12,9 +12,10 @@ use Rattle.lictor_core.specs.declared.fuse.FuseRt.{FuseRt}
 use Rattle.lictor_core.specs.declared.fuse.TickInput.{TickInput}
 use Rattle.lictor_core.specs.declared.outcome.Outcome.{Outcome}
 use Rattle.lictor_fuse.specs.declared.tick.Ticked.{Ticked}
-use Rattle.lictor_fuse.specs.Tick.{isAccepted, acceptedTick, refusedTick, givenOf, noVerdict, tickBy, tickOf}
+use Rattle.lictor_fuse.specs.Tick.{isAccepted, acceptedTick, refusedTick, givenOf, noVerdict, tickOf}
 use Rattle.host_state.specs.State.{stateIn, stateOut}
 use Rattle.host_layout.specs.Verdict.{verdictOut}
+use Rattle.host.proofs.Refused.{by-test}
 use Rattle.host_state.proofs.Stored.{stored-back}
 use Rattle.host_c.specs.Call.{steppedOf, keptOf, callOf, resetRun}
 
@@ -25,12 +26,12 @@ reset-on-stored r = ap (λ (z : FuseRt). stateOut (resetOf z)) (stored-back r)
 -- by the test of the settings: a refused call keeps what was lent, and so does the fuse's
 by-check : (s : Settings) (r : FuseRt) (inp : TickInput) (out : Outcome) (pos vel aux ext chunk : List Float) (b : Bool) → isAccepted (checkOf s) ≡ b
     → callOf (stateOut r) (tickOf s r inp out pos vel aux ext chunk) ≡ steppedOf (tickOf s r inp out pos vel aux ext chunk)
-unfolding steppedOf callOf keptOf tickOf tickBy refusedTick acceptedTick givenOf
+unfolding steppedOf callOf keptOf refusedTick acceptedTick givenOf
 by-check s r inp out pos vel aux ext chunk true e =
-    let d : tickOf s r inp out pos vel aux ext chunk ≡ acceptedTick s r inp out pos vel aux ext chunk = ap (λ (b : Bool). cond b (acceptedTick s r inp out pos vel aux ext chunk) (refusedTick (checkOf s) r)) e in
+    let d : tickOf s r inp out pos vel aux ext chunk ≡ acceptedTick s r inp out pos vel aux ext chunk = by-test s r inp out pos vel aux ext chunk true e in
     subst (λ (t : Ticked). callOf (stateOut r) t ≡ steppedOf t) (sym d) refl
 by-check s r inp out pos vel aux ext chunk false e =
-    let d : tickOf s r inp out pos vel aux ext chunk ≡ refusedTick (checkOf s) r = ap (λ (b : Bool). cond b (acceptedTick s r inp out pos vel aux ext chunk) (refusedTick (checkOf s) r)) e in
+    let d : tickOf s r inp out pos vel aux ext chunk ≡ refusedTick (checkOf s) r = by-test s r inp out pos vel aux ext chunk false e in
     subst (λ (t : Ticked). callOf (stateOut r) t ≡ steppedOf t) (sym d) (λ j. record { number = checkNumber (checkOf s); rt = cond (e j) (stateOut r) (stateOut r); verdict = verdictOut noVerdict })
 
 pub tick-on-stored : (s : Settings) (r : FuseRt) (inp : TickInput) (out : Outcome) (pos vel aux ext chunk : List Float)

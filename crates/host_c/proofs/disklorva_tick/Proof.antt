@@ -1,12 +1,13 @@
 -- `disklorva_tick` meets its contract: it is `turned`, with the test `refusal`, over `stepped`.
 -- Assumes nothing.
 use mathlib.Core.Path.{_≡_, refl, sym, subst}
-use mathlib.Core.Bool.{not}
+use mathlib.Core.Bool.{true, not}
 use lib.Dec.{T as Holds}
 use contract.Running.{givenOf, tables, tablesOf}
 use denote.Triple.Spec.{tripleOf}
 use denote.Triple.Table.{entered, cited}
 use Rattle.lent.proofs.Call.{Fs, turned-meets}
+use Rattle.host.proofs.Refused.{by-test}
 use Rattle.lictor_settings.specs.Settings.{checkOf}
 use Rattle.lictor_fuse.specs.declared.tick.Ticked.{Ticked}
 use Rattle.lictor_fuse.specs.Tick.{isAccepted, acceptedTick}
@@ -18,7 +19,7 @@ use Rattle.host_layout.specs.declared.input.Settings.{Settings}
 use Rattle.host_state.specs.declared.RunState.{RunState}
 use Rattle.host_c.specs.declared.Called.{Called}
 use Rattle.host_c.specs.Call.{steppedOf, answerOf}
-use Rattle.host_c.proofs.Refused.{no, accepted-call, all-stored, refused-fields}
+use Rattle.host_c.proofs.Refused.{yes, no, all-stored, refused-fields}
 use Rattle.host_c.proofs.Says.{ticked, Says, told}
 use Rattle.host_c.proofs.Types.{S, G, I, O, R, Z, parts, turning}
 use Rattle.host_c.proofs.refusal as test
@@ -44,7 +45,7 @@ step s h i u l = steppedOf (accepted s h i u l)
 stored : (h : RunState) (s : Settings) (i : Input) (u : Outcome) (l : Fs) → Holds (not (turning .is-other s)) → Says h s i u l (answerOf (step s h i u l)) (step s h i u l .rt)
 unfolding acceptedTick
 stored h s i u l fine =
-    let e : ticked s h i u l ≡ accepted s h i u l = accepted-call (settingsIn s) (stateIn h) (inputIn i) (outcomeIn u) (l .0) (l .1 .0) (l .1 .1 .0) (l .1 .1 .1 .0) (l .1 .1 .1 .1 .0) fine in
+    let e : ticked s h i u l ≡ accepted s h i u l = by-test (settingsIn s) (stateIn h) (inputIn i) (outcomeIn u) (l .0) (l .1 .0) (l .1 .1 .0) (l .1 .1 .1 .0) (l .1 .1 .1 .1 .0) true (yes (isAccepted (checkOf (settingsIn s))) fine) in
     subst (λ (t : Ticked). Says h s i u l (answerOf (steppedOf t)) (steppedOf t .rt)) e (told h s i u l (steppedOf (ticked s h i u l) .rt) (all-stored h (ticked s h i u l) _ e))
 
 left : (h : RunState) (s : Settings) (i : Input) (u : Outcome) (l : Fs) → Holds (turning .is-other s) → Says h s i u l (turning .turn s) h
