@@ -178,8 +178,10 @@ fn latched(pos: [f64; 8], lo: [f64; 8], hi: [f64; 8], hold: [f64; 8], n: usize) 
 {
     let mut h = hold;
     let mut c: usize = 0;
-    while c < n {
-        h[c] = clamp(pos[c], lo[c], hi[c]);
+    while c < 8 {
+        if c < n {
+            h[c] = clamp(pos[c], lo[c], hi[c]);
+        }
         c += 1;
     }
     h

@@ -48,6 +48,8 @@ fn main() -> ExitCode {
     let theirs = || repeated(&|| rust.all(&calls));
     print("host tick (lent run state)", median(rounds, ticks, theirs, || repeated(&|| ours.lent(&calls))));
     print("tick by value", median(rounds, ticks, theirs, || repeated(&|| ours.by_value(&calls))));
+    let theirs_by_value = || repeated(&|| rust.by_value(&calls));
+    print("tick by value on both sides", median(rounds, ticks, theirs_by_value, || repeated(&|| ours.by_value(&calls))));
     let xs = doubles();
     let count = xs.len() as f64;
     let independent = median(rounds, count, || each(&xs, f64::sqrt), || each(&xs, disklorva::sqrt));
@@ -139,6 +141,23 @@ impl Rust {
                 self.reset(&mut rt);
             }
             black_box(self.tick(&mut rt, call));
+        }
+    }
+
+    /// The tick as a function from state to state, which is what ours by value is.
+    #[inline(never)]
+    fn call(&self, mut rt: FuseRt, call: &Call) -> (FuseRt, SafetyVerdict) {
+        let verdict = self.tick(&mut rt, call);
+        (rt, verdict)
+    }
+
+    fn by_value(&self, calls: &[Call]) {
+        let mut rt = FuseRt::new();
+        for call in calls {
+            if call.reset {
+                self.reset(&mut rt);
+            }
+            rt = black_box(self.call(rt, call)).0;
         }
     }
 }

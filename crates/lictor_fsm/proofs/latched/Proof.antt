@@ -1,20 +1,22 @@
-use Prim.Native.Nat.{_≤_, _-_}
-use mathlib.Core.Path.{_≡_}
+use Prim.Native.Nat.{_≤_, _-_, min}
+use mathlib.Core.Path.{_≡_, _∙_}
+use mathlib.Core.Logic.{⊎-elim}
 use native.Mathlib.Omega.{arith}
+use Rattle.lictor_core.proofs.Rows.{row-start, row-took, row-left, row-done}
 use Rattle.lictor_table.specs.Helpers.{latchedOf}
-use Rattle.lictor_fsm.proofs.Hold.{latched-none, latched-more}
 use borrow.Author.Needs.{needs}
 use Rattle.lictor_fsm.proofs.latched.Statement.{statement}
 use Rattle.lictor_fsm.proofs.latched.Tie as tie
 
 abbrev Inv-loop : tie.InvT-loop
-Inv-loop n pos lo hi h₀ c₀ h c = (c ≤ n) × (h ≡ latchedOf pos lo hi h₀ c)
+Inv-loop n pos lo hi h₀ c₀ h c = (c ≤ 8) × (h ≡ latchedOf pos lo hi h₀ (min c n))
 
 abbrev μ-loop : tie.MeasureT-loop
-μ-loop n pos lo hi h₀ c₀ h c = n - c
+μ-loop n pos lo hi h₀ c₀ h c = 8 - c
 
 loop-holds : tie.Need-loop-holds Inv-loop μ-loop
-loop-holds c = search (needs, latched-none)
+unfolding latchedOf
+loop-holds c = (search needs, row-start _ _ _)
 
 mul-clamp : tie.Need-mul-clamp Inv-loop μ-loop
 mul-clamp c = search needs
@@ -50,10 +52,14 @@ loop-less : tie.Need-loop-less Inv-loop μ-loop
 loop-less c = search needs
 
 loop-again : tie.Need-loop-again Inv-loop μ-loop
-loop-again c = search (needs, latched-more)
+unfolding latchedOf
+loop-again c =
+    let kept = c .before .before .loop .inv .1 in
+    (search needs, ⊎-elim (λ w. w .2 ∙ row-took _ _ _ _ _ _ kept (w .0 .taken) (w .1 .ensures)) (λ w. w .1 ∙ row-left _ _ _ _ _ kept (w .0 .left)) (c .if1 .came))
 
 returns : tie.Need-returns Inv-loop μ-loop
-returns c = let e : c .before .loop .c ≡ c .before .before .args .n = omega arith in cc
+unfolding latchedOf
+returns c = row-done _ _ _ _ _ (c .before .loop .inv .1) (omega arith)
 
 pub latched-spec : {M : Type 1} → statement M
 latched-spec =
