@@ -6,7 +6,7 @@
 --src      folder of the Rust sources, with crates/ in it (default: ../shared/docs/src beside the repository)
 --out      where to build (default: target/differential)
 --fast     without debug assertions and overflow checks, for measuring speed
---variant  a rule of a later request, see edits.py
+--variant  another rule than the fuse has now, see edits.py
 """
 
 import argparse

@@ -196,9 +196,9 @@ OUTCOME = [
 
 REFERENCE = SIZES + OUTCOME
 
-# Rules that 02-change-requests.md asks for, for a reference that follows them too (`build.py --variant NAME`).
+# Other rules than the fuse has now, for a reference that follows them (`build.py --variant NAME`): what a change of a rule is compared with.
 VARIANTS = {
-    "max-ignores-nan": [  # request 2
+    "max-ignores-nan": [
         Edit(
             FMATH,
             "the larger of two numbers ignores a NaN",
@@ -208,7 +208,7 @@ VARIANTS = {
         a""",
         ),
     ],
-    "reset-keeps-nonces": [  # request 6
+    "reset-keeps-nonces": [
         Edit(
             FUSE,
             "reset keeps the stored nonces",

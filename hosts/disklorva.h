@@ -10,7 +10,14 @@
  *   mode 0 Observe, 1 Enforce          kind 0 EePosition, 1 EeDelta, 2 JointPosition, 3 JointVelocity, 4 Other
  *   clamp 0 Off, 1 Project             rearm 0 Auto, 1 AckOnly                        decision 0 Resume, 1 Abort, 2 Retune
  *   state 0 Idle, 1 Armed, 2 Watching, 3 Clamped, 4 Braking, 5 Held, 6 Escalated, 7 Fault, 8 Terminated
- *   action_src 0 Policy, 1 Clamped, 2 Brake, 3 Hold */
+ *   action_src 0 Policy, 1 Clamped, 2 Brake, 3 Hold
+ *   status 0 Nominal, 1 Watching, 2 Clamped, 3 Braking, 4 Held, 5 Escalated, 6 Fault, 7 Terminated
+ *   reason 0 Ok, 1 ObserveOnly, 2 WatchBand, 3 ClampWorkspace, 4 ClampSpeed, 5 ClampAccel, 6 ClampJerk, 7 ClampReach, 8 ClampContact, 9 BrakeInfeasible,
+ *     10 BrakeTier1Cp, 11 BrakeClampBudget, 12 Stopping, 13 HeldStandstill, 14 EscalateHoldTimeout, 15 EscalateRearmBudget, 16 EscalateTier1Persistent,
+ *     17 FaultNonFinite, 18 FaultSchema, 19 FaultWatchdog, 20 FaultBrakeTimeout, 21 FaultInternal, 22 RearmedAuto, 23 RearmedAck, 24 TerminatedAbort,
+ *     25 TerminatedTimeout, 26 TerminatedRetune, 27 EpisodeEnd
+ *   trips, by bit: 0 workspace, 1 speed, 2 acceleration, 3 jerk, 4 reach, 5 contact, 6 no stop would stay in the box (BRAKE), 7 not finite, 8 schema, 9 watchdog,
+ *     10 predictive trip, 11 clamp budget, 12 handoff timeout, 13 operator's abort, 14 brake timeout, 15 rearm budget */
 #ifndef DISKLORVA_H
 #define DISKLORVA_H
 

@@ -1,6 +1,6 @@
 // Runs the case of 01-scope.md that has no star, and writes a line for each tick: its name, and the line of `fuse` for it.
 //
-//     Last t 4294967295: the tick after it has SCHEMA with every t it could bring.
+//     last t at its end: the next tick's SCHEMA, for many values of its t
 //
 // Each line starts anew: a reset, a tick that only sets the clock (it brings no chunk, and so is a fault tick), and a tick that nothing is wrong with but,
 // where there is no next t, its t. The lines that begin with another last t show that such a tick passes (trips 0).

@@ -1,4 +1,4 @@
--- The tally and the ticks since the reset: the proofs of specs/Tallies.
+-- The tally and its ticks: the proofs of specs/Tallies.
 use mathlib.Core.Path.{_≡_, refl, _∙_, ap, sym}
 use mathlib.Core.Bool.{Bool, true, false, cond}
 use mathlib.Core.List.{List, [], _∷_}
@@ -8,7 +8,7 @@ use lib.ListN.{length}
 use Rattle.lictor_core.specs.declared.fuse.FuseRt.{FuseRt}
 use Rattle.lictor_core.specs.declared.state.FuseState.the-variants as S
 use Rattle.lictor_core.specs.declared.verdict.SafetyVerdict.{SafetyVerdict}
-use Rattle.lictor_core.specs.Initial.{resetOf}
+use Rattle.lictor_core.specs.Initial.{emptyTally, newOf, resetOf}
 use Rattle.lictor_settings.specs.Settings.{configOf}
 use Rattle.lictor_stages.specs.Judge.{judgeOf}
 use Rattle.lictor_verdict.specs.Verdict.{verdictOf, faultVerdict, eventsOf}
@@ -21,7 +21,7 @@ use Rattle.lictor_decide.specs.Decide.{chunkTally, closedOf, closeClean, cleanT
 use Rattle.lictor_fuse.specs.Tick.{isAccepted, givenOf}
 use Rattle.claims.specs.Runs.{Step, silent, event, andThen}
 use Rattle.claims.specs.Calls.{Call, answerOf, tripsOf, after}
-use Rattle.claims.specs.Tallies.{itemBy, itemOf, historyFrom, verdictsFrom, number, endedIn, endedNominal, TalliesTold}
+use Rattle.claims.specs.Tallies.{itemBy, itemOf, historyFrom, verdictsFrom, number, endedIn, endedNominal, TallyTold, TalliesTold}
 use Rattle.claims.proofs.Tick.{by-step, by-guard, decided}
 
 -- a tick leaves the tally with its item recorded
@@ -64,11 +64,9 @@ same-length r cs = sym (every-item (historyFrom r cs)) ∙ same-number (λ v. tr
 
 -- ---- the claim
 
-pub tally-told : TalliesTold
-unfolding resetOf
-tally-told r cs =
-    let z = resetOf r in
-    let e : after z cs .tally ≡ tallyOf (historyFrom z cs) = tally-after z cs in
+from-empty : (z : FuseRt) (cs : List Call) → z .tally ≡ emptyTally → TallyTold z cs
+from-empty z cs empty =
+    let e : after z cs .tally ≡ tallyOf (historyFrom z cs) = tally-after z cs ∙ ap (λ t. tallyFrom t (historyFrom z cs)) empty in
     let l = history (historyFrom z cs) in
     let n = same-length z cs in
     record {
@@ -88,3 +86,7 @@ tally-told r cs =
             terminated = l .exact f H.terminated ∙ same-number (endedIn S.Terminated) z cs;
           });
     }
+
+pub tally-told : TalliesTold
+unfolding resetOf newOf
+tally-told = record { from-reset = λ r cs. from-empty (resetOf r) cs refl; from-new = λ cs. from-empty newOf cs refl }

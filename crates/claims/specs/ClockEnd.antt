@@ -1,4 +1,4 @@
--- The end of the clock: after t = 4294967295 every tick is a fault tick (01-scope.md, cases, "Last t 4294967295"; fuse.rs, guard).
+-- The end of the clock: the tick after t = 4294967295 is a fault tick, whatever it brings, and so every later one ends in Fault (01-scope.md, cases, "Last t 4294967295"; fuse.rs, guard).
 -- Proved in proofs/ClockEnd, `clock-ends`.
 use mathlib.Core.Path.{_≡_}
 use Prim.Native.Nat.{ℕ, _+_, _≤_, _<_}

@@ -1,4 +1,4 @@
--- The tally and the ticks since the reset: what the run state's tally holds after any list of calls (01-scope.md, Modules 4).
+-- The tally and its ticks: what the run state's tally holds after any list of calls from a reset on, or from the settings on (01-scope.md, Modules 4).
 -- Proved in proofs/Tallies, `tally-told`.
 use mathlib.Core.Path.{_≡_}
 use mathlib.Core.Bool.{Bool, cond, _&&_}
@@ -12,7 +12,7 @@ use Rattle.lictor_core.specs.declared.state.FuseState.the-variants as S
 use Rattle.lictor_core.specs.declared.tally.Tally.{Tally}
 use Rattle.lictor_core.specs.declared.verdict.SafetyVerdict.{SafetyVerdict}
 use Rattle.lictor_core.specs.Codes.{isState}
-use Rattle.lictor_core.specs.Initial.{resetOf}
+use Rattle.lictor_core.specs.Initial.{newOf, resetOf}
 use Rattle.lictor_delivery.specs.Delivery.{deliveredOf}
 use Rattle.lictor_verdict.specs.Verdict.{eventsOf, noEvents, rejectedOf}
 use Rattle.lictor_table.specs.declared.Turn.{Turn}
@@ -85,6 +85,9 @@ pub record TallyTold (r : FuseRt) (cs : List Call) : Type 0 where
   -- below 2^32 ticks
   pub states : length (verdictsFrom r cs) < 2 ^ 32 → StateCounts (after r cs .tally) (verdictsFrom r cs)
 
--- after any calls from a reset on, whatever their settings, refused ones among them
-abbrev pub TalliesTold : Type 0
-TalliesTold = (r : FuseRt) (cs : List Call) → TallyTold (resetOf r) cs
+-- after any calls, whatever their settings, refused ones among them
+pub record TalliesTold : Type 0 where
+  -- from a reset on
+  pub from-reset : (r : FuseRt) (cs : List Call) → TallyTold (resetOf r) cs
+  -- from the start on, where no reset came: a tick then ends in Fault, and is counted all the same
+  pub from-new : (cs : List Call) → TallyTold newOf cs

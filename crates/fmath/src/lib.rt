@@ -3,7 +3,7 @@
 // What Rust takes from its library, `is_finite`, `sqrt` (in the crate `root`) and the special values, is worked out from the bits:
 // bit 63 is the sign, bits 52 to 62 are the exponent field, and bits 0 to 51 are the stored digits.
 ghost use mathlib.Core.Path.{_≡_};
-ghost use mathlib.Core.Bool.{true, false};
+ghost use mathlib.Core.Bool.{true, false, not};
 ghost use Prim.Native.Nat.{min as Nat·min};
 ghost use lib.Ieee.{inf, nan as Ieee·nan};
 ghost use lib.Ieee.Scale.{finite};
@@ -65,6 +65,13 @@ pub fn all_finite(v: &[f64]) -> bool
         }
     }
     true
+}
+
+// Whether some element is not finite.
+pub fn some_bad(v: &[f64]) -> bool
+    ensures { λ r. ⌜ r ≡ not (allFinite (now (v .entry))) ⌝ }
+{
+    !all_finite(v)
 }
 
 // ---- order

@@ -111,7 +111,7 @@ pub extern "C" fn disklorva_new() -> RunState
     state_out(z)
 }
 
-// Starts an episode in the lent run state.
+// Starts an episode in the lent run state. Every field is promised; the bytes between the fields, and which pattern a NaN has, are the program's choice.
 #[no_mangle]
 pub extern "C" fn disklorva_reset(rt: &mut RunState)
     ensures { λ _. ⌜ now (rt .exit) ≡ resetRun (now (rt .entry)) ⌝ }
@@ -120,6 +120,7 @@ pub extern "C" fn disklorva_reset(rt: &mut RunState)
 }
 
 // One tick of the lent run state. Where the settings are refused, the answer has the number of the cause and no verdict, and nothing is written: not even the bytes between the fields change.
+// Where they are accepted every field of state and answer is promised; the bytes between the fields, and which pattern a NaN has, are the program's choice, and nothing depends on them.
 #[no_mangle]
 pub extern "C" fn disklorva_tick(
     rt: &mut RunState,
@@ -148,7 +149,7 @@ pub extern "C" fn disklorva_tick(
     }
 }
 
-// One tick by value: the run state goes in and comes back, and nothing that is lent is changed. It lends a copy.
+// One tick by value: the run state goes in and comes back, and nothing that is lent is changed. It lends a copy. Its promise leaves open what that of `disklorva_tick` does.
 #[no_mangle]
 pub extern "C" fn disklorva_call(
     s: Settings,
@@ -172,7 +173,7 @@ pub extern "C" fn disklorva_call(
     }
 }
 
-// The square root that the tick uses, the double nearest the exact root: for those who measure or compare it alone.
+// The square root that the tick uses, the double nearest the exact root: for those who measure or compare it alone. Which pattern a NaN has is the program's choice.
 #[no_mangle]
 pub extern "C" fn disklorva_sqrt(x: f64) -> f64
     ensures { λ r. ⌜ r ≡ rootOf x ⌝ }

@@ -1,5 +1,5 @@
 -- Three calls in a row.
--- It joins the code of the module `example` to `tickOf`: each call gets the run state that the one before left (01-scope.md, The list in demand 3).
+-- It joins the code of this crate to `tickOf`: each call gets the run state that the one before left (01-scope.md, The list in demand 3).
 use mathlib.Core.List.{List}
 use lib.Ieee.{Float}
 use Rattle.lictor_core.specs.declared.envelope.Settings.{Settings}

@@ -16,7 +16,7 @@ use Rattle.bytes_le.proofs.Laws.{leAt-under}
 use Rattle.records.specs.declared.Record.the-variants.{Settings, Reset, Ack, Head, Value, Outcome, Tick}
 use Rattle.records.specs.Kinds.{journalKinds, bodyLen, settingsKind, resetKind, ackKind, headKind, valueKind, outcomeKind}
 use Rattle.long_records.specs.Long.{limitsOf, settingsOf}
-use Rattle.records.specs.Body.{ackOf, headOf, tickOf, recordOf}
+use Rattle.records.specs.Body.{ackOf, headOf, tickNumbers, recordOf}
 use Rattle.judge.specs.declared.Refusal.{Refusal}
 use Rattle.judge.specs.declared.Seen.{Seen}
 use Rattle.judge.specs.declared.Judged.{Judged}
@@ -86,7 +86,7 @@ module _ (st : State) (b : List ℕ) (n : ℕ) where
   settings-move e c z = (e, (refl, (c, z)))
 
   others-move : came st ≡ true → (p q r s t : Bool)
-      → Moves st (onRecord st b n (cond p Reset (cond q (Ack (ackOf b)) (cond r (Head (headOf b)) (cond s (Value (byteAt b 0) (floatAt b 1)) (cond t Outcome (Tick (tickOf b))))))))
+      → Moves st (onRecord st b n (cond p Reset (cond q (Ack (ackOf b)) (cond r (Head (headOf b)) (cond s (Value (byteAt b 0) (floatAt b 1)) (cond t Outcome (Tick (tickNumbers b))))))))
   unfolding onRecord emptied ackWaits headWaits valueWaits outcomeWaits
   others-move e true q r s t = (e, e)
   others-move e false true r s t = refl

@@ -25,7 +25,7 @@ abbrev pub wholeOf : Reader → Run → List Float → Whole
 wholeOf rd run l = record { state = record { reader = rd; lists = l }; run = run }
 
 -- a tick: its verdict, the fuse after it, and the reader with nothing that waits
-unfoldable pub tickOf : Whole → TickInput → Ticked
-tickOf w input =
+unfoldable pub journalTick : Whole → TickInput → Ticked
+journalTick w input =
     let d = decidedOf (w .run) (callOf (w .state) input) in
     record { reader = emptied (w .state .reader); run = tickedOf (w .run) d; verdict = d .verdict }

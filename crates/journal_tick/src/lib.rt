@@ -4,7 +4,7 @@ ghost use Prim.Native.Nat.{_<_};
 ghost use lib.ListN.{length};
 ghost use Rattle.waiting.specs.State.{valuesOf};
 ghost use Rattle.reader.specs.Reading.{callOf};
-ghost use Rattle.journal_tick.specs.Tick.{decidedOf, wholeOf, tickOf};
+ghost use Rattle.journal_tick.specs.Tick.{decidedOf, wholeOf, journalTick};
 use judge::Seen;
 use lictor_core::envelope::FuseConfig;
 use lictor_core::fuse::FuseRt;
@@ -62,7 +62,7 @@ fn decide_on(rd: Reader, run: Run, lists: &[f64; 576], inp: TickInput) -> Decide
 
 // The tick that comes next, on all that was collected.
 pub fn tick(rd: Reader, run: Run, lists: &[f64; 576], inp: TickInput) -> Ticked
-    ensures { λ r. ⌜ r ≡ tickOf (wholeOf rd run (now (lists .entry))) inp ⌝ }
+    ensures { λ r. ⌜ r ≡ journalTick (wholeOf rd run (now (lists .entry))) inp ⌝ }
 {
     let d = decide_on(rd, run, lists, inp);
     let config = run.config;

@@ -37,11 +37,11 @@ unknownKind kinds seen k b = not (isKnown kinds k)
 unfoldable pub bodyCut : List ℕ → Seen → ℕ → List ℕ → Bool
 bodyCut kinds seen k b = ltb (length b) (bodyLen kinds k)
 
--- any kind but settings, before settings
+-- row 3: a record of another kind comes before the settings
 unfoldable pub beforeSettings : Seen → ℕ → List ℕ → Bool
 beforeSettings seen k b = not (eqb k settingsKind) && not (seen .settings)
 
--- settings again; ack, head or outcome again before its tick
+-- row 4: a second settings record, or a second acknowledgement, head or outcome while one waits
 unfoldable pub again : Seen → ℕ → List ℕ → Bool
 again seen k b =
     cond (eqb k settingsKind) (seen .settings)
@@ -60,23 +60,23 @@ codeNotListed seen k b =
     (cond (eqb k tickKind) (notBelow 2 (byteAt b 7) || notBelow 2 (byteAt b 8))
     false))))
 
--- settings with dim or pos_dim not 1 to 8, horizon not 1 to 64, or exec not 1 to horizon
+-- row 6, of settings: a size outside its range
 unfoldable pub sizeOutside : Seen → ℕ → List ℕ → Bool
 sizeOutside seen k b = cond (eqb k settingsKind) (badSize (settingsOf b)) false
 
--- settings with a float not finite; of tau only a NaN is refused
+-- row 7, of settings: an infinity or a NaN among the floats; tau may be infinite
 unfoldable pub floatNotFinite : Seen → ℕ → List ℕ → Bool
 floatNotFinite seen k b = cond (eqb k settingsKind) (badFloat (settingsOf b)) false
 
--- settings with a box_lo above its box_hi, all 8 pairs
+-- row 8, of settings: one of the 8 pairs of the box is crossed
 unfoldable pub boxCrossed : Seen → ℕ → List ℕ → Bool
 boxCrossed seen k b = cond (eqb k settingsKind) (badBox (settingsOf b)) false
 
--- a value for a full list
+-- row 9: a value whose list has no room left
 unfoldable pub listFull : Seen → ℕ → List ℕ → Bool
 listFull seen k b = cond (eqb k valueKind) (leb (getD capacities (byteAt b 0) 0) (countOf seen (byteAt b 0))) false
 
--- a tick with no outcome, chunk values without a head, or vel values without the velocity flag
+-- row 10, of a tick: no outcome waits for it, or values wait that it cannot take (a chunk's with no head, a velocity's with its flag off)
 unfoldable pub notReady : Seen → ℕ → List ℕ → Bool
 notReady seen k b =
     cond (eqb k tickKind)

@@ -25,7 +25,7 @@ statusOf s = byState s Q.Nominal Q.Nominal Q.Watching Q.Clamped Q.Braking Q.Held
 unfoldable pub sourceOf : FuseState → ActionSource
 sourceOf s = byState s A.Hold A.Policy A.Policy A.Clamped A.Brake A.Hold A.Hold A.Hold A.Hold
 
--- of an outcome's row the first dim components are taken, the rest are zero
+-- an outcome's row, with zeros from place dim on
 unfoldable pub cutRow : FuseConfig → List Float → List Float
 cutRow cfg row = takenRow row (zeros 8) (cfg .dim)
 

@@ -3,8 +3,6 @@ ghost use mathlib.Core.Path.{_≡_};
 ghost use Rattle.lictor_core.specs.Codes.{kindOf};
 use crate::state::Time;
 
-// Largest horizon of a chunk.
-pub const MAX_H: usize = 64;
 // Most components of an action.
 pub const MAX_D: usize = 8;
 // Most components of a position.

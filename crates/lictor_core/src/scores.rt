@@ -1,6 +1,4 @@
 // Detector scores (scores.rs), without the raw features `f`.
-pub const NFEAT: usize = 12;
-
 pub struct Scores {
     // standardised, one for each feature
     pub z: [f64; 12],

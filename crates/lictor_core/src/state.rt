@@ -1,6 +1,6 @@
 // Fuse states and modes (state.rs).
 ghost use mathlib.Core.Path.{_≡_};
-ghost use Rattle.lictor_core.specs.Codes.{stateCode, isStop, modeCode, isObserve, modeOf};
+ghost use Rattle.lictor_core.specs.Codes.{stateCode, isState, isStop, modeCode, isObserve, modeOf};
 
 pub enum FuseState {
     Idle,
@@ -37,6 +37,13 @@ pub fn state_code(s: FuseState) -> u8
         FuseState::Fault => 7,
         FuseState::Terminated => 8,
     }
+}
+
+// Whether the two are one state.
+pub fn is_state(s: FuseState, q: FuseState) -> bool
+    ensures { λ r. ⌜ r ≡ isState s q ⌝ }
+{
+    state_code(s) == state_code(q)
 }
 
 // Whether the fuse stops the robot in this state.

@@ -10,8 +10,8 @@ use lictor_core::num::sat_u32;
 use lictor_core::reason::ReasonCode;
 use lictor_core::state::FuseState;
 use lictor_core::state::Time;
+use lictor_core::state::is_state;
 use lictor_core::state::is_stop;
-use lictor_core::state::state_code;
 use lictor_core::tally::Mark;
 use lictor_core::tally::ReasonMark;
 use lictor_core::tally::Tally;
@@ -22,12 +22,6 @@ pub fn count_if(moves: bool, n: u32) -> u32
     ensures { λ r. ⌜ r ≡ count moves n ⌝ }
 {
     if moves { sat_u32(n) } else { n }
-}
-
-fn is_state(s: FuseState, q: FuseState) -> bool
-    ensures { λ r. ⌜ r ≡ isState s q ⌝ }
-{
-    state_code(s) == state_code(q)
 }
 
 // The count of ticks that end in q, after one that ends in s.

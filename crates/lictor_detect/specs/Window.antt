@@ -19,10 +19,6 @@ pushOf w hit mask = record { bits = bitAnd (bitOr (w .bits * 2 % 2 ^ 64) (bitOf 
 unfoldable pub hitsOf : Window → ℕ
 hitsOf w = ones (w .bits)
 
--- Window::clear
-unfoldable pub clearWindow : Window
-clearWindow = record { bits = 0 }
-
 -- hit (01-scope.md, One tick): the score is above tau, strictly
 unfoldable pub tripOf : Calibration → Scores → Bool
 tripOf cal sc = lt (cal .tau) (sc .s)

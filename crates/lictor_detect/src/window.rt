@@ -1,6 +1,6 @@
 // The K-of-N hit window: a shift register of 64 bits (window.rs).
 ghost use mathlib.Core.Path.{_≡_};
-ghost use Rattle.lictor_detect.specs.Window.{bitOf, pushOf, hitsOf, clearWindow};
+ghost use Rattle.lictor_detect.specs.Window.{bitOf, pushOf, hitsOf};
 use lictor_core::fuse::Window;
 
 fn bit(hit: bool) -> u64
@@ -24,11 +24,4 @@ pub fn hits(w: Window) -> u8
     ensures { λ r. ⌜ r ≡ hitsOf w ⌝ }
 {
     u64::count_ones(w.bits) as u8
-}
-
-// A window without hits.
-pub fn clear() -> Window
-    ensures { λ r. ⌜ r ≡ clearWindow ⌝ }
-{
-    Window { bits: 0 }
 }

@@ -2,11 +2,10 @@
 // change of a counter: rows 4 to 8, of Escalated, in the crate lictor_escalated, rows 9 to 13, of Held, in lictor_held, rows 17 to 23, of the running
 // states, in lictor_running, the others here. The run state goes in by value and comes back.
 //
-// Three kinds of function: tests and numbers over plain values; rows, which change the run state and do not branch; and choices, which only test
-// and hand on.
+// Three kinds of function: tests and numbers over plain values; rows, which change the run state and do not branch; and choices, which test
+// and then hand on, or answer with nothing changed.
 ghost use mathlib.Core.Path.{_≡_};
-ghost use Prim.Native.Nat.{_≤_, min};
-ghost use Rattle.lictor_core.specs.Codes.{isState};
+ghost use Prim.Native.Nat.{_≤_};
 ghost use Rattle.lictor_core.specs.declared.state.FuseState.the-variants.{Fault};
 ghost use Rattle.lictor_table.specs.Fields.{withState};
 ghost use Rattle.lictor_table.specs.Helpers.{faultReason, latchedOf, latchHold, countIf, isClean, countRun, to, settledOf};
@@ -17,11 +16,12 @@ use lictor_core::ack::MaybeAck;
 use lictor_core::chunk::MAX_POS;
 use lictor_core::envelope::FuseConfig;
 use lictor_core::fuse::Control;
+use lictor_core::num::least;
 use lictor_core::num::sat_u8;
 use lictor_core::num::sat_u16;
 use lictor_core::reason::ReasonCode;
 use lictor_core::state::FuseState;
-use lictor_core::state::state_code;
+use lictor_core::state::is_state;
 use lictor_core::verdict;
 use lictor_core::verdict::any;
 use lictor_escalated::accepted_ack;
@@ -165,13 +165,6 @@ fn by_from(
 
 // ---- the hold, and Fault
 
-// The components that are live.
-fn live(pos_dim: usize) -> usize
-    ensures { λ r. ⌜ r ≡ min «pos_dim» 8 ⌝ }
-{
-    if pos_dim < MAX_POS { pos_dim } else { MAX_POS }
-}
-
 fn latched(pos: [f64; 8], lo: [f64; 8], hi: [f64; 8], hold: [f64; 8], n: usize) -> [f64; 8]
     requires { ⌜ n ≤ 8 ⌝ }
     ensures { λ r. ⌜ r ≡ latchedOf pos lo hi hold n ⌝ }
@@ -191,7 +184,7 @@ fn latch_hold(cfg: FuseConfig, rt: Control, pos: [f64; 8]) -> Control
     ensures { λ r. ⌜ r ≡ latchHold cfg pos rt ⌝ }
 {
     let mut q = rt;
-    let n = live(cfg.pos_dim);
+    let n = least(cfg.pos_dim, MAX_POS);
     let lo = cfg.box_lo;
     let hi = cfg.box_hi;
     let old = rt.hold;
@@ -225,17 +218,11 @@ fn fault_reason(trips: u32) -> ReasonCode
     ReasonCode::FaultWatchdog
 }
 
-fn is_fault(s: FuseState) -> bool
-    ensures { λ r. ⌜ r ≡ isState s Fault ⌝ }
-{
-    state_code(s) == 7
-}
-
 // Row 1: a Fault that keeps faulting does not chase a drifting position.
 fn fault_row(cfg: FuseConfig, rt: Control, pos: [f64; 8], from: FuseState, trips: u32) -> Turn
     ensures { λ r. ⌜ r ≡ faultRow cfg rt pos from trips ⌝ }
 {
-    if is_fault(from) {
+    if is_state(from, FuseState::Fault) {
         return fault_again(rt, trips);
     }
     fault_first(cfg, rt, pos, trips)

@@ -37,18 +37,12 @@ fn measure(pos: &[f64], vel: &[f64], aux: &[f64], ext: &[f64], chunk: &[f64]) ->
     }
 }
 
-fn some_bad(v: &[f64]) -> bool
-    ensures { λ r. ⌜ r ≡ not (allFinite (now (v .entry))) ⌝ }
-{
-    !fmath::all_finite(v)
-}
-
 // A list that is not supplied is not looked at.
 fn bad_if(supplied: bool, v: &[f64]) -> bool
     ensures { λ r. ⌜ r ≡ (supplied && not (allFinite (now (v .entry)))) ⌝ }
 {
     if supplied {
-        return some_bad(v);
+        return fmath::some_bad(v);
     }
     false
 }
@@ -64,16 +58,16 @@ fn nonfinite(
 ) -> bool
     ensures { λ r. ⌜ r ≡ nonFinite «has_vel» «has_chunk» (now (pos .entry)) (now (vel .entry)) (now (aux .entry)) (now (ext .entry)) (now (chunk .entry)) ⌝ }
 {
-    if some_bad(pos) {
+    if fmath::some_bad(pos) {
         return true;
     }
     if bad_if(has_vel, vel) {
         return true;
     }
-    if some_bad(aux) {
+    if fmath::some_bad(aux) {
         return true;
     }
-    if some_bad(ext) {
+    if fmath::some_bad(ext) {
         return true;
     }
     bad_if(has_chunk, chunk)

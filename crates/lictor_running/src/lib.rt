@@ -1,9 +1,8 @@
 // Rows 17 to 23 of fsm.rs and the stay rows: what the state machine does in Armed, Watching and Clamped, each row under its own number.
 //
 // Three kinds of function, as in lictor_fsm: tests and numbers over plain values; rows, which change the run state and do not branch; and choices,
-// which only test and hand on.
+// which test and then hand on, or answer with nothing changed.
 ghost use mathlib.Core.Path.{_≡_};
-ghost use Rattle.lictor_core.specs.Codes.{isState};
 ghost use Rattle.lictor_core.specs.declared.state.FuseState.the-variants.{Armed, Watching};
 ghost use Rattle.lictor_table.specs.Helpers.{clampReason, armedReason, upIf, to};
 ghost use Rattle.lictor_table.specs.Rows.{enterBraking, brakeRow, unclampableOf, overBudget, clampRow, clearedOf, clearRow, watchedOf, quietOf, runningOf};
@@ -15,7 +14,7 @@ use lictor_core::reason::ReasonCode;
 use lictor_core::state::FuseMode;
 use lictor_core::state::FuseState;
 use lictor_core::state::is_observe;
-use lictor_core::state::state_code;
+use lictor_core::state::is_state;
 use lictor_core::verdict;
 use lictor_core::verdict::any;
 use lictor_table::FsmInput;
@@ -170,10 +169,10 @@ fn quiet(cfg: FuseConfig, rt: Control, from: FuseState, warn: bool) -> Turn
         };
     }
     // Row 23.
-    if is_armed(from) {
+    if is_state(from, FuseState::Armed) {
         return armed_row(mode, rt);
     }
-    if is_watching(from) {
+    if is_state(from, FuseState::Watching) {
         return Turn {
             rt,
             state: FuseState::Watching,
@@ -193,7 +192,7 @@ fn quiet(cfg: FuseConfig, rt: Control, from: FuseState, warn: bool) -> Turn
 fn cleared(from: FuseState, need: u8, run: u16) -> bool
     ensures { λ r. ⌜ r ≡ clearedOf from need run ⌝ }
 {
-    if is_armed(from) {
+    if is_state(from, FuseState::Armed) {
         return false;
     }
     need as u16 <= run
@@ -244,16 +243,4 @@ fn armed_reason(mode: FuseMode) -> ReasonCode
         return ReasonCode::ObserveOnly;
     }
     ReasonCode::Ok
-}
-
-fn is_armed(s: FuseState) -> bool
-    ensures { λ r. ⌜ r ≡ isState s Armed ⌝ }
-{
-    state_code(s) == 1
-}
-
-fn is_watching(s: FuseState) -> bool
-    ensures { λ r. ⌜ r ≡ isState s Watching ⌝ }
-{
-    state_code(s) == 2
 }

@@ -20,7 +20,7 @@ outside low high n = ltb n low || ltb high n
 unfoldable pub badCode : Settings → Bool
 badCode s = leb 2 (s .mode) || (leb 5 (s .kind) || (leb 2 (s .clamp) || leb 2 (s .rearm)))
 
--- cause 2: dim or pos_dim not 1 to 8, horizon not 1 to 64, exec not 1 to horizon
+-- cause 2: a size outside its range, both ends included
 unfoldable pub badSize : Settings → Bool
 badSize s = outside 1 8 (s .dim) || (outside 1 8 (s .«pos_dim») || (outside 1 64 (s .horizon) || outside 1 (s .horizon) (s .exec)))
 

@@ -72,13 +72,6 @@ fn bad_size(s: Settings) -> bool
     outside(1, s.horizon, s.exec)
 }
 
-// Whether some value of the list is not finite.
-fn some_bad(v: &[f64]) -> bool
-    ensures { λ r. ⌜ r ≡ not (allFinite (now (v .entry))) ⌝ }
-{
-    !fmath::all_finite(v)
-}
-
 fn is_nan(x: f64) -> bool
     ensures { λ r. ⌜ r ≡ isNan x ⌝ }
 {
@@ -90,7 +83,7 @@ fn bad_float(s: Settings) -> bool
 {
     let h = s.hyst;
     let own = [s.dt, s.inv_dt, s.a_max, h.v_stop_eps, h.warn_margin];
-    if some_bad(&own) {
+    if fmath::some_bad(&own) {
         return true;
     }
     let c = s.calib;
@@ -98,11 +91,11 @@ fn bad_float(s: Settings) -> bool
         return true;
     }
     let lo = s.box_lo;
-    if some_bad(&lo) {
+    if fmath::some_bad(&lo) {
         return true;
     }
     let hi = s.box_hi;
-    some_bad(&hi)
+    fmath::some_bad(&hi)
 }
 
 // Whether a low end lies above its high end, among the 8 pairs.

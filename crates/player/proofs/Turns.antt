@@ -23,7 +23,7 @@ use Rattle.reader.proofs.Stream.{Ahead, ahead, settled-wait, settled-halt, sett
 use Rattle.reader.proofs.Reading.{ticks-is}
 use Rattle.journal.specs.declared.How.the-variants.{Waits, Refuses, Ticks}
 use Rattle.journal.specs.declared.Advanced as J
-use Rattle.journal_tick.specs.Tick.{Whole, wholeOf, decidedOf, tickedOf as after, tickOf}
+use Rattle.journal_tick.specs.Tick.{Whole, wholeOf, decidedOf, tickedOf as after, journalTick}
 use Rattle.journal.specs.Journal.{obey, obeyed, replayOf, howOf, advancedOf, listsAfter}
 use Rattle.journal.proofs.Replay.{replay-is, replay}
 use Rattle.journal.proofs.Steps.{part-from}
@@ -195,8 +195,8 @@ module _ (w : Whole) (s : List ℕ) (at : ℕ) (h : at ≤ length s) (a : J.Adva
           ∙ settled-tell play (play-there code (length out)) p (drop i s) behind m decided (play-room code (length out) p (drop i s) room (tell next m decided) tells)
           ∙ ap (λ (u : List ℕ). telling (decided ∷ []) (settled play behind u)) (drop-drop m i s ∙ ap (λ (j : ℕ). drop j s) k)
 
-      pub turned-ticks : (r : Turn) (out' : List ℕ) → tickedOf code (tickOf v inp) (i + 1 + bodyLen journalKinds (byteAt s i)) out n r out' → Turned code w s at out n r l' out'
-      unfolding eventsText tickOf after
+      pub turned-ticks : (r : Turn) (out' : List ℕ) → tickedOf code (journalTick v inp) (i + 1 + bodyLen journalKinds (byteAt s i)) out n r out' → Turned code w s at out n r l' out'
+      unfolding eventsText journalTick after
       turned-ticks r out' t = record {
         told = decided ∷ [];
         from = omega (arith, t .at-is);

@@ -3,7 +3,7 @@ ghost use mathlib.Core.Path.{_≡_};
 ghost use mathlib.Core.Bool.{true, false};
 ghost use Prim.Native.Nat.{_+_, _-_, _<_, _≤_};
 ghost use lib.ListN.{length};
-ghost use Rattle.journal_tick.specs.Tick.{wholeOf, tickOf};
+ghost use Rattle.journal_tick.specs.Tick.{wholeOf, journalTick};
 ghost use Rattle.player.specs.Play.{tickRoom, tickedOf, Turned, goesOnOf, Fed};
 use journal::How;
 use journal_tick::Run;
@@ -18,7 +18,7 @@ pub struct Turn {
     // the bytes that were taken, and those of text
     pub at: usize,
     pub n: usize,
-    // the room is full, and there may be more; else no more is to be had of these bytes. (Of one turn: its last record was a tick.)
+    // of one turn: its last record was a tick, so there may be more. Of `feed`: the room is full, and there may be more; else no more is to be had of these bytes
     pub ticked: bool,
     // the number of a refusal, or 0
     pub refused: u8,
@@ -36,7 +36,7 @@ fn play_tick(
     n: usize,
 ) -> Turn
     requires { ⌜ n + tickRoom ≤ length (now out) ⌝ }
-    ensures { λ r. ⌜ tickedOf code (tickOf (wholeOf rd run (now (lists .entry))) inp) at (now (out .entry)) n r (now (out .exit)) ⌝ }
+    ensures { λ r. ⌜ tickedOf code (journalTick (wholeOf rd run (now (lists .entry))) inp) at (now (out .entry)) n r (now (out .exit)) ⌝ }
 {
     let t = journal_tick::tick(rd, run, lists, inp);
     let reader = t.reader;

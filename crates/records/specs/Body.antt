@@ -23,8 +23,8 @@ unfoldable pub headOf : List ℕ → ChunkHead
 headOf b = record { seq = leAt b 0 4; «t_emit» = leAt b 4 4; horizon = leAt b 8 2; dim = leAt b 10 2; «exec_steps» = leAt b 12 2 }
 
 -- kind 7: t, idx, missed, schema flag, velocity flag
-unfoldable pub tickOf : List ℕ → TickNumbers
-tickOf b = record { t = leAt b 0 4; idx = leAt b 4 2; «missed_ticks» = byteAt b 6; «schema_fault» = flag (byteAt b 7); «has_vel» = flag (byteAt b 8) }
+unfoldable pub tickNumbers : List ℕ → TickNumbers
+tickNumbers b = record { t = leAt b 0 4; idx = leAt b 4 2; «missed_ticks» = byteAt b 6; «schema_fault» = flag (byteAt b 7); «has_vel» = flag (byteAt b 8) }
 
 -- the record of kind k with body b. Kind 5, value, has a list code and a float. A kind that is not listed is refused before, and its case here is the last.
 unfoldable pub recordOf : ℕ → List ℕ → Record
@@ -35,4 +35,4 @@ recordOf k b =
     (cond (eqb k headKind) (Head (headOf b))
     (cond (eqb k valueKind) (Value (byteAt b 0) (floatAt b 1))
     (cond (eqb k outcomeKind) Outcome
-    (Tick (tickOf b)))))))
+    (Tick (tickNumbers b)))))))

@@ -1,7 +1,7 @@
 // The records of a journal: how long a body is by its kind, and what it holds. Each reader takes the body alone, a part of the journal's bytes.
 ghost use mathlib.Core.Path.{_≡_};
 ghost use Rattle.records.specs.Kinds.{journalKinds, isKnown, bodyLen};
-ghost use Rattle.records.specs.Body.{ackOf, headOf, tickOf, recordOf};
+ghost use Rattle.records.specs.Body.{ackOf, headOf, tickNumbers, recordOf};
 use bytes_le::byte;
 use bytes_le::f64_at;
 use bytes_le::le16;
@@ -85,7 +85,7 @@ fn read_head(b: &[u8]) -> ChunkHead
 
 // Kind 7.
 fn read_tick(b: &[u8]) -> TickNumbers
-    ensures { λ r. ⌜ r ≡ tickOf (now (b .entry)) ⌝ }
+    ensures { λ r. ⌜ r ≡ tickNumbers (now (b .entry)) ⌝ }
 {
     TickNumbers {
         t: le32(b, 0),

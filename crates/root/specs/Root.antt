@@ -48,7 +48,7 @@ unitsOf (fin s m e) = inUnits m e
 abbrev pub plusZero : Float
 plusZero = fin false 0 (pos 0)
 
--- Of all values of binary64 r is the nearest to the root of x, and no other is as near.
+-- Of all values of binary64 r is the nearest to the root of x, and no other is as near, but for the sign of a zero: `rootOf` says which zero comes.
 -- Where x is X units its root is the root of X * 2 ^ 1074 units. For each other value, of Y units, the middle between it and r, (R + Y) / 2 units, lies beyond the root.
 -- Both sides are doubled and squared, so that only whole numbers are compared.
 pub record NearestRoot (x r : Float) : Type 0 where

@@ -1,4 +1,4 @@
--- The text that `roots` reads and writes. Definitions only.
+-- The text that `roots` reads and writes. It states nothing of the papers.
 use Prim.Native.Nat.{ℕ, zero, suc, _+_, _-_, _*_, _/_}
 use mathlib.Core.Path.{_≡_}
 use mathlib.Core.Bool.{Bool, true, false, cond}

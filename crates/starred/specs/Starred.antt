@@ -1,5 +1,5 @@
 -- The starred cases (01-scope.md, What a contract says, and the cases): rows of one table. A row has what the definitions give and what they should give, as numbers.
--- Cases of a tick go through `tickOf`, the definition that `tick` promises; where a row names no guard bit and no trip, none comes.
+-- Cases of a tick go through `tickOf`, the definition that `tick` promises. A case of the paper brings no guard bit and no trip but those that it names.
 use mathlib.Core.Bool.{Bool, true, false, cond}
 use mathlib.Core.List.{List, [], _∷_}
 use Prim.Native.Nat.{ℕ}
@@ -161,33 +161,33 @@ afterClamp = tick (limits 2 5 5) (started Armed 2) 0 0 NoAck 1 .rt
 
 unfoldable pub starred : List Case
 starred =
-    -- Escalated, E = 0, no acknowledgement: Terminated, 4096, reason 25
+    -- the handoff limit 0, and nobody answers
     ending (tick (limits 2 5 0) (started Escalated 0) 0 0 NoAck 0) is (8 ∷ 4096 ∷ 25 ∷ [])
-    -- nonce 0 in Held: not accepted; nothing is stored and the fuse stays held
+    -- a nonce of 0 while held: nothing is stored and the fuse stays held
     ∷ acceptance (ackOf Resume 3 0) is (0 ∷ [])
     ∷ answered (tick (limits 2 5 5) (started Held 0) 0 0 (Given (ackOf Resume 3 0)) 0) is (5 ∷ 13 ∷ 0 ∷ [])
-    -- slot 7, nonce 1, handoff 0 after a reset: accepted; slot 8: not
+    -- the last slot there is, and the one past it
     ∷ acceptance (ackOf Resume 7 1) is (1 ∷ [])
     ∷ acceptance (ackOf Resume 8 1) is (0 ∷ [])
-    -- Retune in Escalated: reason 26, nonce stored; in Held below H under AckOnly: 13, not stored
+    -- a Retune in each of the two states that take acknowledgements
     ∷ answered (tick (limits 2 5 5) (started Escalated 0) 0 0 (Given (ackOf Retune 3 1)) 0) is (8 ∷ 26 ∷ 1 ∷ [])
     ∷ answered (tick (limits 2 5 5) (started Held 0) 0 0 (Given (ackOf Retune 3 1)) 0) is (5 ∷ 13 ∷ 0 ∷ [])
-    -- running, limit 2, clamps 2, soft trip: Clamped, clamps 3; the next tick, no trips: Braking, 2048, reason 11
+    -- a clamp at the clamp limit, and the tick after it
     ∷ clamping (tick (limits 2 5 5) (started Armed 2) 0 0 NoAck 1) is (3 ∷ 3 ∷ [])
     ∷ ending (tick (limits 2 5 5) afterClamp 1 0 NoAck 0) is (4 ∷ 2048 ∷ 11 ∷ [])
-    -- limit and clamps 65535: Clamped, still 65535
+    -- the same with limit and count at the end of the counter
     ∷ clamping (tick (limits 65535 5 5) (started Armed 65535) 0 0 NoAck 1) is (3 ∷ 65535 ∷ [])
-    -- B = 0, Braking, standing still: Fault, reason 20
+    -- the brake limit 0, with the arm at a standstill
     ∷ ending (tick (limits 2 0 5) (started Braking 0) 0 0 NoAck 0) is (7 ∷ 16384 ∷ 20 ∷ [])
-    -- Terminated, WATCHDOG: Fault, reason 19; found by the guard, and brought by the outcome
+    -- a watchdog fault after the end: found by the guard, and brought by the outcome
     ∷ ending (tick (limits 2 5 5) (started Terminated 0) 0 1 NoAck 0) is (7 ∷ 512 ∷ 19 ∷ [])
     ∷ ending (tick (limits 2 5 5) (started Terminated 0) 0 0 NoAck 512) is (7 ∷ 512 ∷ 19 ∷ [])
-    -- trips 896: reason 17; found by the guard (a NaN, t not 0, one tick missed), and brought by the outcome
+    -- all three fault bits: found by the guard (a NaN, t not 0, one tick missed), and brought by the outcome
     ∷ ending (tickOf (settings (limits 2 5 5)) (started Armed 0) (input 7 1 NoAck) (outcome 0) (nan ∷ []) [] [] [] []) is (7 ∷ 896 ∷ 17 ∷ [])
     ∷ ending (tick (limits 2 5 5) (started Armed 0) 0 0 NoAck 896) is (7 ∷ 896 ∷ 17 ∷ [])
-    -- the root of 2.25 is 1.5, by their bits
+    -- the root of 2.25, by its bits
     ∷ (toBits binary64 (rootOf (ofBits binary64 0x4002_0000_0000_0000)) ∷ []) is (0x3ff8_0000_0000_0000 ∷ [])
-    -- margin 0.0625 prints 63, and -0.0625 prints -63
+    -- an exact half of a millimetre, above zero and below
     ∷ marginText (marginOf (ofBits binary64 0x3fb0_0000_0000_0000)) is ascii "63"
     ∷ marginText (marginOf (ofBits binary64 0xbfb0_0000_0000_0000)) is ascii "-63"
     ∷ []

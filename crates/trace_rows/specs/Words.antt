@@ -1,4 +1,4 @@
--- A list of names as one text, with a blank between each two.
+-- A list of names as one text, with a blank between each two. It states nothing of the papers.
 use Prim.Native.Nat.{ℕ, zero, suc}
 use mathlib.Core.Bool.{cond}
 use mathlib.Core.List.{List, [], _∷_}

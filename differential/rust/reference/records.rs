@@ -1,4 +1,4 @@
-//! The records of a journal: one byte of kind, then a body whose length the kind fixes (01-scope.md, "Journal").
+//! The records of a journal (01-scope.md, "Journal"): the kind byte tells how long the body behind it is.
 
 pub const SETTINGS: u8 = 1;
 pub const RESET: u8 = 2;

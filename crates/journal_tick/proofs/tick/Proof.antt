@@ -1,5 +1,5 @@
 use borrow.Author.Needs.{needs}
-use Rattle.journal_tick.specs.Tick.{tickedOf, tickOf}
+use Rattle.journal_tick.specs.Tick.{tickedOf, journalTick}
 use Rattle.journal_tick.proofs.tick.Statement.{statement}
 use Rattle.journal_tick.proofs.tick.Tie as tie
 
@@ -10,7 +10,7 @@ emptied-requires : tie.Need-emptied-requires
 emptied-requires c κs = search needs
 
 returns : tie.Need-returns
-unfolding tickOf tickedOf
+unfolding journalTick tickedOf
 returns c = rw (c .emptied .ensures, c .before .before .before .before .decide-on .ensures)
 
 pub tick-spec : {M : Type 1} → statement M

@@ -4,8 +4,8 @@ use borrow.Author.Needs.{needs}
 use Rattle.lictor_fsm.proofs.fault_row.Statement.{statement}
 use Rattle.lictor_fsm.proofs.fault_row.Tie as tie
 
-is-fault-requires : tie.Need-is-fault-requires
-is-fault-requires c κs = search needs
+is-state-requires : tie.Need-is-state-requires
+is-state-requires c κs = search needs
 
 fault-again-requires : tie.Need-fault-again-requires
 fault-again-requires c κs = search needs
@@ -24,4 +24,4 @@ returns-2 c = search branches depth 12
 pub fault-row-spec : {M : Type 1} → statement M
 fault-row-spec =
     tie.close
-    (tie.spec is-fault-requires fault-again-requires returns fault-first-requires returns-2)
+    (tie.spec is-state-requires fault-again-requires returns fault-first-requires returns-2)

@@ -3,15 +3,15 @@ use borrow.Author.Needs.{needs}
 use Rattle.lictor_fsm.proofs.latch_hold.Statement.{statement}
 use Rattle.lictor_fsm.proofs.latch_hold.Tie as tie
 
-live-requires : tie.Need-live-requires
-live-requires c κs = search needs
+least-requires : tie.Need-least-requires
+least-requires c κs = search needs
 
 latched-requires : tie.Need-latched-requires
 latched-requires c κs = search needs
 
 returns : tie.Need-returns
 unfolding latchHold
-returns c = rw (c .latched .ensures, c .before .before .before .before .live .ensures)
+returns c = rw (c .latched .ensures, c .before .before .before .before .least .ensures)
 
 pub latch-hold-spec : {M : Type 1} → statement M
-latch-hold-spec = tie.close (tie.spec live-requires latched-requires returns)
+latch-hold-spec = tie.close (tie.spec least-requires latched-requires returns)

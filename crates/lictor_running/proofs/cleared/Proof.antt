@@ -4,8 +4,8 @@ use borrow.Author.Needs.{needs}
 use Rattle.lictor_running.proofs.cleared.Statement.{statement}
 use Rattle.lictor_running.proofs.cleared.Tie as tie
 
-is-armed-requires : tie.Need-is-armed-requires
-is-armed-requires c κs = search needs
+is-state-requires : tie.Need-is-state-requires
+is-state-requires c κs = search needs
 
 returns : tie.Need-returns
 unfolding clearedOf
@@ -16,4 +16,4 @@ unfolding clearedOf
 returns-2 c = search branches depth 12
 
 pub cleared-spec : {M : Type 1} → statement M
-cleared-spec = tie.close (tie.spec is-armed-requires returns returns-2)
+cleared-spec = tie.close (tie.spec is-state-requires returns returns-2)

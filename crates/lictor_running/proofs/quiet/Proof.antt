@@ -21,8 +21,8 @@ returns-2 : tie.Need-returns-2
 unfolding quietOf
 returns-2 c = search branches depth 12
 
-is-armed-requires : tie.Need-is-armed-requires
-is-armed-requires c κs = search needs
+is-state-requires : tie.Need-is-state-requires
+is-state-requires c κs = search needs
 
 armed-row-requires : tie.Need-armed-row-requires
 armed-row-requires c κs = search needs
@@ -31,8 +31,8 @@ returns-3 : tie.Need-returns-3
 unfolding quietOf
 returns-3 c = search branches depth 12
 
-is-watching-requires : tie.Need-is-watching-requires
-is-watching-requires c κs = search needs
+is-state-requires-2 : tie.Need-is-state-requires-2
+is-state-requires-2 c κs = search needs
 
 returns-4 : tie.Need-returns-4
 unfolding quietOf
@@ -51,9 +51,9 @@ quiet-spec =
     returns
     watched-requires
     returns-2
-    is-armed-requires
+    is-state-requires
     armed-row-requires
     returns-3
-    is-watching-requires
+    is-state-requires-2
     returns-4
     returns-5)

@@ -1,4 +1,4 @@
-use Rattle.records.specs.Body.{tickOf}
+use Rattle.records.specs.Body.{tickNumbers}
 use borrow.Author.Needs.{needs}
 use Rattle.records.proofs.read_tick.Statement.{statement}
 use Rattle.records.proofs.read_tick.Tie as tie
@@ -25,7 +25,7 @@ set-requires-2 : tie.Need-set-requires-2
 set-requires-2 c κs = search needs
 
 returns : tie.Need-returns
-unfolding tickOf
+unfolding tickNumbers
 returns c = rw (c .set2 .ensures, c .before .byte3 .ensures, c .before .before .set .ensures, c .before .before .before .byte2 .ensures, c .before .before .before .before .byte .ensures, c .before .before .before .before .before .le16 .ensures, c .before .before .before .before .before .before .le32 .ensures)
 
 pub read-tick-spec : {M : Type 1} → statement M

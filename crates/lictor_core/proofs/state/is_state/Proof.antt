@@ -1,6 +1,6 @@
 use borrow.Author.Needs.{needs}
-use Rattle.lictor_counts.proofs.is_state.Statement.{statement}
-use Rattle.lictor_counts.proofs.is_state.Tie as tie
+use Rattle.lictor_core.proofs.state.is_state.Statement.{statement}
+use Rattle.lictor_core.proofs.state.is_state.Tie as tie
 
 state-code-requires : tie.Need-state-code-requires
 state-code-requires c κs = search needs
