@@ -1,14 +1,18 @@
--- `host-run`: by induction on the list, since each call on a stored run state stores what the fuse returns (host_c, proofs/Stored).
+-- `host-run`: by induction on the list, since each call on a stored run state stores what the fuse returns (host_c, proofs/Stored). `host-stops`: demand 3 of that run.
 use mathlib.Core.Path.{_≡_, refl, ap, _∙_}
 use mathlib.Core.List.{List, [], _∷_, map}
 use Rattle.lictor_core.specs.Initial.{resetOf}
 use Rattle.lictor_core.specs.declared.fuse.FuseRt.{FuseRt}
-use Rattle.claims.specs.Calls.{answerOf}
+use Rattle.claims.specs.Runs.{All}
+use Rattle.claims.specs.Calls.{Under, answerOf}
+use Rattle.claims.proofs.Demand3.{stops-close}
+use Rattle.lictor_core.specs.declared.envelope.Settings.{Settings}
+use Rattle.host_layout.specs.Input.{settingsIn}
 use Rattle.host_state.specs.State.{stateIn, stateOut}
 use Rattle.host_c.specs.declared.Called.{Called}
 use Rattle.host_c.specs.Call.{steppedOf, resetRun}
 use Rattle.host_c.proofs.Stored.{tick-on-stored}
-use Rattle.host_claims.specs.HostRun.{HostCall, meant, answered, answeredFrom, answersFrom, HostRun}
+use Rattle.host_claims.specs.HostRun.{HostCall, meant, answered, answeredFrom, answersFrom, HostRun, HostsStop}
 
 stored-run : (r : FuseRt) (hs : List HostCall) → answeredFrom (stateOut r) hs ≡ map steppedOf (answersFrom r (map meant hs))
 unfolding steppedOf
@@ -21,3 +25,10 @@ stored-run r (h ∷ hs) =
 pub host-run : HostRun
 unfolding resetRun
 host-run rt hs = stored-run (resetOf (stateIn rt)) hs
+
+all-under : (s : Settings) (hs : List HostCall) → All (λ h. Under s (meant h)) hs → All (Under s) (map meant hs)
+all-under s [] u = tt
+all-under s (h ∷ hs) u = (u .0, all-under s hs (u .1))
+
+pub host-stops : HostsStop
+host-stops s z rt hs u = record { answers = host-run rt hs; stops = stops-close (settingsIn s) z (stateIn rt) (map meant hs) (all-under (settingsIn s) hs u) }

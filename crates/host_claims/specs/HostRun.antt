@@ -1,12 +1,14 @@
 -- A host in C or Rust calls the library again and again, each time on the run state that the call before left in the memory which it lends. What it is answered is what the fuse
--- answers to its own list of calls (01-scope.md, The list in demand 3), as numbers: so demand 3, which speaks of that list, holds for the host.
+-- answers to its own list of calls (01-scope.md, The list in demand 3), as numbers, and demand 3 holds of that list.
 use mathlib.Core.Path.{_≡_}
 use mathlib.Core.List.{List, [], _∷_, map}
 use lib.Ieee.{Float}
 use Rattle.lictor_core.specs.Initial.{resetOf}
 use Rattle.lictor_core.specs.declared.fuse.FuseRt.{FuseRt}
 use Rattle.lictor_fuse.specs.declared.tick.Ticked.{Ticked}
-use Rattle.claims.specs.Calls.{Call, answerOf}
+use Rattle.claims.specs.Runs.{All}
+use Rattle.claims.specs.Calls.{Call, Under, answerOf, ticksFrom}
+use Rattle.claims.specs.Demand3.{Sized, Demand3}
 use Rattle.host_layout.specs.declared.input.Settings.{Settings}
 use Rattle.host_layout.specs.declared.input.Input.{Input}
 use Rattle.host_layout.specs.declared.input.Outcome.{Outcome}
@@ -48,3 +50,12 @@ answersFrom r (c ∷ cs) = answerOf r c ∷ answersFrom (answerOf r c .rt) cs
 -- From a reset on, whatever numbers were lent for it: number, run state and verdict of each call are those of the fuse's own run.
 abbrev pub HostRun : Type 0
 HostRun = (rt : RunState) (hs : List HostCall) → answeredFrom (resetRun rt) hs ≡ map steppedOf (answersFrom (resetOf (stateIn rt)) (map meant hs))
+
+-- Of calls under one settings record s, refused ones among them: the library's answers are those of the fuse's own run, and of the ticks of that run the four parts of
+-- demand 3 hold. (That s is sized: every record that the code holds is, as `sized` of claims promises.)
+pub record HostStops (s : Settings) (rt : RunState) (hs : List HostCall) : Type 0 where
+  pub answers : answeredFrom (resetRun rt) hs ≡ map steppedOf (answersFrom (resetOf (stateIn rt)) (map meant hs))
+  pub stops : Demand3 (settingsIn s) (ticksFrom (resetOf (stateIn rt)) (map meant hs))
+
+abbrev pub HostsStop : Type 0
+HostsStop = (s : Settings) → Sized (settingsIn s) → (rt : RunState) (hs : List HostCall) → All (λ h. Under (settingsIn s) (meant h)) hs → HostStops s rt hs
