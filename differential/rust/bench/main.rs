@@ -47,6 +47,8 @@ fn main() -> ExitCode {
     let repeated = |run: &dyn Fn()| (0..times).for_each(|_| run());
     let theirs = || repeated(&|| rust.all(&calls));
     print("host tick (lent run state)", median(rounds, ticks, theirs, || repeated(&|| ours.lent(&calls))));
+    let theirs_seen = || repeated(&|| rust.all_seen(&calls));
+    print("host tick, verdict not copied", median(rounds, ticks, theirs_seen, || repeated(&|| ours.lent_seen(&calls))));
     print("tick by value", median(rounds, ticks, theirs, || repeated(&|| ours.by_value(&calls))));
     let theirs_by_value = || repeated(&|| rust.by_value(&calls));
     print("tick by value on both sides", median(rounds, ticks, theirs_by_value, || repeated(&|| ours.by_value(&calls))));
@@ -144,6 +146,17 @@ impl Rust {
         }
     }
 
+    /// The same, where the verdict is looked at where it was put, and not copied once more.
+    fn all_seen(&self, calls: &[Call]) {
+        let mut rt = FuseRt::new();
+        for call in calls {
+            if call.reset {
+                self.reset(&mut rt);
+            }
+            black_box(&self.tick(&mut rt, call));
+        }
+    }
+
     /// The tick as a function from state to state, which is what ours by value is.
     #[inline(never)]
     fn call(&self, mut rt: FuseRt, call: &Call) -> (FuseRt, SafetyVerdict) {
@@ -183,6 +196,17 @@ impl Ours {
                 disklorva::reset(&mut rt);
             }
             black_box(self.tick(&mut rt, call));
+        }
+    }
+
+    /// The same, where the verdict is looked at where it was put, and not copied once more.
+    fn lent_seen(&self, calls: &[Call]) {
+        let mut rt = disklorva::new();
+        for call in calls {
+            if call.reset {
+                disklorva::reset(&mut rt);
+            }
+            black_box(&self.tick(&mut rt, call));
         }
     }
 
