@@ -1,9 +1,12 @@
 /* The fuse for a host in C. The functions are those of the proved crate host_c: `rt staticlib host_c` writes target/staticlib/libhost_c.a,
  * for x86-64 Linux. docs/HOST.md says what a host must do and what it may then rely on.
  *
- * Every pattern of bytes in a struct has a meaning, so a call asks for nothing but memory:
- *   rt      points to a run state that nothing else reads or writes during the call, and that no list below lies in;
- *   lists   a pointer to n doubles that nothing writes during the call, aligned as a double. It is not null, also where n is 0. Lists may overlap.
+ * Every pattern of bytes in a struct has a meaning, so a call asks for nothing but memory. Each pointer is aligned for its type, valid and not null:
+ *   rt       points to a run state that nothing else reads or writes during the call;
+ *   settings, input, outcome
+ *            are only read, and nothing writes them during the call. The same memory may serve many calls;
+ *   lists    a pointer to n doubles that are only read, and that nothing writes during the call. It is not null, also where n is 0. Lists may overlap.
+ * What is only read may lie anywhere, but not in the run state.
  * No function keeps a pointer, allocates, writes elsewhere, blocks or fails; each returns on every input. Two run states may be used by two threads.
  *
  * A flag is 0 for no and 1 for yes. Another number is read to the safe side: feasible and has_ack are then no, every other flag is yes. Codes:
@@ -229,13 +232,6 @@ typedef struct {
     disklorva_verdict verdict;
 } disklorva_answer;
 
-/* The same, with the run state after the call. */
-typedef struct {
-    uint8_t number;
-    disklorva_run_state rt;
-    disklorva_verdict verdict;
-} disklorva_called;
-
 /* ---- the functions */
 
 /* A run state for which no episode has begun. A tick on it faults: begin with disklorva_reset. */
@@ -245,15 +241,11 @@ disklorva_run_state disklorva_new(void);
 void disklorva_reset(disklorva_run_state *rt);
 
 /* One tick: changes *rt where it lies. Call it once a control period, with the run state that the call before left and the settings of the episode.
- * chunk has the delivered chunk's rows one after the other. Lists of any length are taken: a wrong length is a fault of the tick, not of the caller. */
-disklorva_answer disklorva_tick(disklorva_run_state *rt, disklorva_settings settings, disklorva_input input, disklorva_outcome outcome,
-                                const double *pos, size_t pos_n, const double *vel, size_t vel_n, const double *aux, size_t aux_n,
-                                const double *ext, size_t ext_n, const double *chunk, size_t chunk_n);
-
-/* The same tick by value: the run state goes in and comes back. */
-disklorva_called disklorva_call(disklorva_settings settings, disklorva_run_state rt, disklorva_input input, disklorva_outcome outcome,
-                                const double *pos, size_t pos_n, const double *vel, size_t vel_n, const double *aux, size_t aux_n,
-                                const double *ext, size_t ext_n, const double *chunk, size_t chunk_n);
+ * chunk has the delivered chunk's rows one after the other. Lists of any length are taken: a wrong length is a fault of the tick, not of the caller.
+ * To keep the state before a tick, lend a copy: `disklorva_run_state next = before;` and then `disklorva_tick(&next, ..)`. */
+disklorva_answer disklorva_tick(disklorva_run_state *rt, const disklorva_settings *settings, const disklorva_input *input,
+                                const disklorva_outcome *outcome, const double *pos, size_t pos_n, const double *vel, size_t vel_n,
+                                const double *aux, size_t aux_n, const double *ext, size_t ext_n, const double *chunk, size_t chunk_n);
 
 /* The square root that the tick uses: the double nearest the exact root. */
 double disklorva_sqrt(double x);
@@ -275,7 +267,6 @@ DISKLORVA_SIZE(disklorva_outcome, 264);
 DISKLORVA_SIZE(disklorva_run_state, 784);
 DISKLORVA_SIZE(disklorva_verdict, 248);
 DISKLORVA_SIZE(disklorva_answer, 256);
-DISKLORVA_SIZE(disklorva_called, 1040);
 #undef DISKLORVA_SIZE
 #endif
 

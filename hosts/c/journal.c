@@ -111,8 +111,8 @@ static void empty(host *h) {
 }
 
 static disklorva_answer tick(host *h) {
-    return disklorva_tick(&h->rt, h->settings, h->input, h->outcome, h->list[POS], h->count[POS], h->list[VEL], h->count[VEL], h->list[AUX], h->count[AUX],
-                          h->list[EXT], h->count[EXT], h->list[CHUNK], h->count[CHUNK]);
+    return disklorva_tick(&h->rt, &h->settings, &h->input, &h->outcome, h->list[POS], h->count[POS], h->list[VEL], h->count[VEL], h->list[AUX],
+                          h->count[AUX], h->list[EXT], h->count[EXT], h->list[CHUNK], h->count[CHUNK]);
 }
 
 /* The library tells whether it takes the settings: a tick of a run state that is thrown away. The answer's number depends on the settings alone. */

@@ -204,13 +204,6 @@ static void answer(const char *name) {
     printf("%s size %zu\n", name, sizeof(disklorva_answer));
 }
 
-static void called(const char *name) {
-    FIELD(disklorva_called, number);
-    FIELD(disklorva_called, rt);
-    FIELD(disklorva_called, verdict);
-    printf("%s size %zu\n", name, sizeof(disklorva_called));
-}
-
 int main(void) {
     settings("Settings");
     chunk("Chunk");
@@ -226,6 +219,5 @@ int main(void) {
     run_state("RunState");
     verdict("Verdict");
     answer("Answer");
-    called("Called");
     return 0;
 }

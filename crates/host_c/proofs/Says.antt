@@ -1,5 +1,5 @@
--- What `disklorva_tick` promises of its answer and of the last state, as a walk takes it (the crate `lent`, `Call.antt`).
---     given        what a call by value gives.        Says     the contract, of the answer a and of the last state z.        told     it holds of what the fuse's tick gives, whatever is stored, as long as that is what a call by value gives
+-- What `disklorva_tick`, and `ticked` with copies, promise of the answer and of the last state, as a walk takes it (the crate `lent`, `Call.antt`).
+--     given        what a call gives.        Says     the contract, of the answer a and of the last state z.        told     it holds of what the fuse's tick gives, whatever is stored, as long as that is what a call gives
 -- Assumes nothing.
 use mathlib.Core.Path.{_≡_, _∙_}
 use mathlib.Core.Bool.{false}

@@ -1,5 +1,5 @@
--- The library's types as a walk takes them (the crate `lent`, `Data.antt`), how the result of a step and the answer lie, how settings are turned away, and how result and answer are put together.
---     S, G, I, O   the run state, the settings, a tick's numbers, the outcome.        R, Z     the result of `stepped` and of `disklorva_call`, and the answer of `disklorva_tick`
+-- The library's types as a walk takes them (the crate `lent`, `Data.antt`), how the result of a step and the answer lie, and how settings are turned away.
+--     S, G, I, O   the run state, the settings, a tick's numbers, the outcome.        G², I², O²     the last three can be copied.        R, Z     the result of `stepped`, and the answer of `ticked` and `disklorva_tick`
 -- Assumes nothing.
 use mathlib.Core.Path.{refl}
 use mathlib.Core.Bool.{not}
@@ -7,8 +7,7 @@ use mir.Syntax.{w8, tyInt}
 use mir.Val.{vint}
 use denote.Struct.Laws as LL
 use Rattle.lent.proofs.Call.{Parts, Turning}
-use Rattle.lent.proofs.Data.{Data, struct, vals}
-use Rattle.lent.proofs.Lending.{Joined}
+use Rattle.lent.proofs.Data.{Data, Copied, struct, copied, vals}
 use Rattle.lictor_settings.specs.Settings.{checkOf, checkNumber}
 use Rattle.lictor_fuse.specs.Tick.{isAccepted, noVerdict}
 use Rattle.host_layout.specs.Input.{settingsIn}
@@ -40,6 +39,15 @@ I = struct In.the-type In′.the-laws In′.the-plain
 
 abbrev pub O : Data
 O = struct Oc.the-type Oc′.the-laws Oc′.the-plain
+
+abbrev pub G² : Copied G
+G² = copied Se.the-type Se′.the-laws Se′.the-plain Se′.the-copy
+
+abbrev pub I² : Copied I
+I² = copied In.the-type In′.the-laws In′.the-plain In′.the-copy
+
+abbrev pub O² : Copied O
+O² = copied Oc.the-type Oc′.the-laws Oc′.the-plain Oc′.the-copy
 
 abbrev pub R : Data
 R = struct Ca.the-type Ca′.the-laws Ca′.the-plain
@@ -74,12 +82,4 @@ turning = record {
   is-other = λ s. not (isAccepted (checkOf (settingsIn s)));
   may = λ s. tt;
   tests = λ s. refl;
-}
-
-abbrev pub joined : Joined S R Z parts
-joined = record {
-  both = λ a z. record { number = a .number; rt = z; verdict = a .verdict };
-  both-of = λ a z a-of z-of. LL.owes Ca.the-type Ca′.the-laws (record { number = a .number; rt = z; verdict = a .verdict }) (LL.owed An.the-type An′.the-laws a (vals Z a) a-of .0, (z-of, (LL.owed An.the-type An′.the-laws a (vals Z a) a-of .1 .0, tt)));
-  an-both = λ a z. refl;
-  st-both = λ a z. refl;
 }

@@ -35,8 +35,7 @@ pub struct Answer {
     pub verdict: Verdict,
 }
 
-// The same, with the run state.
-#[repr(C)]
+// The same, with the run state: what a tick gives before the state is stored.
 pub struct Called {
     pub number: u8,
     pub rt: RunState,
@@ -100,29 +99,8 @@ fn restarted(rt: RunState) -> RunState
     state_out(n)
 }
 
-// ---- what is exported
-
-// A run state for which no episode has begun.
-#[no_mangle]
-pub extern "C" fn disklorva_new() -> RunState
-    ensures { λ r. ⌜ r ≡ stateOut newOf ⌝ }
-{
-    let z = lictor_episode::new();
-    state_out(z)
-}
-
-// Starts an episode in the lent run state. Every field is promised; the bytes between the fields, and which pattern a NaN has, are the program's choice.
-#[no_mangle]
-pub extern "C" fn disklorva_reset(rt: &mut RunState)
-    ensures { λ _. ⌜ now (rt .exit) ≡ resetRun (now (rt .entry)) ⌝ }
-{
-    *rt = restarted(*rt);
-}
-
-// One tick of the lent run state. Where the settings are refused, the answer has the number of the cause and no verdict, and nothing is written: not even the bytes between the fields change.
-// Where they are accepted every field of state and answer is promised; the bytes between the fields, and which pattern a NaN has, are the program's choice, and nothing depends on them.
-#[no_mangle]
-pub extern "C" fn disklorva_tick(
+// One tick of the lent run state, with copies of what else was lent.
+fn ticked(
     rt: &mut RunState,
     s: Settings,
     inp: Input,
@@ -149,28 +127,45 @@ pub extern "C" fn disklorva_tick(
     }
 }
 
-// One tick by value: the run state goes in and comes back, and nothing that is lent is changed. It lends a copy. Its promise leaves open what that of `disklorva_tick` does.
+// ---- what is exported
+
+// A run state for which no episode has begun.
 #[no_mangle]
-pub extern "C" fn disklorva_call(
-    s: Settings,
-    rt: RunState,
-    inp: Input,
-    out: Outcome,
+pub extern "C" fn disklorva_new() -> RunState
+    ensures { λ r. ⌜ r ≡ stateOut newOf ⌝ }
+{
+    let z = lictor_episode::new();
+    state_out(z)
+}
+
+// Starts an episode in the lent run state. Every field is promised; the bytes between the fields, and which pattern a NaN has, are the program's choice.
+#[no_mangle]
+pub extern "C" fn disklorva_reset(rt: &mut RunState)
+    ensures { λ _. ⌜ now (rt .exit) ≡ resetRun (now (rt .entry)) ⌝ }
+{
+    *rt = restarted(*rt);
+}
+
+// One tick of the lent run state. Where the settings are refused, the answer has the number of the cause and no verdict, and nothing is written: not even the bytes between the fields change.
+// Where they are accepted every field of state and answer is promised; the bytes between the fields, and which pattern a NaN has, are the program's choice, and nothing depends on them.
+// Settings, input, outcome and lists are only read.
+#[no_mangle]
+pub extern "C" fn disklorva_tick(
+    rt: &mut RunState,
+    s: &Settings,
+    inp: &Input,
+    out: &Outcome,
     pos: &[f64],
     vel: &[f64],
     aux: &[f64],
     ext: &[f64],
     chunk: &[f64],
-) -> Called
-    ensures { λ r. ⌜ r ≡ callOf rt (tickOf (settingsIn s) (stateIn rt) (inputIn inp) (outcomeIn out) (now (pos .entry)) (now (vel .entry)) (now (aux .entry)) (now (ext .entry)) (now (chunk .entry))) ⌝ }
+) -> Answer
+    ensures { λ r. ⌜ (r ≡ answerOf (callOf (now (rt .entry)) (tickOf (settingsIn (now (s .entry))) (stateIn (now (rt .entry))) (inputIn (now (inp .entry))) (outcomeIn (now (out .entry))) (now (pos .entry)) (now (vel .entry)) (now (aux .entry)) (now (ext .entry)) (now (chunk .entry)))))
+        × (now (rt .exit) ≡ callOf (now (rt .entry)) (tickOf (settingsIn (now (s .entry))) (stateIn (now (rt .entry))) (inputIn (now (inp .entry))) (outcomeIn (now (out .entry))) (now (pos .entry)) (now (vel .entry)) (now (aux .entry)) (now (ext .entry)) (now (chunk .entry))) .rt)
+        × (isAccepted (checkOf (settingsIn (now (s .entry)))) ≡ false → (r .number ≡ checkNumber (checkOf (settingsIn (now (s .entry))))) × (r .verdict ≡ verdictOut noVerdict) × (now (rt .exit) ≡ now (rt .entry))) ⌝ }
 {
-    let mut lent = rt;
-    let a = disklorva_tick(&mut lent, s, inp, out, pos, vel, aux, ext, chunk);
-    Called {
-        number: a.number,
-        rt: lent,
-        verdict: a.verdict,
-    }
+    ticked(rt, *s, *inp, *out, pos, vel, aux, ext, chunk)
 }
 
 // The square root that the tick uses, the double nearest the exact root: for those who measure or compare it alone. Which pattern a NaN has is the program's choice.

@@ -18,7 +18,7 @@ use Rattle.host_state.specs.State.{stateIn}
 use Rattle.host_c.specs.declared.Called.{Called}
 use Rattle.host_c.specs.Call.{steppedOf, callOf, resetRun}
 
--- what a host hands to `disklorva_tick` or `disklorva_call` beside the run state
+-- what a host hands to `disklorva_tick` beside the run state
 pub record HostCall : Type 0 where
   pub settings : Settings
   pub input : Input

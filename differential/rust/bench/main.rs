@@ -6,7 +6,7 @@
 //! journal several times, so that reading the clock does not count). The median of the rounds, in processor time, is printed
 //! with the ratio. Before that every verdict is compared.
 
-use std::{fs, hint::black_box, process::ExitCode};
+use std::{fmt::Debug, fs, hint::black_box, process::ExitCode};
 
 use disklorva::{Answer, Input, Lists, RunState};
 use lictor_core::{ChunkView, EpisodeInit, ExecMode, FuseConfig, ObsView, SafetyVerdict};
@@ -49,9 +49,12 @@ fn main() -> ExitCode {
     print("host tick (lent run state)", median(rounds, ticks, theirs, || repeated(&|| ours.lent(&calls))));
     let theirs_seen = || repeated(&|| rust.all_seen(&calls));
     print("host tick, verdict not copied", median(rounds, ticks, theirs_seen, || repeated(&|| ours.lent_seen(&calls))));
-    print("tick by value", median(rounds, ticks, theirs, || repeated(&|| ours.by_value(&calls))));
+    let by_value = || repeated(&|| ours.by_value(&calls));
+    print("tick by value", median(rounds, ticks, theirs, by_value));
+    let by_value_seen = || repeated(&|| ours.by_value_seen(&calls));
+    print("tick by value, verdict not copied", median(rounds, ticks, theirs_seen, by_value_seen));
     let theirs_by_value = || repeated(&|| rust.by_value(&calls));
-    print("tick by value on both sides", median(rounds, ticks, theirs_by_value, || repeated(&|| ours.by_value(&calls))));
+    print("tick by value on both sides", median(rounds, ticks, theirs_by_value, by_value));
     let xs = doubles();
     let count = xs.len() as f64;
     let independent = median(rounds, count, || each(&xs, f64::sqrt), || each(&xs, disklorva::sqrt));
@@ -101,7 +104,7 @@ fn processor_time() -> f64 {
 }
 
 fn print(what: &str, (ours, rust): (f64, f64)) {
-    println!("{what:30} {ours:8.1} {rust:8.1} {:6.2}", ours / rust);
+    println!("{what:34} {ours:8.1} {rust:8.1} {:6.2}", ours / rust);
 }
 
 // ---- the two sides
@@ -157,7 +160,7 @@ impl Rust {
         }
     }
 
-    /// The tick as a function from state to state, which is what ours by value is.
+    /// The tick as a function from state to state: one goes in, and the next one comes back.
     #[inline(never)]
     fn call(&self, mut rt: FuseRt, call: &Call) -> (FuseRt, SafetyVerdict) {
         let verdict = self.tick(&mut rt, call);
@@ -179,6 +182,11 @@ struct Ours {
     settings: disklorva::Settings,
 }
 
+/// All fields, to be compared: all NaNs are one.
+fn text(it: &impl Debug) -> String {
+    format!("{it:?}").replace("-NaN", "NaN")
+}
+
 fn lists(call: &Call) -> Lists<'_> {
     let [chunk, pos, vel, aux, ext] = &call.lists;
     Lists { pos, vel, aux, ext, chunk }
@@ -187,6 +195,10 @@ fn lists(call: &Call) -> Lists<'_> {
 impl Ours {
     fn tick(&self, rt: &mut RunState, call: &Call) -> Answer {
         disklorva::tick_lent(rt, &self.settings, &call.input, &call.ours, &lists(call))
+    }
+
+    fn tick_from(&self, rt: &RunState, next: &mut RunState, call: &Call) -> Answer {
+        disklorva::tick_from(rt, next, &self.settings, &call.input, &call.ours, &lists(call))
     }
 
     fn lent(&self, calls: &[Call]) {
@@ -210,18 +222,31 @@ impl Ours {
         }
     }
 
+    /// A state goes in, and the next one comes out at another place: two states in turns.
     fn by_value(&self, calls: &[Call]) {
-        let mut rt = disklorva::new();
+        let (mut rt, mut next) = (&mut disklorva::new(), &mut disklorva::new());
         for call in calls {
             if call.reset {
-                disklorva::reset(&mut rt);
+                disklorva::reset(rt);
             }
-            let called = disklorva::tick_by_value(&self.settings, &rt, &call.input, &call.ours, &lists(call));
-            rt = black_box(called).rt;
+            black_box(self.tick_from(rt, next, call));
+            (rt, next) = (next, rt);
         }
     }
 
-    /// Both sides give the same verdicts.
+    /// The same, where the verdict is looked at where it was put, and not copied once more.
+    fn by_value_seen(&self, calls: &[Call]) {
+        let (mut rt, mut next) = (&mut disklorva::new(), &mut disklorva::new());
+        for call in calls {
+            if call.reset {
+                disklorva::reset(rt);
+            }
+            black_box(&self.tick_from(rt, next, call));
+            (rt, next) = (next, rt);
+        }
+    }
+
+    /// Both sides give the same verdicts. So does our tick by value, which leaves the state before it as it was.
     fn agrees(&self, rust: &Rust, calls: &[Call]) {
         let (mut theirs, mut rt) = (FuseRt::new(), disklorva::new());
         for call in calls {
@@ -229,7 +254,12 @@ impl Ours {
                 rust.reset(&mut theirs);
                 disklorva::reset(&mut rt);
             }
-            let (a, b) = (rust.tick(&mut theirs, call), self.tick(&mut rt, call).verdict);
+            let (before, mut next) = (text(&rt), disklorva::new());
+            let by_value = self.tick_from(&rt, &mut next, call);
+            assert_eq!(before, text(&rt));
+            let lent = self.tick(&mut rt, call);
+            assert_eq!(text(&(by_value, next)), text(&(lent, rt)));
+            let (a, b) = (rust.tick(&mut theirs, call), lent.verdict);
             assert_eq!((a.seq, a.state as u8, a.reason as u8), (b.seq, b.state, b.reason));
             assert_eq!((a.trips, a.action_src as u8, a.window), (b.trips, b.action_src, b.window));
             let pairs = a.action[..8].iter().zip(&b.action).chain([(&a.brake_margin, &b.brake_margin)]);

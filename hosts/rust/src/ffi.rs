@@ -258,15 +258,6 @@ record! {
     }
 }
 
-record! {
-    /// The same, with the run state after the call.
-    Called {
-        number: u8,
-        rt: RunState,
-        verdict: Verdict,
-    }
-}
-
 /// Every type with its fields and its size, in the order of hosts/layout.txt.
 pub const TYPES: &[(&str, &[Field], usize)] = &[
     ("Settings", Settings::FIELDS, core::mem::size_of::<Settings>()),
@@ -283,7 +274,6 @@ pub const TYPES: &[(&str, &[Field], usize)] = &[
     ("RunState", RunState::FIELDS, core::mem::size_of::<RunState>()),
     ("Verdict", Verdict::FIELDS, core::mem::size_of::<Verdict>()),
     ("Answer", Answer::FIELDS, core::mem::size_of::<Answer>()),
-    ("Called", Called::FIELDS, core::mem::size_of::<Called>()),
 ];
 
 #[link(name = "host_c", kind = "static")]
@@ -293,12 +283,12 @@ extern "C" {
     /// `rt` points to a run state that nothing else uses during the call.
     pub fn disklorva_reset(rt: *mut RunState);
 
-    /// `rt` as above. Each list is a pointer, aligned and not null, to so many doubles that nothing writes during the call, and none lies in `rt`.
+    /// `rt` as above. All else is only read: each pointer is aligned and not null, nothing writes what it points to during the call, and none of that lies in `rt`.
     pub fn disklorva_tick(
         rt: *mut RunState,
-        settings: Settings,
-        input: Input,
-        outcome: Outcome,
+        settings: *const Settings,
+        input: *const Input,
+        outcome: *const Outcome,
         pos: *const f64,
         pos_n: usize,
         vel: *const f64,
@@ -310,24 +300,6 @@ extern "C" {
         chunk: *const f64,
         chunk_n: usize,
     ) -> Answer;
-
-    /// Lists as above.
-    pub fn disklorva_call(
-        settings: Settings,
-        rt: RunState,
-        input: Input,
-        outcome: Outcome,
-        pos: *const f64,
-        pos_n: usize,
-        vel: *const f64,
-        vel_n: usize,
-        aux: *const f64,
-        aux_n: usize,
-        ext: *const f64,
-        ext_n: usize,
-        chunk: *const f64,
-        chunk_n: usize,
-    ) -> Called;
 
     pub fn disklorva_sqrt(x: f64) -> f64;
 }

@@ -3,7 +3,7 @@
 
 pub mod ffi;
 
-pub use ffi::{Ack, Answer, Called, Chunk, Input, Outcome, RunState, Settings, Verdict};
+pub use ffi::{Ack, Answer, Chunk, Input, Outcome, RunState, Settings, Verdict};
 
 /// The settings are refused: 1 a code that is not listed, 2 a size, 3 a float that is not finite, 4 a lower side of the box above its upper side.
 #[derive(Clone, Copy, Debug, PartialEq, Eq)]
@@ -73,7 +73,7 @@ impl Fuse {
     /// A fuse for which no episode has begun, or what is wrong with the settings. A tick before `reset` faults.
     pub fn new(settings: Settings) -> Result<Fuse, Refused> {
         // The number of a refusal depends on the settings alone, so a tick of a run state that is thrown away tells it.
-        match tick_by_value(&settings, &new(), &Input::default(), &Outcome::default(), &Lists::default()).number {
+        match tick_lent(&mut new(), &settings, &Input::default(), &Outcome::default(), &Lists::default()).number {
             0 => Ok(Fuse { settings, state: new() }),
             number => Err(Refused(number)),
         }
@@ -101,31 +101,34 @@ impl Fuse {
     }
 }
 
-// ---- the library's functions. Each asks for memory alone, and references bring it: `&mut` is not shared, a slice is aligned and not null, and nothing
-// writes it while it is borrowed.
+// ---- the library's functions. Each asks for memory alone, and references bring it: `&mut` is not shared, `&` and a slice are aligned and not null, and
+// nothing writes them while they are borrowed.
 
 /// A run state for which no episode has begun.
+#[inline]
 pub fn new() -> RunState {
     // SAFETY: takes nothing.
     unsafe { ffi::disklorva_new() }
 }
 
 /// Starts an episode in a run state.
+#[inline]
 pub fn reset(state: &mut RunState) {
     // SAFETY: a `&mut` is valid and not shared.
     unsafe { ffi::disklorva_reset(state) }
 }
 
-/// One tick of a lent run state. Where the settings are refused, nothing is written.
+/// One tick of a lent run state; all else is only read. Where the settings are refused, nothing is written.
+#[inline]
 pub fn tick_lent(state: &mut RunState, settings: &Settings, input: &Input, outcome: &Outcome, lists: &Lists) -> Answer {
     let Lists { pos, vel, aux, ext, chunk } = *lists;
-    // SAFETY: a `&mut` is valid and not shared, so no list lies in it; slices are valid for their lengths.
+    // SAFETY: a `&mut` is valid and not shared, so nothing else lies in it; references are valid, and slices for their lengths.
     unsafe {
         ffi::disklorva_tick(
             state,
-            *settings,
-            *input,
-            *outcome,
+            settings,
+            input,
+            outcome,
             pos.as_ptr(),
             pos.len(),
             vel.as_ptr(),
@@ -140,31 +143,23 @@ pub fn tick_lent(state: &mut RunState, settings: &Settings, input: &Input, outco
     }
 }
 
-/// The same tick by value.
-pub fn tick_by_value(settings: &Settings, state: &RunState, input: &Input, outcome: &Outcome, lists: &Lists) -> Called {
-    let Lists { pos, vel, aux, ext, chunk } = *lists;
-    // SAFETY: slices are valid for their lengths.
-    unsafe {
-        ffi::disklorva_call(
-            *settings,
-            *state,
-            *input,
-            *outcome,
-            pos.as_ptr(),
-            pos.len(),
-            vel.as_ptr(),
-            vel.len(),
-            aux.as_ptr(),
-            aux.len(),
-            ext.as_ptr(),
-            ext.len(),
-            chunk.as_ptr(),
-            chunk.len(),
-        )
-    }
+/// The same tick, where `state` stays as it is and the state after the tick is written to `next`, whatever that held. Where the settings are refused,
+/// `next` is a copy of `state`.
+#[inline]
+pub fn tick_from(
+    state: &RunState,
+    next: &mut RunState,
+    settings: &Settings,
+    input: &Input,
+    outcome: &Outcome,
+    lists: &Lists,
+) -> Answer {
+    *next = *state;
+    tick_lent(next, settings, input, outcome, lists)
 }
 
 /// The square root that the tick uses: the double nearest the exact root.
+#[inline]
 pub fn sqrt(x: f64) -> f64 {
     // SAFETY: takes a number.
     unsafe { ffi::disklorva_sqrt(x) }

@@ -68,7 +68,7 @@ fn layout_is_the_stored_one() {
     assert_eq!(layout(), include_str!("../../layout.txt"));
 }
 
-/// The structs of crates/host_layout, crates/host_state and crates/host_c, field by field.
+/// The structs of crates/host_layout, crates/host_state and crates/host_c that are in the layout of C, field by field.
 #[test]
 fn types_are_those_of_the_library() {
     let source = [
@@ -78,7 +78,7 @@ fn types_are_those_of_the_library() {
         include_str!("../../../crates/host_c/src/lib.rt"),
     ]
     .concat();
-    assert_eq!(source.matches("pub struct ").count(), TYPES.len());
+    assert_eq!(source.matches("#[repr(C)]\n").count(), TYPES.len());
     for (name, fields, _) in TYPES {
         let text =
             source.split(&format!("#[repr(C)]\npub struct {name} {{\n")).nth(1).unwrap().split("\n}").next().unwrap();
@@ -139,20 +139,50 @@ extern "C" {
     fn mprotect(at: *mut u8, bytes: usize, access: i32) -> i32;
 }
 
-/// Nor does it store a byte anew: a page that may be read alone serves it. A store would end the test with a signal.
+/// A copy on a page of its own that may be read alone: a store there would end the test with a signal.
+fn read_only<T: Copy>(it: T) -> *mut T {
+    assert!(size_of::<T>() <= 4096);
+    // SAFETY: a fresh page (private, of no file), which nobody else has.
+    unsafe {
+        let page = mmap(std::ptr::null_mut(), 4096, 3, 0x22, -1, 0);
+        page.cast::<T>().write(it);
+        assert_eq!(mprotect(page, 4096, 1), 0);
+        page.cast()
+    }
+}
+
+/// Nor does it store a byte anew: a page that may be read alone serves it.
 #[test]
 fn refused_call_stores_nothing() {
     let none: [f64; 0] = [];
     let list = none.as_ptr();
     let bad = Settings { dim: 9, ..settings() };
-    // SAFETY: a fresh page of zeros (private, of no file), larger than a run state; it is lent to nobody else.
-    let answer = unsafe {
-        let page = mmap(std::ptr::null_mut(), 4096, 3, 0x22, -1, 0);
-        assert_eq!(mprotect(page, 4096, 1), 0);
-        let (input, outcome) = (Input::default(), Outcome::default());
-        ffi::disklorva_tick(page.cast(), bad, input, outcome, list, 0, list, 0, list, 0, list, 0, list, 0)
-    };
+    let (state, input, outcome) = (read_only(new()), Input::default(), Outcome::default());
+    // SAFETY: the pointers are valid, and the run state is lent to nobody else.
+    let answer =
+        unsafe { ffi::disklorva_tick(state, &bad, &input, &outcome, list, 0, list, 0, list, 0, list, 0, list, 0) };
     assert_eq!(answer.number, 2);
+}
+
+/// Of what a tick is given, the lent run state alone is written: all else may lie on pages that may be read alone, and a state that is kept too.
+#[test]
+fn what_is_given_is_only_read() {
+    let mut begun = new();
+    reset(&mut begun);
+    let chunk = Chunk { horizon: 1, dim: 1, exec_steps: 1, ..Chunk::default() };
+    let given = Input { has_vel: 1, has_chunk: 1, chunk, ..Input::default() };
+    let found = Outcome { feasible: 1, margin: 1.0, policy: [0.25; 8], ..Outcome::default() };
+    for (number, s) in [(0, settings()), (2, Settings { dim: 9, ..settings() })] {
+        // SAFETY: nobody writes these pages, and they stay.
+        let (state, s, input, outcome, x) =
+            unsafe { (&*read_only(begun), &*read_only(s), &*read_only(given), &*read_only(found), &*read_only([0.5])) };
+        let lists = Lists { pos: x, vel: x, aux: x, ext: x, chunk: x };
+        let (mut lent, mut next) = (begun, RunState::default());
+        let answer = tick_lent(&mut lent, s, input, outcome, &lists);
+        let kept = tick_from(state, &mut next, s, input, outcome, &lists);
+        assert_eq!((answer.number, lent.tally.ticks), (number, u32::from(number == 0)));
+        assert_eq!(fields(&(answer, lent)), fields(&(kept, next)));
+    }
 }
 
 /// A flag that is neither 0 nor 1 is read to the safe side.
@@ -171,7 +201,8 @@ fn odd_flags_are_safe() {
         reset(&mut begun);
         begun.control.state = state;
         let outcome = Outcome { feasible, margin: 1.0, ..Outcome::default() };
-        fields(&tick_by_value(&settings(), &begun, &input, &outcome, &lists))
+        let answer = tick_lent(&mut begun, &settings(), &input, &outcome, &lists);
+        fields(&(answer, begun))
     };
     type Case<'a> = (&'a str, u8, &'a dyn Fn(u8) -> String);
     let cases: [Case; 5] = [
@@ -189,25 +220,30 @@ fn odd_flags_are_safe() {
     }
 }
 
-/// Any bytes are a run state, an input and an outcome; the two forms of the tick agree on them.
+/// Any bytes are a run state, an input and an outcome. A tick in place and one to another place agree on them, and the second changes no byte of the
+/// state before it.
 #[test]
-fn lent_and_by_value_agree() {
+fn lent_and_kept_agree() {
     let mut numbers = Numbers(2);
     for round in 0..20000 {
-        let (mut state, mut input, outcome) = (numbers.any::<RunState>(), numbers.any::<Input>(), numbers.any());
+        let mut memory = Memory(std::array::from_fn(|_| numbers.next() as u8));
+        let (mut next, mut input, outcome) = (numbers.any::<RunState>(), numbers.any::<Input>(), numbers.any());
         if round % 2 == 0 {
             // a tick that the guard takes, so that the table decides
-            state.clock = ffi::Clock { filled: 1, seq: 1, last_t: 6, next_chunk_seq: 1, chunk_ok_this_tick: 0 };
-            state.control.state %= 9;
+            let RunState { control, clock: k, .. } = memory.lend();
+            (k.filled, k.seq, k.last_t, k.next_chunk_seq, k.chunk_ok_this_tick) = (1, 1, 6, 1, 0);
+            control.state %= 9;
             input = Input { t: 7, has_ack: input.has_ack, ack: input.ack, ..Input::default() };
         }
         let x = [f64::from_bits(numbers.next()); 20];
         let pos = if round % 2 == 0 { &[0.5][..] } else { &x[..(numbers.next() % 20) as usize] };
         let lists = Lists { pos, vel: &x[..1], aux: &[], ext: &[], chunk: &x[..(numbers.next() % 20) as usize] };
-        let called = tick_by_value(&settings(), &state, &input, &outcome, &lists);
-        let answer = tick_lent(&mut state, &settings(), &input, &outcome, &lists);
-        assert_eq!(fields(&called), fields(&Called { number: answer.number, rt: state, verdict: answer.verdict }));
-        assert!(called.number == 0 && called.verdict.state <= 8 && called.verdict.reason <= 27);
+        let before = memory;
+        let kept = tick_from(memory.lend(), &mut next, &settings(), &input, &outcome, &lists);
+        assert!(memory == before);
+        let lent = tick_lent(memory.lend(), &settings(), &input, &outcome, &lists);
+        assert_eq!(fields(&(kept, next)), fields(&(lent, &*memory.lend())));
+        assert!(lent.number == 0 && lent.verdict.state <= 8 && lent.verdict.reason <= 27);
     }
 }
 
