@@ -2,7 +2,6 @@
 ghost use mathlib.Core.Path.{_≡_};
 ghost use Prim.Native.Nat.{_+_, _<_, _≤_};
 ghost use lib.ListN.{length};
-ghost use lib.Ieee.{binary64, ofBits};
 ghost use Rattle.bytes_le.specs.Little.{byteAt, leAt, floatAt};
 
 fn wide(x: u8) -> u64
@@ -86,18 +85,8 @@ pub fn le64(s: &[u8], at: usize) -> u64
     eight(s, at)
 }
 
-// The double of a bit pattern.
-fn double(b: u64) -> f64
-    ensures { λ r. ⌜ r ≡ ofBits binary64 b ⌝ }
-{
-    if b % 0x8000_0000_0000_0000 > 0x7ff0_0000_0000_0000 {
-        return 0.0 / 0.0;
-    }
-    f64::from_bits(b)
-}
-
 pub fn f64_at(s: &[u8], at: usize) -> f64
     ensures { λ r. ⌜ r ≡ floatAt (now (s .entry)) at ⌝ }
 {
-    double(le64(s, at))
+    floats::double(le64(s, at))
 }

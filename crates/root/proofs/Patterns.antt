@@ -3,34 +3,20 @@ use mathlib.Core.Path.{_≡_, refl, sym, ap, _∙_, subst}
 use Prim.Native.Nat.{ℕ, zero, suc, _+_, _-_, _*_, _/_, _%_, _^_, _≤_, _<_}
 use native.Mathlib.Nat.{not-le-of-lt, mod-eq-of-lt, mul-one}
 use native.Mathlib.Omega.{arith}
-use mathlib.Core.Bool.{Bool, true, false, not, cond, true≢false}
-use lib.Dec.{T, leb, ltb, eqb, leb→le, eqb→eq, ltb→lt, not-T}
-use lib.Ieee.{Float, nan, inf, fin, binary64, odd, ofFields, ofBits, toBits, nanBits, isNan, fits, ne}
-use lib.Ieee.Bits.{is-false, cond-no, nanBits-above, ofBits-toBits}
-use lib.Ieee.Compare.{differs-from-itself}
+use mathlib.Core.Bool.{Bool, true, false, not, cond}
+use lib.Dec.{T, leb, eqb, leb→le, eqb→eq, not-T}
+use lib.Ieee.{Float, nan, inf, binary64, odd, ofFields, ofBits, toBits, nanBits, fits}
+use lib.Ieee.Bits.{is-false, cond-no, ofBits-toBits}
 use lib.Ieee.Exact.{HasValue, odd-sign}
 use lib.Ieee.Scale.{finite}
-
--- ---- NaN
-pub is-nan : (x : Float) → ne x x ≡ true → x ≡ nan
-is-nan x d = differs-from-itself x (subst T (sym d) tt)
-
-pub no-nan : (x : Float) → ne x x ≡ false → T (not (isNan x))
-unfolding ne isNan
-no-nan nan d = absurd (true≢false d)
-no-nan (inf s) d = tt
-no-nan (fin s m e) d = tt
+use Rattle.floats.proofs.Nan.{not-nan-at}
 
 -- a pattern up to the infinity's is no NaN's
 pub no-nan-bits : (b : ℕ) → b ≤ 0x7ff0_0000_0000_0000 → T (not (nanBits binary64 b))
-no-nan-bits b h = subst (λ (t : Bool). T (not t)) (sym (nanBits-above binary64 b ∙ ap (λ (x : ℕ). ltb 0x7ff0_0000_0000_0000 x) (mod-eq-of-lt wide)))
-    (not-T (ltb 0x7ff0_0000_0000_0000 b) (λ (t : T (ltb 0x7ff0_0000_0000_0000 b)). clash b h (ltb→lt 0x7ff0_0000_0000_0000 b t)))
+no-nan-bits b h = not-nan-at b (omega (arith, mod-eq-of-lt wide))
   where
     wide : b < 2 ^ 63
     wide = omega arith
-
-    clash : (b : ℕ) → b ≤ 0x7ff0_0000_0000_0000 → 0x7ff0_0000_0000_0000 < b → ⊥
-    clash b h k = omega arith
 
 -- ---- by fields
 pub ofBits-is : (b : ℕ) → ofBits binary64 b ≡ ofFields binary64 (leb (2 ^ 63) b) (b % 2 ^ 63 / 2 ^ 52) (b % 2 ^ 52)

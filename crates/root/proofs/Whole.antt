@@ -13,7 +13,8 @@ use lib.Ieee.Fits.{down-pos}
 use Rattle.root.specs.Root.{rootOf, wholeRoot}
 use Rattle.root.specs.Steps.{Normed, NearRoot, RootBits}
 use Rattle.root.proofs.Rounded.{rounded, g-lt, g-ge}
-use Rattle.root.proofs.Patterns.{is-nan, no-nan, no-nan-bits, ofBits-is, put, normal-value, low-value}
+use Rattle.floats.proofs.Nan.{is-nan, not-nan}
+use Rattle.root.proofs.Patterns.{no-nan-bits, ofBits-is, put, normal-value, low-value}
 
 -- ---- a NaN
 pub at-nan : (x : Float) → ne x x ≡ true → x ≡ rootOf x
@@ -78,7 +79,7 @@ pub pattern-lt : (x : Float) → T (fits binary64 x) → ne x x ≡ false → (t
 pattern-lt x F d z l i = go (toBits binary64 x) (ofBits-toBits binary64 x F) z l i
   where
     go : (b : ℕ) → ofBits binary64 b ≡ x → (b ≡ 2 ^ 63 → ⊥) → b ≤ 2 ^ 63 → (b ≡ 0x7ff0_0000_0000_0000 → ⊥) → b < 0x7ff0_0000_0000_0000
-    go b e z l i = let k : b ≤ 0x7ff0_0000_0000_0000 = not-above b (omega arith) (subst (λ (y : Float). T (not (isNan y))) (sym e) (no-nan x d)) in omega arith
+    go b e z l i = let k : b ≤ 0x7ff0_0000_0000_0000 = not-above b (omega arith) (subst (λ (y : Float). T (not (isNan y))) (sym e) (not-nan x d)) in omega arith
 
 -- the root of n units
 pub root-at : (x : Float) (n : ℕ) → HasValue x false n (2 ^ 1074) → 0 < n → rootOf x ≡ round binary64 false (wholeRoot (n * 2 ^ 1074)) (2 ^ 1074)

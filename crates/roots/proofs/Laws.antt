@@ -1,6 +1,6 @@
 -- The text that `roots` reads and writes, piece by piece. Assumes nothing.
-use mathlib.Core.Path.{_≡_, refl, sym, ap, _∙_, subst}
-use mathlib.Core.Bool.{Bool, true, false, not, cond, true≢false}
+use mathlib.Core.Path.{_≡_, refl, sym, ap, _∙_}
+use mathlib.Core.Bool.{Bool, true, false, not, cond}
 use mathlib.Core.List.{List, [], _∷_, _++_, append-assoc, append-nil}
 use Prim.Native.Nat.{ℕ, zero, suc, _+_, _-_, _*_, _/_, _%_, _^_, _≤_, _<_, min}
 use native.Mathlib.Nat.{add-zero, pow-suc, pow-le-pow-right}
@@ -10,8 +10,7 @@ use borrow.Author.Tests.{lt-ltb, le-ltb}
 use lib.Dec.{T, leb, leb→le, nleb→lt}
 use lib.ListN.{length, take, drop, getD, set, length-set, length-append, length-take, length-drop, length-replicate, drop-of-length-le}
 use lib.Seq.{take-suc-set, take-suc, drop-cons, getD-take, take-all, drop-drop, length-take-le}
-use lib.Ieee.{Float, nan, inf, fin, binary64, isNan, toBits, ofBits, nanBits}
-use lib.Ieee.Bits.{nanBits-is, nanBits-above}
+use lib.Ieee.{Float, binary64, isNan, toBits, ofBits}
 use Rattle.text.specs.declared.Line.{Line}
 use Rattle.text.specs.Ascii.{ascii}
 use Rattle.text.specs.Line.{lineOf}
@@ -48,19 +47,6 @@ value-lt b d i h k = rw (add-one, pow-suc 16 i) (omega arith)
 
 pub value-small : (b i : ℕ) → b < 16 ^ i → i < 16 → b < 2 ^ 60
 value-small b i h k = let t : 16 ^ i ≤ 16 ^ 15 = pow-le-pow-right {n = 16} (omega arith) {i = i} {j = 15} (omega arith) in omega arith
-
--- ---- a NaN's pattern is above the infinity's, the sign left out
-is-nan : (x : Float) → isNan x ≡ true → x ≡ nan
-unfolding isNan
-is-nan nan e = refl
-is-nan (inf s) e = absurd (true≢false (sym e))
-is-nan (fin s m e') e = absurd (true≢false (sym e))
-
-pub nan-at : (b : ℕ) → 0x7ff0_0000_0000_0000 < b % 2 ^ 63 → ofBits binary64 b ≡ nan
-nan-at b h = is-nan (ofBits binary64 b) (sym (nanBits-is binary64 b) ∙ nanBits-above binary64 b ∙ lt-ltb 0x7ff0_0000_0000_0000 (b % 2 ^ 63) h)
-
-pub not-nan-at : (b : ℕ) → b % 2 ^ 63 ≤ 0x7ff0_0000_0000_0000 → T (not (nanBits binary64 b))
-not-nan-at b h = subst (λ (t : Bool). T (not t)) (sym (nanBits-above binary64 b ∙ le-ltb 0x7ff0_0000_0000_0000 (b % 2 ^ 63) h)) tt
 
 -- ---- writing
 -- i bytes of the text are put

@@ -3,8 +3,7 @@
 // At a line that is no such text it writes `bad line` and stops.
 ghost use mathlib.Core.Path.{_≡_};
 ghost use Prim.Native.Nat.{_+_, _*_, _≤_};
-ghost use lib.ListN.{length, take};
-ghost use lib.Ieee.{binary64, ofBits};
+ghost use lib.ListN.{length};
 ghost use Rattle.text.specs.Line.{lineOf, pushOf};
 ghost use Rattle.text.specs.Number.{hexIn};
 ghost use Rattle.roots.specs.Text.{digitOf, readOf, rootText, answerTo, isBad, lineCount, Put, Answered};
@@ -63,16 +62,6 @@ fn read_line(s: &[u8]) -> Read
     Read::Pattern(b)
 }
 
-// The value of a pattern. Of a NaN's pattern it is the one NaN, since `from_bits` is not defined there.
-fn double(b: u64) -> f64
-    ensures { λ r. ⌜ r ≡ ofBits binary64 b ⌝ }
-{
-    if 0x7ff0_0000_0000_0000 < b % 0x8000_0000_0000_0000 {
-        return fmath::nan();
-    }
-    f64::from_bits(b)
-}
-
 // ---- writing
 
 // The 16 hexadecimal digits of a pattern behind a line.
@@ -88,7 +77,7 @@ fn push_hex(l: Line, b: u64) -> Line
 fn root_line(b: u64) -> Line
     ensures { λ r. ⌜ r ≡ lineOf (rootText b) ⌝ }
 {
-    let root = fmath::sqrt(double(b));
+    let root = fmath::sqrt(floats::double(b));
     let l = push(push_hex(empty(), b), b" ");
     push(push_float(l, root), b"\n")
 }

@@ -1,4 +1,4 @@
-use Rattle.lictor_settings.proofs.Nan.{nan-told}
+use Rattle.floats.proofs.Nan.{nan-told}
 use Rattle.lictor_settings.proofs.is_nan.Statement.{statement}
 use Rattle.lictor_settings.proofs.is_nan.Tie as tie
 

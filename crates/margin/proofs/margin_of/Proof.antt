@@ -5,7 +5,7 @@ use native.Mathlib.Omega.{arith}
 use lib.Dec.{T}
 use lib.Ieee.{Float, binary64, fits, toBits, ofBits, isNan}
 use lib.Ieee.Bits.{ofBits-toBits}
-use Rattle.text.proofs.Nan.{not-nan, is-nan}
+use Rattle.floats.proofs.Nan.{not-nan, is-nan}
 use Rattle.margin.specs.Margin.{nearestWhole, millisOf, marginOf}
 use Rattle.margin.proofs.Double.{margin-far, margin-low, margin-mid, sign, exponent, digits}
 use borrow.Author.Needs.{needs}

@@ -1,7 +1,8 @@
 -- `root::guess` meets its contract: the patterns are no NaN's, and the result has 53 binary digits at most. Assumes nothing.
 use native.Mathlib.Omega.{arith}
 use borrow.Author.Needs.{needs}
-use Rattle.root.proofs.Patterns.{no-nan, no-nan-bits}
+use Rattle.floats.proofs.Nan.{not-nan}
+use Rattle.root.proofs.Patterns.{no-nan-bits}
 use Rattle.root.proofs.guess.Statement.{statement}
 use Rattle.root.proofs.guess.Tie as tie
 
@@ -27,7 +28,7 @@ returns : tie.Need-returns
 returns c = search needs
 
 float-to-bits-result : tie.Need-float-to-bits-result
-float-to-bits-result c = no-nan _ (c .if1 .left)
+float-to-bits-result c = not-nan _ (c .if1 .left)
 
 add-result : tie.Need-add-result
 add-result c = search needs

@@ -5,7 +5,7 @@ use native.Mathlib.Omega.{arith}
 use borrow.Author.Needs.{needs}
 use lib.Dec.{T}
 use lib.Ieee.{binary64, fits, toBits, div, ofBits}
-use Rattle.root.proofs.Patterns.{no-nan}
+use Rattle.floats.proofs.Nan.{not-nan}
 use Rattle.root.proofs.Whole.{at-nan, at-minus-zero, at-below, at-plus-zero, at-infinity, pattern-lt, at-normal, at-low, field-zero, digits-pos, field-pos}
 use Rattle.root.proofs.sqrt.Statement.{statement}
 use Rattle.root.proofs.sqrt.Tie as tie
@@ -18,7 +18,7 @@ returns : tie.Need-returns
 returns c = at-nan (c .before .args .x) (c .if1 .taken)
 
 float-to-bits-b : tie.Need-float-to-bits-b
-float-to-bits-b c = no-nan (c .before .args .x) (c .if1 .left)
+float-to-bits-b c = not-nan (c .before .args .x) (c .if1 .left)
 
 returns-2 : tie.Need-returns-2
 returns-2 c = let s = c .before .before in at-minus-zero (s .args .x) (held s) (c .if2 .taken)
