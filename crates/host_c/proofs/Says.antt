@@ -16,14 +16,14 @@ use Rattle.host_state.specs.State.{stateIn}
 use Rattle.host_layout.specs.Verdict.{verdictOut}
 use Rattle.host_c.specs.declared.Answer.{Answer}
 use Rattle.host_c.specs.declared.Called.{Called}
-use Rattle.host_c.specs.Call.{steppedOf, callOf, answerOf}
+use Rattle.host_c.specs.Call.{steppedOf, callOf, calledOf, answerOf}
 use Rattle.host_c.proofs.Refused.{refused-fields, answer-same}
 
 abbrev pub ticked : Settings → RunState → Input → Outcome → Fs → Ticked
 ticked s h i u l = tickOf (settingsIn s) (stateIn h) (inputIn i) (outcomeIn u) (l .0) (l .1 .0) (l .1 .1 .0) (l .1 .1 .1 .0) (l .1 .1 .1 .1 .0)
 
 abbrev pub given : Settings → RunState → Input → Outcome → Fs → Called
-given s h i u l = callOf h (ticked s h i u l)
+given s h i u l = calledOf h s i u (l .0) (l .1 .0) (l .1 .1 .0) (l .1 .1 .1 .0) (l .1 .1 .1 .1 .0)
 
 abbrev pub Says : RunState → Settings → Input → Outcome → Fs → Answer → RunState → Type 0
 Says h s i u l a z = (a ≡ answerOf (given s h i u l)) × (z ≡ given s h i u l .rt) × (isAccepted (checkOf (settingsIn s)) ≡ false → (a .number ≡ checkNumber (checkOf (settingsIn s))) × (a .verdict ≡ verdictOut noVerdict) × (z ≡ h))

@@ -1,12 +1,12 @@
-// The fuse as a static library: what a controller in C or Rust calls. The host lends its run state, and each call changes it where it lies.
+// The fuse as a static library: what a controller in C or Rust calls. The host lends its run state, which each call changes where it lies, and all that a tick is given, which is only read.
 // Every type here is numbers in the layout of C, and every pattern of their bytes has a meaning, so that a call asks nothing of its caller but memory.
 ghost use mathlib.Core.Path.{_≡_};
 ghost use mathlib.Core.Bool.{false};
 ghost use Rattle.fmath.specs.Root.{rootOf};
 ghost use Rattle.lictor_core.specs.Initial.{newOf};
 ghost use Rattle.lictor_settings.specs.Settings.{checkOf, checkNumber};
-ghost use Rattle.lictor_fuse.specs.Tick.{acceptedTick, givenOf, tickOf, isAccepted, noVerdict};
-ghost use Rattle.host_c.specs.Call.{refusalOf, steppedOf, callOf, answerOf, resetRun};
+ghost use Rattle.lictor_fuse.specs.Tick.{acceptedTick, givenOf, isAccepted, noVerdict};
+ghost use Rattle.host_c.specs.Call.{refusalOf, steppedOf, calledOf, answerOf, resetRun};
 ghost use Rattle.host_layout.specs.Input.{settingsIn, inputIn, outcomeIn};
 ghost use Rattle.host_state.specs.State.{stateIn, stateOut};
 ghost use Rattle.host_layout.specs.Verdict.{verdictOut};
@@ -111,8 +111,8 @@ fn ticked(
     ext: &[f64],
     chunk: &[f64],
 ) -> Answer
-    ensures { λ r. ⌜ (r ≡ answerOf (callOf (now (rt .entry)) (tickOf (settingsIn s) (stateIn (now (rt .entry))) (inputIn inp) (outcomeIn out) (now (pos .entry)) (now (vel .entry)) (now (aux .entry)) (now (ext .entry)) (now (chunk .entry)))))
-        × (now (rt .exit) ≡ callOf (now (rt .entry)) (tickOf (settingsIn s) (stateIn (now (rt .entry))) (inputIn inp) (outcomeIn out) (now (pos .entry)) (now (vel .entry)) (now (aux .entry)) (now (ext .entry)) (now (chunk .entry))) .rt)
+    ensures { λ r. ⌜ (r ≡ answerOf (calledOf (now (rt .entry)) s inp out (now (pos .entry)) (now (vel .entry)) (now (aux .entry)) (now (ext .entry)) (now (chunk .entry))))
+        × (now (rt .exit) ≡ calledOf (now (rt .entry)) s inp out (now (pos .entry)) (now (vel .entry)) (now (aux .entry)) (now (ext .entry)) (now (chunk .entry)) .rt)
         × (isAccepted (checkOf (settingsIn s)) ≡ false → (r .number ≡ checkNumber (checkOf (settingsIn s))) × (r .verdict ≡ verdictOut noVerdict) × (now (rt .exit) ≡ now (rt .entry))) ⌝ }
 {
     let a = refusal(s);
@@ -161,8 +161,8 @@ pub extern "C" fn disklorva_tick(
     ext: &[f64],
     chunk: &[f64],
 ) -> Answer
-    ensures { λ r. ⌜ (r ≡ answerOf (callOf (now (rt .entry)) (tickOf (settingsIn (now (s .entry))) (stateIn (now (rt .entry))) (inputIn (now (inp .entry))) (outcomeIn (now (out .entry))) (now (pos .entry)) (now (vel .entry)) (now (aux .entry)) (now (ext .entry)) (now (chunk .entry)))))
-        × (now (rt .exit) ≡ callOf (now (rt .entry)) (tickOf (settingsIn (now (s .entry))) (stateIn (now (rt .entry))) (inputIn (now (inp .entry))) (outcomeIn (now (out .entry))) (now (pos .entry)) (now (vel .entry)) (now (aux .entry)) (now (ext .entry)) (now (chunk .entry))) .rt)
+    ensures { λ r. ⌜ (r ≡ answerOf (calledOf (now (rt .entry)) (now (s .entry)) (now (inp .entry)) (now (out .entry)) (now (pos .entry)) (now (vel .entry)) (now (aux .entry)) (now (ext .entry)) (now (chunk .entry))))
+        × (now (rt .exit) ≡ calledOf (now (rt .entry)) (now (s .entry)) (now (inp .entry)) (now (out .entry)) (now (pos .entry)) (now (vel .entry)) (now (aux .entry)) (now (ext .entry)) (now (chunk .entry)) .rt)
         × (isAccepted (checkOf (settingsIn (now (s .entry)))) ≡ false → (r .number ≡ checkNumber (checkOf (settingsIn (now (s .entry))))) × (r .verdict ≡ verdictOut noVerdict) × (now (rt .exit) ≡ now (rt .entry))) ⌝ }
 {
     ticked(rt, *s, *inp, *out, pos, vel, aux, ext, chunk)

@@ -16,7 +16,7 @@ use Rattle.host_state.specs.declared.RunState.{RunState}
 use Rattle.host_layout.specs.Input.{settingsIn, inputIn, outcomeIn}
 use Rattle.host_state.specs.State.{stateIn}
 use Rattle.host_c.specs.declared.Called.{Called}
-use Rattle.host_c.specs.Call.{steppedOf, callOf, resetRun}
+use Rattle.host_c.specs.Call.{steppedOf, calledOf, resetRun}
 
 -- what a host hands to `disklorva_tick` beside the run state
 pub record HostCall : Type 0 where
@@ -33,9 +33,9 @@ pub record HostCall : Type 0 where
 abbrev pub meant : HostCall → Call
 meant h = record { settings = settingsIn (h .settings); input = inputIn (h .input); outcome = outcomeIn (h .outcome); pos = h .pos; vel = h .vel; aux = h .aux; ext = h .ext; chunk = h .chunk }
 
--- what the library answers, with the run state that it leaves: the definition that both functions promise (crates/host_c/src/lib.rt)
+-- what the library answers, with the run state that it leaves: the definition that `disklorva_tick` promises (crates/host_c/src/lib.rt)
 abbrev pub answered : RunState → HostCall → Called
-answered rt h = callOf rt (answerOf (stateIn rt) (meant h))
+answered rt h = calledOf rt (h .settings) (h .input) (h .outcome) (h .pos) (h .vel) (h .aux) (h .ext) (h .chunk)
 
 -- the answers to a list of calls, each on the run state that the one before left
 abbrev pub answeredFrom : RunState → List HostCall → List Called
