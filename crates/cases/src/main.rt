@@ -130,9 +130,9 @@ fn first(last: u32) -> FuseRt
     ensures { λ r. ⌜ r ≡ firstOf last ⌝ }
 {
     let nothing: [f64; 0] = [];
-    let rt = lictor_episode::reset(lictor_episode::new());
+    let rt = lictor_fuse::episode::reset(lictor_fuse::episode::new());
     let inp = input(last, 0, MaybeChunk::NoChunk);
-    let d = lictor_fuse::tick::tick(
+    let d = lictor_fuse::tick(
         settings(),
         rt,
         inp,
@@ -160,7 +160,7 @@ fn after(last: u32, missed: u8, t: u32) -> SafetyVerdict
         exec_steps: 1,
     };
     let inp = input(t, missed, MaybeChunk::Delivered(head));
-    let d = lictor_fuse::tick::tick(
+    let d = lictor_fuse::tick(
         settings(),
         first(last),
         inp,
@@ -200,7 +200,7 @@ fn write(l: Line) {
 
 fn run(last: u32, missed: u8, t: u32) {
     write(named(last, missed, t));
-    write(report::lines::tick_line(after(last, missed, t)));
+    write(report::tick_line(after(last, missed, t)));
 }
 
 // Every t that could be thought of after the last one: the next ones if the clock wrapped, the middle, its end.

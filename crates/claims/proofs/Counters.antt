@@ -27,7 +27,7 @@ use Rattle.lictor_core.specs.Masks.{anyOf, faultBits}
 use Rattle.lictor_core.specs.Num.{satUp, wrapUp}
 use Rattle.lictor_settings.specs.Settings.{configOf}
 use Rattle.lictor_stages.specs.Judge.{machineInput}
-use Rattle.lictor_verdict.specs.Verdict.{eventsOf, noEvents}
+use Rattle.lictor_stages.specs.Verdict.{eventsOf, noEvents}
 use Rattle.lictor_table.specs.declared.FsmInput.{FsmInput}
 use Rattle.lictor_table.specs.declared.Turn.{Turn}
 use Rattle.lictor_table.specs.Helpers.{countIf, upIf, consumeNonce, latchHold, acceptedBy, acceptedAck, cleanOf, countRun, settledOf}
@@ -36,9 +36,9 @@ use Rattle.lictor_table.specs.Table.{nextOf}
 use Rattle.lictor_table.proofs.ByTable.{tells}
 use Rattle.lictor_table.proofs.Lines.{by-test}
 use Rattle.lictor_tally.specs.declared.TickEvents.{TickEvents}
-use Rattle.lictor_decide.specs.declared.Decided.{Decided}
-use Rattle.lictor_fuse.specs.declared.tick.Ticked.{Ticked}
-use Rattle.lictor_decide.specs.Decide.{readyOf, nextChunk, cleanClock, faultClock, closedOf, closeClean, cleanTick, closeFault, faultTick}
+use Rattle.lictor_fuse.specs.declared.decide.Decided.{Decided}
+use Rattle.lictor_fuse.specs.declared.Ticked.{Ticked}
+use Rattle.lictor_fuse.specs.Decide.{readyOf, nextChunk, cleanClock, faultClock, closedOf, closeClean, cleanTick, closeFault, faultTick}
 use Rattle.lictor_fuse.specs.Tick.{givenOf}
 use Rattle.claims.specs.Calls.{Call, accepted, answerOf, guardBits}
 use Rattle.claims.specs.Tallies.{turnOf, itemOf}

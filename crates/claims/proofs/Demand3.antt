@@ -18,14 +18,14 @@ use Rattle.lictor_core.specs.Initial.{freshControl, resetOf}
 use Rattle.lictor_core.specs.Masks.{anyOf, faultBits}
 use Rattle.lictor_settings.specs.Settings.{configOf}
 use Rattle.lictor_stages.specs.Judge.{judgeOf, machineInput, faultInput}
-use Rattle.lictor_verdict.specs.Verdict.{verdictOf, faultVerdict}
+use Rattle.lictor_stages.specs.Verdict.{verdictOf, faultVerdict}
 use Rattle.lictor_table.specs.declared.FsmInput.{FsmInput}
 use Rattle.lictor_table.specs.Consumed.{takenIn, consumedOf}
 use Rattle.lictor_table.specs.Helpers.{acceptedAck, settledOf}
 use Rattle.lictor_table.specs.Table.{nextFrom, nextOf}
 use Rattle.lictor_table.proofs.Stops.{StopLaw, stop-law, nonce-law, fresh-law}
-use Rattle.lictor_decide.specs.declared.Decided.{Decided}
-use Rattle.lictor_decide.specs.Decide.{readyOf, closedOf, closeClean, cleanTick, closeFault, faultTick}
+use Rattle.lictor_fuse.specs.declared.decide.Decided.{Decided}
+use Rattle.lictor_fuse.specs.Decide.{readyOf, closedOf, closeClean, cleanTick, closeFault, faultTick}
 use Rattle.lictor_fuse.specs.Tick.{givenOf}
 use Rattle.claims.specs.Runs.{All, total, Step}
 use Rattle.claims.specs.Calls.{Call, Under, guardBits, tripsOf, bitsOf, ackOf, tookOf, Seen, seenOf, stepOf, ticksFrom}

@@ -26,19 +26,19 @@ use Rattle.lictor_core.specs.Masks.{anyOf, faultBits}
 use Rattle.lictor_core.specs.Rows.{rowTo}
 use Rattle.lictor_settings.specs.Settings.{badCode, badSize, badFloat, anyBelow, crossedOf, badBox, settingsTable, firstRow, checkOf, configOf}
 use Rattle.lictor_core.proofs.Rows.{row-length}
-use Rattle.lictor_delivery.specs.Delivery.{deliveredOf, sizesBad, placeBad, headBad, deliveryBad}
+use Rattle.lictor_guard.specs.Delivery.{deliveredOf, sizesBad, placeBad, headBad, deliveryBad}
 use Rattle.lictor_guard.specs.Guard.{nonFinite, lengthsOf, shapeBad, clockBad, schemaBad, bitIf, guardOf}
-use Rattle.lictor_ingest.specs.Ingest.{takenRow, velocityOf, ingestOf}
+use Rattle.lictor_stages.specs.Ingest.{takenRow, velocityOf, ingestOf}
 use Rattle.lictor_stages.specs.Judge.{withBrake, maskedOf, slowOf, standstillOf, judgeOf, machineInput}
-use Rattle.lictor_verdict.specs.Verdict.{verdictOf}
+use Rattle.lictor_stages.specs.Verdict.{verdictOf}
 use Rattle.lictor_table.specs.declared.FsmInput.{FsmInput}
 use Rattle.lictor_table.specs.Helpers.{acceptedAck, settledOf, countRun}
 use Rattle.lictor_table.specs.Rows.{confirmedOf, standstillRow, stoppingRow, brakingOf, brakeRow, runningOf, byFrom, transitionOf, nextByRows}
 use Rattle.lictor_table.specs.Table.{nextOf}
 use Rattle.lictor_table.proofs.ByTable.{tells}
 use Rattle.lictor_table.proofs.Stops.{StopLaw, stop-law}
-use Rattle.lictor_decide.specs.declared.Decided.{Decided}
-use Rattle.lictor_decide.specs.Decide.{readyOf, cleanClock, closedOf, closeClean, cleanTick}
+use Rattle.lictor_fuse.specs.declared.decide.Decided.{Decided}
+use Rattle.lictor_fuse.specs.Decide.{readyOf, cleanClock, closedOf, closeClean, cleanTick}
 use Rattle.lictor_fuse.specs.Tick.{isAccepted, givenOf}
 use Rattle.claims.specs.Runs.{All, Some, here, later, First, Where, at, past, series, Step, silent, event, andThen, trace}
 use Rattle.claims.specs.Demand3.{begins, closes, limit, StopsWithin}

@@ -11,13 +11,13 @@ use Rattle.lictor_core.specs.declared.verdict.SafetyVerdict.{SafetyVerdict}
 use Rattle.lictor_core.specs.Initial.{emptyTally, newOf, resetOf}
 use Rattle.lictor_settings.specs.Settings.{configOf}
 use Rattle.lictor_stages.specs.Judge.{judgeOf}
-use Rattle.lictor_verdict.specs.Verdict.{verdictOf, faultVerdict, eventsOf}
+use Rattle.lictor_stages.specs.Verdict.{verdictOf, faultVerdict, eventsOf}
 use Rattle.lictor_tally.specs.History as H
 use Rattle.lictor_tally.specs.History.{Item, recorded, tallyFrom, tallyOf}
 use Rattle.lictor_tally.proofs.History.{history}
-use Rattle.lictor_decide.specs.declared.Decided.{Decided}
-use Rattle.lictor_fuse.specs.declared.tick.Ticked.{Ticked}
-use Rattle.lictor_decide.specs.Decide.{chunkTally, closedOf, closeClean, cleanTick, closeFault, faultTick}
+use Rattle.lictor_fuse.specs.declared.decide.Decided.{Decided}
+use Rattle.lictor_fuse.specs.declared.Ticked.{Ticked}
+use Rattle.lictor_fuse.specs.Decide.{chunkTally, closedOf, closeClean, cleanTick, closeFault, faultTick}
 use Rattle.lictor_fuse.specs.Tick.{isAccepted, givenOf}
 use Rattle.claims.specs.Runs.{Step, silent, event, andThen}
 use Rattle.claims.specs.Calls.{Call, answerOf, tripsOf, after}

@@ -6,17 +6,17 @@ use lib.Bits.{bitOr}
 use Rattle.lictor_core.specs.declared.fuse.FuseRt.{FuseRt}
 use Rattle.lictor_core.specs.Masks as M
 use Rattle.lictor_settings.specs.Settings.{checkOf, configOf}
-use Rattle.lictor_delivery.specs.Delivery.{deliveredOf}
+use Rattle.lictor_guard.specs.Delivery.{deliveredOf}
 use Rattle.lictor_guard.specs.Guard.{bitIf, guardOf}
 use Rattle.lictor_stages.specs.declared.judge.Findings.{Findings}
-use Rattle.lictor_ingest.specs.Ingest.{ingestOf, faultMotion}
+use Rattle.lictor_stages.specs.Ingest.{ingestOf, faultMotion}
 use Rattle.lictor_stages.specs.Judge.{judgeOf, machineInput, faultInput}
 use Rattle.lictor_table.specs.declared.Turn.{Turn}
 use Rattle.lictor_table.specs.Table.{nextOf}
 use Rattle.lictor_table.proofs.Lines.{by-test}
-use Rattle.lictor_decide.specs.declared.Decided.{Decided}
-use Rattle.lictor_fuse.specs.declared.tick.Ticked.{Ticked}
-use Rattle.lictor_decide.specs.Decide.{readyOf, cleanTick, faultTick, decideBy, decideOf}
+use Rattle.lictor_fuse.specs.declared.decide.Decided.{Decided}
+use Rattle.lictor_fuse.specs.declared.Ticked.{Ticked}
+use Rattle.lictor_fuse.specs.Decide.{readyOf, cleanTick, faultTick, decideBy, decideOf}
 use Rattle.lictor_fuse.specs.Tick.{givenOf, acceptedTick, refusedTick, tickBy, tickOf}
 use Rattle.claims.specs.Runs.{Step, silent, event}
 use Rattle.claims.specs.Calls.{Call, answerOf, accepted, guardBits, stepBy, stepOf}

@@ -18,7 +18,7 @@ use Rattle.lictor_guard.specs.Guard.{guardOf}
 use Rattle.lictor_stages.specs.Judge.{maskedOf}
 use Rattle.lictor_table.specs.Helpers.{acceptedAck}
 use Rattle.lictor_table.specs.Consumed.{takenIn}
-use Rattle.lictor_fuse.specs.declared.tick.Ticked.{Ticked}
+use Rattle.lictor_fuse.specs.declared.Ticked.{Ticked}
 use Rattle.lictor_fuse.specs.Tick.{isAccepted, tickOf}
 use Rattle.claims.specs.Runs.{Step, silent, event, trace}
 
@@ -35,7 +35,7 @@ pub record Call : Type 0 where
   pub ext : List Float
   pub chunk : List Float
 
--- what `tick` answers: the definition that it promises (crates/lictor_fuse/src/tick.rt)
+-- what `tick` answers: the definition that it promises (crates/lictor_fuse/src/lib.rt)
 abbrev pub answerOf : FuseRt → Call → Ticked
 answerOf r c = tickOf (c .settings) r (c .input) (c .outcome) (c .pos) (c .vel) (c .aux) (c .ext) (c .chunk)
 

@@ -13,12 +13,12 @@ use Rattle.lictor_core.specs.declared.tally.Tally.{Tally}
 use Rattle.lictor_core.specs.declared.verdict.SafetyVerdict.{SafetyVerdict}
 use Rattle.lictor_core.specs.Codes.{isState}
 use Rattle.lictor_core.specs.Initial.{newOf, resetOf}
-use Rattle.lictor_delivery.specs.Delivery.{deliveredOf}
-use Rattle.lictor_verdict.specs.Verdict.{eventsOf, noEvents, rejectedOf}
+use Rattle.lictor_guard.specs.Delivery.{deliveredOf}
+use Rattle.lictor_stages.specs.Verdict.{eventsOf, noEvents, rejectedOf}
 use Rattle.lictor_table.specs.declared.Turn.{Turn}
 use Rattle.lictor_tally.specs.History.{Item, tallyOf}
 use Rattle.lictor_tally.specs.Tally.{isNominal}
-use Rattle.lictor_fuse.specs.declared.tick.Ticked.{Ticked}
+use Rattle.lictor_fuse.specs.declared.Ticked.{Ticked}
 use Rattle.claims.specs.Runs.{total, trace}
 use Rattle.claims.specs.Calls.{Call, guardBits, tripsOf, stepOf, after}
 

@@ -7,18 +7,18 @@ use native.Mathlib.Omega.{arith}
 use lib.ListN.{length, take, drop, length-append, length-drop}
 use lib.Seq.{take-at, length-take-le}
 use lib.Ieee.{Float}
-use Rattle.lictor_decide.specs.declared.Decided.{Decided}
-use Rattle.judge.specs.declared.Refusal.{Refusal}
-use Rattle.judge.proofs.Exactly.{numbers}
-use Rattle.reader.specs.Stream.{wait, End, waiting, halted, telling, settled}
-use Rattle.reader.specs.Reading.{nextOf}
-use Rattle.reader.proofs.Stream.{joined, settled-still, telling-telling}
-use Rattle.reader.proofs.Reading.{waits-short}
-use Rattle.journal_tick.specs.Tick.{Whole, wholeOf}
+use Rattle.lictor_fuse.specs.declared.decide.Decided.{Decided}
+use Rattle.journal_refusals.specs.declared.Refusal.{Refusal}
+use Rattle.journal_refusals.proofs.Exactly.{numbers}
+use Rattle.journal_reader.specs.Stream.{wait, End, waiting, halted, telling, settled}
+use Rattle.journal_reader.specs.Reading.{nextOf}
+use Rattle.journal_reader.proofs.Stream.{joined, settled-still, telling-telling}
+use Rattle.journal_reader.proofs.Reading.{waits-short}
+use Rattle.journal.specs.Tick.{Whole, wholeOf}
 use Rattle.journal.specs.Journal.{replayOf}
 use Rattle.journal.proofs.Replay.{replay}
 use Rattle.journal.proofs.Ends.{waits-as}
-use Rattle.intake.specs.Intake.{movedDown, Came}
+use Rattle.console.specs.Intake.{movedDown, Came}
 use Rattle.player.specs.declared.Turn.{Turn}
 use Rattle.console.specs.declared.Round.{Round}
 use Rattle.player.specs.Play.{tickRoom, Fed}

@@ -11,23 +11,23 @@ use lib.Ieee.{Float}
 use borrow.Author.Tests.{eq-eqb, ne-eqb}
 use Rattle.lictor_core.specs.declared.tally.Tally.{Tally}
 use Rattle.lictor_core.specs.Initial.{zeros}
-use Rattle.lictor_decide.specs.declared.Decided.{Decided}
-use Rattle.judge.specs.declared.Refusal.{Refusal}
-use Rattle.judge.specs.declared.Refusal.the-variants.{CutBody}
-use Rattle.judge.specs.Table.{numberOf}
-use Rattle.judge.proofs.Exactly.{numbers}
-use Rattle.waiting.specs.declared.Reader.{Reader}
-use Rattle.waiting.specs.State.{startReader}
-use Rattle.reader.specs.Stream.{End, waiting, halted, Settled, telling, settled}
-use Rattle.journal_tick.specs.declared.Run.{Run}
-use Rattle.journal_tick.specs.Tick.{Whole, wholeOf}
+use Rattle.lictor_fuse.specs.declared.decide.Decided.{Decided}
+use Rattle.journal_refusals.specs.declared.Refusal.{Refusal}
+use Rattle.journal_refusals.specs.declared.Refusal.the-variants.{CutBody}
+use Rattle.journal_refusals.specs.Table.{numberOf}
+use Rattle.journal_refusals.proofs.Exactly.{numbers}
+use Rattle.journal_reader.specs.declared.waiting.Reader.{Reader}
+use Rattle.journal_reader.specs.State.{startReader}
+use Rattle.journal_reader.specs.Stream.{End, waiting, halted, Settled, telling, settled}
+use Rattle.journal.specs.declared.tick.Run.{Run}
+use Rattle.journal.specs.Tick.{Whole, wholeOf}
 use Rattle.journal.specs.Journal.{replayOf, startRun, startWhole, Ending, ended, refused, Meaning, endingOf, journalOf}
 use Rattle.report.specs.Lines.{endText, refusedText}
 use Rattle.console.specs.declared.Round.{Round}
 use Rattle.console.specs.declared.Ended.{Ended}
 use Rattle.player.specs.Play.{eventsText}
 use Rattle.console.specs.Console.{numberAt, Rests, lastText, Rounded, textOf, endedOf, endNumber, endPlace, Ran, lastOf}
-use Rattle.reader.proofs.Stream.{telling-telling}
+use Rattle.journal_reader.proofs.Stream.{telling-telling}
 use Rattle.console.proofs.Rounds.{more-bytes}
 
 -- the bytes that came so far: those before `place` were taken, those at the front of memory wait

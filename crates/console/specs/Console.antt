@@ -8,13 +8,13 @@ use lib.Dec.{eqb}
 use lib.Ieee.{Float}
 use lib.ListN.{length, take, drop}
 use Rattle.lictor_core.specs.declared.tally.Tally.{Tally}
-use Rattle.lictor_decide.specs.declared.Decided.{Decided}
-use Rattle.judge.specs.declared.Refusal.{Refusal}
-use Rattle.judge.specs.declared.Refusal.the-variants.{CutBody}
-use Rattle.judge.specs.Table.{numberOf}
-use Rattle.reader.specs.Stream.{End, waiting, halted, telling, settled}
-use Rattle.journal_tick.specs.declared.Run.{Run}
-use Rattle.journal_tick.specs.Tick.{Whole, wholeOf}
+use Rattle.lictor_fuse.specs.declared.decide.Decided.{Decided}
+use Rattle.journal_refusals.specs.declared.Refusal.{Refusal}
+use Rattle.journal_refusals.specs.declared.Refusal.the-variants.{CutBody}
+use Rattle.journal_refusals.specs.Table.{numberOf}
+use Rattle.journal_reader.specs.Stream.{End, waiting, halted, telling, settled}
+use Rattle.journal.specs.declared.tick.Run.{Run}
+use Rattle.journal.specs.Tick.{Whole, wholeOf}
 use Rattle.journal.specs.Journal.{replayOf, Ending, ended, refused, journalOf}
 use Rattle.report.specs.Lines.{endText, refusedText}
 use Rattle.player.specs.declared.Turn.{Turn}

@@ -1,19 +1,21 @@
 // Plays a journal from standard input to its end or its first refusal, in constant memory, and writes the text of its ticks and its last line.
+pub mod intake;
+
 ghost use mathlib.Core.Path.{_≡_};
 ghost use Prim.Native.Nat.{_<_, _≤_};
 ghost use lib.ListN.{length, take};
 ghost use Rattle.lictor_core.specs.Initial.{zeros};
 ghost use Rattle.text.specs.Line.{lineOf};
-ghost use Rattle.journal_tick.specs.Tick.{wholeOf};
-ghost use Rattle.intake.specs.Intake.{Came};
+ghost use Rattle.journal.specs.Tick.{wholeOf};
+ghost use Rattle.console.specs.Intake.{Came};
 ghost use Rattle.player.specs.Play.{tickRoom};
 ghost use Rattle.console.specs.Console.{Taken, roundOf, Rounded, endedOf, Ran, lastOf};
-use journal_tick::Run;
-use judge::Refusal;
+use journal::tick::Run;
+use journal_reader::waiting::Reader;
+use journal_refusals::Refusal;
 use libc::STDOUT_FILENO;
 use player::Turn;
 use text::Line;
-use waiting::Reader;
 
 // ---- part by part
 
@@ -38,7 +40,7 @@ fn take_in(
 {
     let t = player::feed(code, rd, run, lists, &buf[..have], out);
     write_part(out, t.n);
-    intake::move_down(buf, t.at, have);
+    crate::intake::move_down(buf, t.at, have);
     t
 }
 
@@ -47,7 +49,7 @@ fn read_on(buf: &mut [u8], have: usize) -> usize
     requires { ⌜ have < length (now buf) ⌝ }
     ensures { λ r. ⌜ Came (take have (now (buf .entry))) r (now (buf .exit)) ⌝ }
 {
-    intake::read_more(buf, have)
+    crate::intake::read_more(buf, have)
 }
 
 struct Round {
@@ -138,7 +140,7 @@ fn finish(run: Run, refused: u8, have: usize, place: u64) -> Ended
         return Ended {
             run,
             place,
-            refused: judge::number(Refusal::CutBody),
+            refused: journal_refusals::number(Refusal::CutBody),
         };
     }
     Ended {
@@ -156,7 +158,7 @@ fn run_rounds(code: u8, lists: &mut [f64; 576], buf: &mut [u8], out: &mut [u8]) 
     requires { ⌜ (now lists ≡ zeros 576) × (65536 ≡ length (now buf)) × (tickRoom ≤ length (now out)) ⌝ }
     ensures { λ r. ⌜ Ran r ⌝ }
 {
-    let rd = waiting::start();
+    let rd = journal_reader::waiting::start();
     let run = journal::start();
     let mut r = Round {
         reader: rd,
@@ -185,12 +187,12 @@ fn last_line(e: Ended) -> Line
 {
     let refused = e.refused;
     if refused != 0 {
-        return report::lines::refused_line(refused, e.place);
+        return report::refused_line(refused, e.place);
     }
     let run = e.run;
     let rt = run.rt;
     let tally = rt.tally;
-    report::lines::end_line(tally)
+    report::end_line(tally)
 }
 
 fn write_line(l: Line) {

@@ -7,9 +7,9 @@ use Rattle.lictor_core.specs.Initial.{zeros, emptyTally, freshControl, freshMot
 use Rattle.lictor_core.specs.Masks.{anyOf}
 use Rattle.lictor_core.specs.Rows.{rowTo}
 use Rattle.lictor_settings.specs.Settings.{badCode, badSize, badFloat, anyBelow, crossedOf, badBox, settingsTable, firstRow, checkOf, configOf}
-use Rattle.lictor_brake.specs.Brake.{component, boxedComponent, boxedRow, scaledComponent, scaledRow, boxedAction, scaledAction, eps, brakeFactor, brakeAction, holdAction}
+use Rattle.lictor_detect.specs.Brake.{component, boxedComponent, boxedRow, scaledComponent, scaledRow, boxedAction, scaledAction, eps, brakeFactor, brakeAction, holdAction}
 use Rattle.lictor_detect.specs.Window.{bitOf, pushOf, hitsOf, tripOf}
-use Rattle.lictor_delivery.specs.Delivery.{deliveredOf, sizesBad, placeBad, headBad, deliveryBad}
+use Rattle.lictor_guard.specs.Delivery.{deliveredOf, sizesBad, placeBad, headBad, deliveryBad}
 use Rattle.lictor_guard.specs.Guard.{nonFinite, lengthsOf, shapeBad, clockBad, schemaBad, bitIf, guardOf}
 use Rattle.lictor_table.specs.Consumed.{consumedOf}
 use Rattle.lictor_table.specs.Helpers.{faultReason, clampReason, armedReason, acceptedBy, acceptedAck, consumeNonce, latchedOf, latchHold, countIf, upIf, isClean, countRun, settledOf}
@@ -17,32 +17,32 @@ use Rattle.lictor_table.specs.Rows.{faultRow, rearmAck, resumeRow, terminateRow
 use Rattle.lictor_table.specs.Table.{firstOf, table, nextFrom, nextOf}
 use Rattle.lictor_tally.specs.History.{recorded}
 use Rattle.lictor_tally.specs.Tally.{count, bitOf as bitOf·lictor_tally, countBit, eachFrom, countBits, first, firstReason, mostAt, mostLive, recordOf, recordChunk}
-use Rattle.lictor_ingest.specs.Ingest.{takenRow, stepRate, ratesRow, stillRow, velocityOf, ingestOf, isFit, withPos, faultMotion}
+use Rattle.lictor_stages.specs.Ingest.{takenRow, stepRate, ratesRow, stillRow, velocityOf, ingestOf, isFit, withPos, faultMotion}
 use Rattle.lictor_stages.specs.Judge.{withBrake, maskedOf, warnOf, slowOf, standstillOf, chunkOk, scoredOf, judgeOf, machineInput, faultInput}
-use Rattle.lictor_act.specs.Act.{statusOf, sourceOf, cutRow, passedOf, insteadOf, enforcedOf, byMode, actOf}
-use Rattle.lictor_verdict.specs.Verdict.{liveValid, scoresOf, disarmedScores, actionDim, enteredOf, handoffOf, hasAck, consumedFlag, verdictOf, faultVerdict, eventsOf, noEvents, rejectedOf}
-use Rattle.lictor_steps.specs.Steps.{readyOf}
-use Rattle.lictor_closing.specs.Clock.{nextChunk, cleanClock, chunkTally, faultClock}
-use Rattle.lictor_decide.specs.Decide.{closedOf, closeClean, cleanTick, closeFault, faultTick, decideBy, decideOf}
+use Rattle.lictor_stages.specs.Act.{statusOf, sourceOf, cutRow, passedOf, insteadOf, enforcedOf, byMode, actOf}
+use Rattle.lictor_stages.specs.Verdict.{liveValid, scoresOf, disarmedScores, actionDim, enteredOf, handoffOf, hasAck, consumedFlag, verdictOf, faultVerdict, eventsOf, noEvents, rejectedOf}
+use Rattle.lictor_fuse.specs.Steps.{readyOf}
+use Rattle.lictor_fuse.specs.Clock.{nextChunk, cleanClock, chunkTally, faultClock}
+use Rattle.lictor_fuse.specs.Decide.{closedOf, closeClean, cleanTick, closeFault, faultTick, decideBy, decideOf}
 use Rattle.lictor_fuse.specs.Tick.{noVerdict, refusedTick, givenOf, acceptedTick, tickBy, tickOf}
 use Rattle.text.specs.Commas.{behindCommas, commas, numbersText, floatsText}
 use Rattle.text.specs.Line.{lineOf, putOf, pushOf as pushOf·text}
 use Rattle.text.specs.Number.{decimalIn, signedOf, hexIn, floatText}
 use Rattle.report.specs.Lines.{marginText, tickText, stoppedOf, endText, refusedText}
 use Rattle.margin.specs.Margin.{nearestWhole, marginOf}
-use Rattle.bytes_le.specs.Little.{leAt, floatAt, floatsAt}
-use Rattle.records.specs.Body.{ackOf, headOf, tickNumbers, recordOf as recordOf·records}
-use Rattle.long_records.specs.Long.{limitsOf, calibrationOf, settingsOf, scoresOf as scoresOf·long_records, outcomeOf}
-use Rattle.records.specs.Kinds.{isKnown, bodyLen}
-use Rattle.judge.specs.Causes.{unknownKind, bodyCut, beforeSettings, again, codeNotListed, sizeOutside, floatNotFinite, boxCrossed, listFull, notReady}
-use Rattle.judge.specs.Table.{refusalTable, firstRow as firstRow·judge, judgedOf, contentsOf}
-use Rattle.reader.specs.Reading.{lookAs, lookOf, callOf, onRecord, onLook, nextOf as nextOf·reader, readOf, listsAfter}
-use Rattle.waiting.specs.State.{ackWaits, headWaits, valueWaits, stored, outcomeWaits, settingsCame, emptied, startReader, valuesOf, inputOf}
-use Rattle.reader.specs.Stream.{settle, settled, advance, advanced, fed, whole}
+use Rattle.journal_records.specs.Little.{leAt, floatAt, floatsAt}
+use Rattle.journal_records.specs.Body.{ackOf, headOf, tickNumbers, recordOf as recordOf·records}
+use Rattle.journal_records.specs.Long.{limitsOf, calibrationOf, settingsOf, scoresOf as scoresOf·long_records, outcomeOf}
+use Rattle.journal_records.specs.Kinds.{isKnown, bodyLen}
+use Rattle.journal_refusals.specs.Causes.{unknownKind, bodyCut, beforeSettings, again, codeNotListed, sizeOutside, floatNotFinite, boxCrossed, listFull, notReady}
+use Rattle.journal_refusals.specs.Table.{refusalTable, firstRow as firstRow·judge, judgedOf, contentsOf}
+use Rattle.journal_reader.specs.Reading.{lookAs, lookOf, callOf, onRecord, onLook, nextOf as nextOf·reader, readOf, listsAfter}
+use Rattle.journal_reader.specs.State.{ackWaits, headWaits, valueWaits, stored, outcomeWaits, settingsCame, emptied, startReader, valuesOf, inputOf}
+use Rattle.journal_reader.specs.Stream.{settle, settled, advance, advanced, fed, whole}
 use Rattle.journal.specs.Ends.{judgedAt}
-use Rattle.journal_tick.specs.Tick.{decidedOf, tickedOf, journalTick}
+use Rattle.journal.specs.Tick.{decidedOf, tickedOf, journalTick}
 use Rattle.journal.specs.Journal.{begunOf, restartedOf, obey, obeyed, replayOf, startRun, startWhole, journalOf, advancedOf, listsAfter as listsAfter·journal, begunAt, resetAt}
-use Rattle.render.specs.Text.{traceUpTo, eventText, placeAfter, memoryAfter}
+use Rattle.report.specs.Text.{traceUpTo, eventText, placeAfter, memoryAfter}
 use Rattle.player.specs.Play.{eventsText, played, playOf, fedOf, turnOf, goesOnOf}
 use Rattle.console.specs.Console.{lastText, textOf, endedOf, endNumber, endPlace, lastOf}
 use lib.Ieee.{add, sub, mul, div, lt, le, eq, ofBits, toBits, round, isNan}

@@ -2,5 +2,5 @@
 //
 // All that matters is in the libraries (crates/console).
 fn main() {
-    console::play(render::LINES);
+    console::play(report::render::LINES);
 }

@@ -16,8 +16,8 @@ use Rattle.lictor_settings.proofs.SettingsCheck as Ck
 use Rattle.lictor_settings.proofs.SettingsCheck.Laws as Ck′
 use Rattle.lictor_core.proofs.verdict.SafetyVerdict as Ve
 use Rattle.lictor_core.proofs.verdict.SafetyVerdict.Laws as Ve′
-use Rattle.lictor_fuse.proofs.tick.Ticked as Tk
-use Rattle.lictor_fuse.proofs.tick.Ticked.Laws as Tk′
+use Rattle.lictor_fuse.proofs.Ticked as Tk
+use Rattle.lictor_fuse.proofs.Ticked.Laws as Tk′
 use Rattle.host.specs.Host.{answerOf}
 use Rattle.host.proofs.Answer as An
 use Rattle.host.proofs.Answer.Laws as An′

@@ -2,7 +2,7 @@
 -- The lent tick of 01-scope.md, Rust forms that need another form (fuse.rs, decide).
 use Prim.Native.Nat.{ℕ}
 use Rattle.lictor_settings.specs.Settings.{checkNumber}
-use Rattle.lictor_fuse.specs.declared.tick.Ticked.{Ticked}
+use Rattle.lictor_fuse.specs.declared.Ticked.{Ticked}
 use Rattle.host.specs.declared.Answer.{Answer}
 
 -- all that the by-value core gives but the run state, which is stored where the host lent it

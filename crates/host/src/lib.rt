@@ -22,7 +22,7 @@ pub struct Answer {
 pub fn reset(rt: &mut FuseRt)
     ensures { λ _. ⌜ now (rt .exit) ≡ resetOf (now (rt .entry)) ⌝ }
 {
-    *rt = lictor_episode::reset(*rt);
+    *rt = lictor_fuse::episode::reset(*rt);
 }
 
 // One tick of the lent run state. Where the settings are refused, the answer has the number of the cause and no verdict, and the run state is as it was.
@@ -42,7 +42,7 @@ pub fn tick(
         × (now (rt .exit) ≡ tickOf s (now (rt .entry)) inp out (now (pos .entry)) (now (vel .entry)) (now (aux .entry)) (now (ext .entry)) (now (chunk .entry)) .rt)
         × (isAccepted (checkOf s) ≡ false → (numberOf r ≡ checkNumber (checkOf s)) × (r .verdict ≡ noVerdict) × (now (rt .exit) ≡ now (rt .entry))) ⌝ }
 {
-    let t = lictor_fuse::tick::tick(s, *rt, inp, out, pos, vel, aux, ext, chunk);
+    let t = lictor_fuse::tick(s, *rt, inp, out, pos, vel, aux, ext, chunk);
     *rt = t.rt;
     Answer {
         check: t.check,

@@ -10,13 +10,13 @@ use Rattle.lictor_core.specs.declared.fuse.FuseRt.{FuseRt}
 use Rattle.lictor_core.specs.declared.fuse.TickInput.{TickInput}
 use Rattle.lictor_core.specs.declared.outcome.Outcome.{Outcome}
 use Rattle.lictor_settings.specs.Settings.{checkOf, checkNumber}
-use Rattle.lictor_decide.specs.declared.Decided.{Decided}
-use Rattle.lictor_fuse.specs.declared.tick.Ticked.{Ticked}
+use Rattle.lictor_fuse.specs.declared.decide.Decided.{Decided}
+use Rattle.lictor_fuse.specs.declared.Ticked.{Ticked}
 use Rattle.lictor_fuse.specs.Tick.{isAccepted, noVerdict, givenOf, tickOf}
 use Rattle.host.proofs.Refused.{refused-call}
-use Rattle.host_state.specs.declared.RunState.{RunState}
+use Rattle.host_layout.specs.declared.state.RunState.{RunState}
 use Rattle.host_c.specs.Call.{steppedOf, keptOf, callOf, answerOf}
-use Rattle.host_state.specs.State.{stateOut}
+use Rattle.host_layout.specs.State.{stateOut}
 use Rattle.host_layout.specs.Verdict.{verdictOut}
 
 -- the number of the cause, no verdict, and every field of the run state

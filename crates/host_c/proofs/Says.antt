@@ -4,15 +4,15 @@
 use mathlib.Core.Path.{_≡_, _∙_}
 use mathlib.Core.Bool.{false}
 use Rattle.lictor_settings.specs.Settings.{checkOf, checkNumber}
-use Rattle.lictor_fuse.specs.declared.tick.Ticked.{Ticked}
+use Rattle.lictor_fuse.specs.declared.Ticked.{Ticked}
 use Rattle.lictor_fuse.specs.Tick.{tickOf, isAccepted, noVerdict}
 use Rattle.lent.proofs.Call.{Fs}
 use Rattle.host_layout.specs.declared.input.Input.{Input}
 use Rattle.host_layout.specs.declared.input.Outcome.{Outcome}
 use Rattle.host_layout.specs.declared.input.Settings.{Settings}
-use Rattle.host_state.specs.declared.RunState.{RunState}
+use Rattle.host_layout.specs.declared.state.RunState.{RunState}
 use Rattle.host_layout.specs.Input.{settingsIn, inputIn, outcomeIn}
-use Rattle.host_state.specs.State.{stateIn}
+use Rattle.host_layout.specs.State.{stateIn}
 use Rattle.host_layout.specs.Verdict.{verdictOut}
 use Rattle.host_c.specs.declared.Answer.{Answer}
 use Rattle.host_c.specs.declared.Called.{Called}

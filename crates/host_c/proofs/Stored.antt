@@ -1,4 +1,4 @@
--- A host that lends what it was given has the fuse's own run of states, though it never sees one: such a run state means what it was made of (`stored-back`, the crate `host_state`).
+-- A host that lends what it was given has the fuse's own run of states, though it never sees one: such a run state means what it was made of (`stored-back`, the crate `host_layout::state`).
 --     reset-on-stored, tick-on-stored      a call on such a run state gives what the fuse's reset or tick gives, as numbers
 -- Assumes nothing.
 use mathlib.Core.Path.{_≡_, refl, sym, _∙_, ap, subst}
@@ -11,12 +11,12 @@ use Rattle.lictor_core.specs.declared.envelope.Settings.{Settings}
 use Rattle.lictor_core.specs.declared.fuse.FuseRt.{FuseRt}
 use Rattle.lictor_core.specs.declared.fuse.TickInput.{TickInput}
 use Rattle.lictor_core.specs.declared.outcome.Outcome.{Outcome}
-use Rattle.lictor_fuse.specs.declared.tick.Ticked.{Ticked}
+use Rattle.lictor_fuse.specs.declared.Ticked.{Ticked}
 use Rattle.lictor_fuse.specs.Tick.{isAccepted, acceptedTick, refusedTick, givenOf, noVerdict, tickOf}
-use Rattle.host_state.specs.State.{stateIn, stateOut}
+use Rattle.host_layout.specs.State.{stateIn, stateOut}
 use Rattle.host_layout.specs.Verdict.{verdictOut}
 use Rattle.host.proofs.Refused.{by-test}
-use Rattle.host_state.proofs.Stored.{stored-back}
+use Rattle.host_layout.proofs.Stored.{stored-back}
 use Rattle.host_c.specs.Call.{steppedOf, keptOf, callOf, resetRun}
 
 pub reset-on-stored : (r : FuseRt) → resetRun (stateOut r) ≡ stateOut (resetOf r)

@@ -13,8 +13,8 @@ use Rattle.lictor_fuse.specs.Tick.{isAccepted, noVerdict}
 use Rattle.host_layout.specs.Input.{settingsIn}
 use Rattle.host_layout.specs.Verdict.{verdictOut}
 use Rattle.host_c.specs.Call.{refusalOf, answerOf}
-use Rattle.host_state.proofs.RunState as St
-use Rattle.host_state.proofs.RunState.Laws as St′
+use Rattle.host_layout.proofs.state.RunState as St
+use Rattle.host_layout.proofs.state.RunState.Laws as St′
 use Rattle.host_layout.proofs.input.Settings as Se
 use Rattle.host_layout.proofs.input.Settings.Laws as Se′
 use Rattle.host_layout.proofs.input.Input as In

@@ -8,16 +8,16 @@ use lib.Ieee.{Float}
 use Rattle.lictor_core.specs.Initial.{resetOf}
 use Rattle.lictor_settings.specs.Settings.{checkNumber}
 use Rattle.lictor_settings.specs.declared.SettingsCheck.{SettingsCheck}
-use Rattle.lictor_fuse.specs.declared.tick.Ticked.{Ticked}
+use Rattle.lictor_fuse.specs.declared.Ticked.{Ticked}
 use Rattle.lictor_fuse.specs.Tick.{noVerdict, tickOf}
 use Rattle.host_c.specs.declared.Answer.{Answer}
 use Rattle.host_c.specs.declared.Called.{Called}
 use Rattle.host_layout.specs.declared.input.Input.{Input}
 use Rattle.host_layout.specs.declared.input.Outcome.{Outcome}
 use Rattle.host_layout.specs.declared.input.Settings.{Settings}
-use Rattle.host_state.specs.declared.RunState.{RunState}
+use Rattle.host_layout.specs.declared.state.RunState.{RunState}
 use Rattle.host_layout.specs.Input.{settingsIn, inputIn, outcomeIn}
-use Rattle.host_state.specs.State.{stateIn, stateOut}
+use Rattle.host_layout.specs.State.{stateIn, stateOut}
 use Rattle.host_layout.specs.Verdict.{verdictOut}
 
 -- what refused settings are answered: the number of the cause, and no verdict

@@ -8,7 +8,7 @@ ghost use Rattle.lictor_settings.specs.Settings.{checkOf, checkNumber};
 ghost use Rattle.lictor_fuse.specs.Tick.{acceptedTick, givenOf, isAccepted, noVerdict};
 ghost use Rattle.host_c.specs.Call.{refusalOf, steppedOf, calledOf, answerOf, resetRun};
 ghost use Rattle.host_layout.specs.Input.{settingsIn, inputIn, outcomeIn};
-ghost use Rattle.host_state.specs.State.{stateIn, stateOut};
+ghost use Rattle.host_layout.specs.State.{stateIn, stateOut};
 ghost use Rattle.host_layout.specs.Verdict.{verdictOut};
 use host_layout::input::Input;
 use host_layout::input::Outcome;
@@ -16,14 +16,14 @@ use host_layout::input::Settings;
 use host_layout::input::input_in;
 use host_layout::input::outcome_in;
 use host_layout::input::settings_in;
+use host_layout::state::RunState;
+use host_layout::state::state_in;
+use host_layout::state::state_out;
 use host_layout::verdict::Verdict;
 use host_layout::verdict::verdict_out;
-use host_state::RunState;
-use host_state::state_in;
-use host_state::state_out;
-use lictor_decide::Decided;
-use lictor_decide::decide;
-use lictor_fuse::tick::no_verdict;
+use lictor_fuse::decide::Decided;
+use lictor_fuse::decide::decide;
+use lictor_fuse::no_verdict;
 use lictor_settings::check;
 use lictor_settings::check_number;
 use lictor_settings::config;
@@ -95,7 +95,7 @@ fn restarted(rt: RunState) -> RunState
     ensures { λ r. ⌜ r ≡ resetRun rt ⌝ }
 {
     let z = state_in(rt);
-    let n = lictor_episode::reset(z);
+    let n = lictor_fuse::episode::reset(z);
     state_out(n)
 }
 
@@ -134,7 +134,7 @@ fn ticked(
 pub extern "C" fn disklorva_new() -> RunState
     ensures { λ r. ⌜ r ≡ stateOut newOf ⌝ }
 {
-    let z = lictor_episode::new();
+    let z = lictor_fuse::episode::new();
     state_out(z)
 }
 

@@ -8,7 +8,7 @@ use Rattle.claims.specs.Calls.{Under, answerOf}
 use Rattle.claims.proofs.Demand3.{stops-close}
 use Rattle.lictor_core.specs.declared.envelope.Settings.{Settings}
 use Rattle.host_layout.specs.Input.{settingsIn}
-use Rattle.host_state.specs.State.{stateIn, stateOut}
+use Rattle.host_layout.specs.State.{stateIn, stateOut}
 use Rattle.host_c.specs.declared.Called.{Called}
 use Rattle.host_c.specs.Call.{steppedOf, resetRun}
 use Rattle.host_c.proofs.Stored.{tick-on-stored}

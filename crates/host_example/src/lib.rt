@@ -7,7 +7,7 @@ use lictor_core::envelope::Settings;
 use lictor_core::fuse::FuseRt;
 use lictor_core::fuse::TickInput;
 use lictor_core::outcome::Outcome;
-use lictor_fuse::tick::Ticked;
+use lictor_fuse::Ticked;
 
 // One tick by value, through the lent one: the two agree.
 pub fn once(

@@ -2,3 +2,4 @@
 // Every pattern of their bytes has a meaning.
 pub mod input; // what a tick is given
 pub mod verdict; // what a tick gives
+pub mod state;

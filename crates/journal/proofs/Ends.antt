@@ -7,20 +7,20 @@ use native.Mathlib.Omega.{arith}
 use native.Mathlib.Numerals.{add-one}
 use lib.ListN.{length, take, drop, length-drop, take-append-drop}
 use lib.Seq.{drop-cons}
-use Rattle.bytes_le.specs.Little.{byteAt}
-use Rattle.lictor_decide.specs.declared.Decided.{Decided}
-use Rattle.judge.specs.declared.Refusal.{Refusal}
-use Rattle.judge.specs.declared.Refusal.the-variants.{CutBody}
-use Rattle.judge.specs.declared.Judged.{Judged}
-use Rattle.judge.specs.declared.Judged.the-variants.{Accepted, Refused}
-use Rattle.judge.specs.Table.{isCut}
-use Rattle.judge.proofs.Exactly.{numbers, cut-only}
-use Rattle.reader.specs.Stream.{Next, wait, halt, go, tell, End, waiting, halted, Settled, telling, settled}
-use Rattle.waiting.specs.State.{State}
-use Rattle.reader.specs.Reading.{Instruction, begin, restart, tick, nextOf}
-use Rattle.reader.proofs.Stream.{joined, settled-wait, settled-halt, settled-still, Front, front}
-use Rattle.reader.proofs.Reading.{next-refused, halted-judged, waiting-judged}
-use Rattle.journal_tick.specs.Tick.{Whole}
+use Rattle.journal_records.specs.Little.{byteAt}
+use Rattle.lictor_fuse.specs.declared.decide.Decided.{Decided}
+use Rattle.journal_refusals.specs.declared.Refusal.{Refusal}
+use Rattle.journal_refusals.specs.declared.Refusal.the-variants.{CutBody}
+use Rattle.journal_refusals.specs.declared.Judged.{Judged}
+use Rattle.journal_refusals.specs.declared.Judged.the-variants.{Accepted, Refused}
+use Rattle.journal_refusals.specs.Table.{isCut}
+use Rattle.journal_refusals.proofs.Exactly.{numbers, cut-only}
+use Rattle.journal_reader.specs.Stream.{Next, wait, halt, go, tell, End, waiting, halted, Settled, telling, settled}
+use Rattle.journal_reader.specs.State.{State}
+use Rattle.journal_reader.specs.Reading.{Instruction, begin, restart, tick, nextOf}
+use Rattle.journal_reader.proofs.Stream.{joined, settled-wait, settled-halt, settled-still, Front, front}
+use Rattle.journal_reader.proofs.Reading.{next-refused, halted-judged, waiting-judged}
+use Rattle.journal.specs.Tick.{Whole}
 use Rattle.journal.specs.Journal.{obey, obeyed, replayOf, startWhole, Ending, ended, refused, Meaning, endingOf, journalOf}
 use Rattle.journal.specs.Ends.{judgedAt, TurnedAway, LeftAsBefore, Ends, with-end, with-refusal}
 use Rattle.journal.proofs.Replay.{replay-is, replay}

@@ -6,13 +6,13 @@ use mathlib.Core.Bool.{Bool, true, false}
 use native.Mathlib.Omega.{arith}
 use lib.ListN.{length, take, drop, length-drop}
 use lib.Seq.{drop-drop}
-use Rattle.lictor_decide.specs.declared.Decided.{Decided}
-use Rattle.judge.specs.declared.Refusal.{Refusal}
-use Rattle.reader.specs.Stream.{Next, wait, halt, go, tell, Advanced, past, advance, advanced, takes, size, Machine}
-use Rattle.waiting.specs.State.{State}
-use Rattle.reader.specs.Reading.{Instruction, begin, restart, tick, nextOf}
-use Rattle.reader.proofs.Reading.{machine}
-use Rattle.journal_tick.specs.Tick.{Whole}
+use Rattle.lictor_fuse.specs.declared.decide.Decided.{Decided}
+use Rattle.journal_refusals.specs.declared.Refusal.{Refusal}
+use Rattle.journal_reader.specs.Stream.{Next, wait, halt, go, tell, Advanced, past, advance, advanced, takes, size, Machine}
+use Rattle.journal_reader.specs.State.{State}
+use Rattle.journal_reader.specs.Reading.{Instruction, begin, restart, tick, nextOf}
+use Rattle.journal_reader.proofs.Reading.{machine}
+use Rattle.journal.specs.Tick.{Whole}
 use Rattle.journal.specs.Journal.{obey, obeyed, replayOf}
 
 -- the journal takes what the reader takes

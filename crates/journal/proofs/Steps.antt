@@ -9,27 +9,27 @@ use lib.Seq.{take-all, drop-drop, getD-drop}
 use lib.Ieee.{Float}
 use denote.Enum.Declared.{tagOf}
 use types.Run.{OneOf, miss}
-use Rattle.bytes_le.specs.Little.{byteAt}
+use Rattle.journal_records.specs.Little.{byteAt}
 use Rattle.lictor_core.specs.declared.fuse.TickInput.{TickInput}
-use Rattle.lictor_decide.specs.declared.Decided.{Decided}
-use Rattle.records.specs.Kinds.{journalKinds, bodyLen}
-use Rattle.long_records.specs.Long.{settingsOf}
-use Rattle.judge.specs.declared.Refusal.{Refusal}
-use Rattle.waiting.specs.declared.Reader.{Reader}
-use Rattle.reader.specs.declared.Progress.{Progress}
-use Rattle.reader.specs.declared.What.{What}
-use Rattle.reader.specs.declared.What.the-variants as W
-use Rattle.reader.proofs.What as K
-use Rattle.reader.specs.Stream.{Next, wait, halt, go, tell, Advanced, past, advanced, Reached, goesOn}
-use Rattle.waiting.specs.State.{State}
-use Rattle.reader.specs.Reading.{Instruction, begin, restart, tick, bodyOf, nextOf, whatOf, readOf, listsAfter}
-use Rattle.reader.proofs.Stream.{goes, tells-on, advanced-go, advanced-wait, advanced-halt, advanced-tell, Ahead, ahead, past-none, past-past, reached-one, reached-on}
-use Rattle.reader.proofs.Reading.{machine, begins-is, resets-is}
-use Rattle.journal_tick.specs.declared.Run.{Run}
+use Rattle.lictor_fuse.specs.declared.decide.Decided.{Decided}
+use Rattle.journal_records.specs.Kinds.{journalKinds, bodyLen}
+use Rattle.journal_records.specs.Long.{settingsOf}
+use Rattle.journal_refusals.specs.declared.Refusal.{Refusal}
+use Rattle.journal_reader.specs.declared.waiting.Reader.{Reader}
+use Rattle.journal_reader.specs.declared.Progress.{Progress}
+use Rattle.journal_reader.specs.declared.What.{What}
+use Rattle.journal_reader.specs.declared.What.the-variants as W
+use Rattle.journal_reader.proofs.What as K
+use Rattle.journal_reader.specs.Stream.{Next, wait, halt, go, tell, Advanced, past, advanced, Reached, goesOn}
+use Rattle.journal_reader.specs.State.{State}
+use Rattle.journal_reader.specs.Reading.{Instruction, begin, restart, tick, bodyOf, nextOf, whatOf, readOf, listsAfter}
+use Rattle.journal_reader.proofs.Stream.{goes, tells-on, advanced-go, advanced-wait, advanced-halt, advanced-tell, Ahead, ahead, past-none, past-past, reached-one, reached-on}
+use Rattle.journal_reader.proofs.Reading.{machine, begins-is, resets-is}
+use Rattle.journal.specs.declared.tick.Run.{Run}
 use Rattle.journal.specs.declared.How.{How}
 use Rattle.journal.specs.declared.How.the-variants.{Waits, Refuses, Ticks}
 use Rattle.journal.specs.declared.Step.{Step}
-use Rattle.journal_tick.specs.Tick.{Whole, wholeOf}
+use Rattle.journal.specs.Tick.{Whole, wholeOf}
 use Rattle.journal.specs.Journal.{obey, obeyed, replayOf, howOf, begunAt, resetAt, howBy, Stepped}
 use Rattle.journal.proofs.Replay.{replay-is, replay}
 

@@ -3,13 +3,13 @@ use mathlib.Core.List.{List}
 use mathlib.Core.Path.{_≡_}
 use Prim.Native.Nat.{ℕ, _+_, _≤_, _<_}
 use lib.ListN.{length, take, drop}
-use Rattle.bytes_le.specs.Little.{byteAt}
-use Rattle.records.specs.Kinds.{journalKinds, bodyLen}
-use Rattle.judge.specs.declared.Refusal.{Refusal}
-use Rattle.judge.specs.declared.Judged.the-variants.{Accepted, Refused}
-use Rattle.judge.specs.Table.{numberOf, judgedOf}
-use Rattle.judge.specs.declared.Judged.{Judged}
-use Rattle.journal_tick.specs.Tick.{Whole}
+use Rattle.journal_records.specs.Little.{byteAt}
+use Rattle.journal_records.specs.Kinds.{journalKinds, bodyLen}
+use Rattle.journal_refusals.specs.declared.Refusal.{Refusal}
+use Rattle.journal_refusals.specs.declared.Judged.the-variants.{Accepted, Refused}
+use Rattle.journal_refusals.specs.Table.{numberOf, judgedOf}
+use Rattle.journal_refusals.specs.declared.Judged.{Judged}
+use Rattle.journal.specs.Tick.{Whole}
 use Rattle.journal.specs.Journal.{ended, refused, journalOf}
 
 -- what the table says of the record whose kind byte stands at place p, for a reader that is left so

@@ -8,26 +8,26 @@ use lib.ListN.{length, take, drop}
 use Rattle.lictor_core.specs.declared.envelope.Settings.{Settings}
 use Rattle.lictor_core.specs.Initial.{zeros, newOf, resetOf}
 use Rattle.lictor_settings.specs.Settings.{configOf}
-use Rattle.lictor_decide.specs.declared.Decided.{Decided}
-use Rattle.bytes_le.specs.Little.{byteAt}
-use Rattle.records.specs.Kinds.{journalKinds, bodyLen}
-use Rattle.long_records.specs.Long.{settingsOf}
-use Rattle.judge.specs.declared.Refusal.{Refusal}
-use Rattle.judge.specs.declared.Refusal.the-variants.{CutBody}
-use Rattle.reader.specs.Stream.{Next, wait, halt, go, tell, End, waiting, halted, settled, advanced, Reached, goesOn}
-use Rattle.waiting.specs.declared.Reader.{Reader}
-use Rattle.reader.specs.declared.What.{What}
-use Rattle.reader.specs.declared.What.the-variants as W
-use Rattle.waiting.specs.State.{State, settingsCame, emptied, startReader}
-use Rattle.reader.specs.Reading.{Instruction, begin, restart, tick, nextOf}
-use Rattle.journal_tick.specs.declared.Run.{Run}
-use Rattle.journal_tick.specs.Tick.{decidedOf, tickedOf, Whole, wholeOf}
+use Rattle.lictor_fuse.specs.declared.decide.Decided.{Decided}
+use Rattle.journal_records.specs.Little.{byteAt}
+use Rattle.journal_records.specs.Kinds.{journalKinds, bodyLen}
+use Rattle.journal_records.specs.Long.{settingsOf}
+use Rattle.journal_refusals.specs.declared.Refusal.{Refusal}
+use Rattle.journal_refusals.specs.declared.Refusal.the-variants.{CutBody}
+use Rattle.journal_reader.specs.Stream.{Next, wait, halt, go, tell, End, waiting, halted, settled, advanced, Reached, goesOn}
+use Rattle.journal_reader.specs.declared.waiting.Reader.{Reader}
+use Rattle.journal_reader.specs.declared.What.{What}
+use Rattle.journal_reader.specs.declared.What.the-variants as W
+use Rattle.journal_reader.specs.State.{State, settingsCame, emptied, startReader}
+use Rattle.journal_reader.specs.Reading.{Instruction, begin, restart, tick, nextOf}
+use Rattle.journal.specs.declared.tick.Run.{Run}
+use Rattle.journal.specs.Tick.{decidedOf, tickedOf, Whole, wholeOf}
 use Rattle.journal.specs.declared.How.{How}
 use Rattle.journal.specs.declared.How.the-variants.{Waits, Refuses, Ticks}
 use Rattle.journal.specs.declared.Advanced.{Advanced}
 use Rattle.journal.specs.declared.Step.{Step}
 
--- ---- what an instruction does; a tick: journal_tick specs/Tick
+-- ---- what an instruction does; a tick: journal specs/Tick
 
 -- settings give the run state of `new`
 unfoldable pub begunOf : Settings → Run

@@ -1,17 +1,19 @@
-// A journal on the fuse, from tick to tick: its settings and resets, one after the other, from bytes that come in parts of any sizes. A tick itself: journal_tick.
+// A journal on the fuse, from tick to tick: its settings and resets, one after the other, from bytes that come in parts of any sizes. A tick itself: journal::tick.
+pub mod tick;
+
 ghost use mathlib.Core.Path.{_≡_};
 ghost use Prim.Native.Nat.{_+_, _<_, _≤_};
 ghost use lib.ListN.{length};
-ghost use Rattle.bytes_le.specs.Little.{byteAt};
-ghost use Rattle.records.specs.Kinds.{journalKinds, bodyLen};
-ghost use Rattle.journal_tick.specs.Tick.{wholeOf};
+ghost use Rattle.journal_records.specs.Little.{byteAt};
+ghost use Rattle.journal_records.specs.Kinds.{journalKinds, bodyLen};
+ghost use Rattle.journal.specs.Tick.{wholeOf};
 ghost use Rattle.journal.specs.Journal.{begunOf, restartedOf, startRun, advancedOf, listsAfter, begunAt, resetAt, howBy, Stepped};
-use journal_tick::Run;
-use judge::Refusal;
+use crate::tick::Run;
+use journal_reader::What;
+use journal_reader::waiting::Reader;
+use journal_refusals::Refusal;
 use lictor_core::envelope::Settings;
 use lictor_core::fuse::TickInput;
-use reader::What;
-use waiting::Reader;
 
 // What a journal comes to: the end of the bytes, a refusal, or a tick.
 pub enum How {
@@ -34,7 +36,7 @@ fn begin(s: Settings) -> Run
     ensures { λ r. ⌜ r ≡ begunOf s ⌝ }
 {
     let config = lictor_settings::config(s);
-    let rt = lictor_episode::new();
+    let rt = lictor_fuse::episode::new();
     Run { config, rt }
 }
 
@@ -43,7 +45,7 @@ fn restart(run: Run) -> Run
 {
     let config = run.config;
     let old = run.rt;
-    let rt = lictor_episode::reset(old);
+    let rt = lictor_fuse::episode::reset(old);
     Run { config, rt }
 }
 
@@ -64,10 +66,10 @@ fn begin_at(rd: Reader, s: &[u8], at: usize) -> Step
 {
     let k = s[at];
     let a = at + 1;
-    let e = a + records::body_len(k);
-    let settings = long_records::read_settings(&s[a..e]);
+    let e = a + journal_records::body_len(k);
+    let settings = journal_records::long::read_settings(&s[a..e]);
     Step {
-        reader: waiting::begun(rd),
+        reader: journal_reader::waiting::begun(rd),
         run: begin(settings),
         at: e,
         how: How::Waits,
@@ -82,9 +84,9 @@ fn reset_at(rd: Reader, run: Run, s: &[u8], at: usize) -> Step
 {
     let k = s[at];
     let a = at + 1;
-    let e = a + records::body_len(k);
+    let e = a + journal_records::body_len(k);
     Step {
-        reader: waiting::emptied(rd),
+        reader: journal_reader::waiting::emptied(rd),
         run: restart(run),
         at: e,
         how: How::Waits,
@@ -108,7 +110,7 @@ fn take_step(rd: Reader, run: Run, lists: &mut [f64; 576], s: &[u8], at: usize) 
     requires { ⌜ at ≤ length (now s) ⌝ }
     ensures { λ r. ⌜ Stepped (wholeOf rd run (now (lists .entry))) (now (s .entry)) at r (now (lists .exit)) ⌝ }
 {
-    let p = reader::read(rd, lists, &s[at..]);
+    let p = journal_reader::read(rd, lists, &s[at..]);
     let q = p.reader;
     let i = at + p.used;
     let what = p.what;
@@ -129,7 +131,7 @@ fn take_step(rd: Reader, run: Run, lists: &mut [f64; 576], s: &[u8], at: usize) 
 pub fn start() -> Run
     ensures { λ r. ⌜ r ≡ startRun ⌝ }
 {
-    begin(long_records::read_settings(b""))
+    begin(journal_records::long::read_settings(b""))
 }
 
 // Takes all records up to the next tick, to one that is turned away or to one that is not there whole, and says which comes there.

@@ -4,7 +4,7 @@ use mathlib.Core.List.{List, [], _∷_, _++_, map, append-assoc}
 use Prim.Native.Nat.{ℕ}
 use native.Mathlib.Omega.{arith}
 use Rattle.lictor_core.specs.declared.envelope.Settings.{Settings}
-use Rattle.reader.specs.Reading.{Call, Instruction, begin, restart, tick}
+use Rattle.journal_reader.specs.Reading.{Call, Instruction, begin, restart, tick}
 use Rattle.journal_claims.specs.JournalStops.{Opens, EndsWith}
 
 -- one tick more

@@ -3,13 +3,13 @@ use mathlib.Core.Path.{_≡_, refl}
 use mathlib.Core.List.{List}
 use Prim.Native.Nat.{ℕ, zero, suc}
 use lib.ListN.{drop}
-use Rattle.lictor_decide.specs.declared.Decided.{Decided}
-use Rattle.judge.specs.declared.Refusal.{Refusal}
-use Rattle.reader.specs.Stream.{Next, wait, halt, go, tell, Settled, after, settle, settled}
-use Rattle.waiting.specs.State.{State}
-use Rattle.reader.specs.Reading.{Instruction, begin, restart, tick, nextOf}
-use Rattle.journal_tick.specs.declared.Run.{Run}
-use Rattle.journal_tick.specs.Tick.{decidedOf, tickedOf, Whole}
+use Rattle.lictor_fuse.specs.declared.decide.Decided.{Decided}
+use Rattle.journal_refusals.specs.declared.Refusal.{Refusal}
+use Rattle.journal_reader.specs.Stream.{Next, wait, halt, go, tell, Settled, after, settle, settled}
+use Rattle.journal_reader.specs.State.{State}
+use Rattle.journal_reader.specs.Reading.{Instruction, begin, restart, tick, nextOf}
+use Rattle.journal.specs.declared.tick.Run.{Run}
+use Rattle.journal.specs.Tick.{decidedOf, tickedOf, Whole}
 use Rattle.journal.specs.Journal.{begunOf, restartedOf, obey, obeyed, replayOf, startRun, startWhole, journalOf}
 use Rattle.journal_claims.specs.Instructions.{instructionsOf, leftBy, played}
 

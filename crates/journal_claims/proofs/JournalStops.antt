@@ -10,7 +10,7 @@ use Rattle.lictor_core.specs.declared.fuse.FuseRt.{FuseRt}
 use Rattle.lictor_settings.specs.declared.SettingsCheck.the-variants.{Accepted}
 use Rattle.lictor_core.specs.Initial.{freshControl, newOf}
 use Rattle.lictor_settings.specs.Settings.{checkOf, configOf}
-use Rattle.lictor_decide.specs.declared.Decided.{Decided}
+use Rattle.lictor_fuse.specs.declared.decide.Decided.{Decided}
 use Rattle.lictor_fuse.specs.Tick.{givenOf}
 use Rattle.claims.specs.Runs.{All, Step, andThen}
 use Rattle.claims.specs.Calls as C
@@ -18,9 +18,9 @@ use Rattle.claims.specs.Calls.{Under, accepted, ticksFrom}
 use Rattle.claims.specs.Demand3.{Sized, Demand3}
 use Rattle.claims.proofs.Tick.{by-step}
 use Rattle.claims.proofs.Demand3.{stops-from, faults-from, rearms-from, acks-from, stops-close}
-use Rattle.reader.specs.Reading.{Call, Instruction, begin, restart, tick}
-use Rattle.journal_tick.specs.declared.Run.{Run}
-use Rattle.journal_tick.specs.Tick.{decidedOf, tickedOf}
+use Rattle.journal_reader.specs.Reading.{Call, Instruction, begin, restart, tick}
+use Rattle.journal.specs.declared.tick.Run.{Run}
+use Rattle.journal.specs.Tick.{decidedOf, tickedOf}
 use Rattle.journal.specs.Journal.{begunOf, restartedOf, startRun}
 use Rattle.journal_claims.specs.Instructions.{instructionsOf, leaves, leftBy, verdictsOf, played}
 use Rattle.journal_claims.specs.JournalStops.{NoSettings, SettledBy, Episode, Opens, In, opened, callUnder, callsOf, answerIn, answersFrom, EpisodeStops, EndsWith, StopsIn, with-settings, without, JournalStops}

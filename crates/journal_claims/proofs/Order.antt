@@ -11,24 +11,24 @@ use Rattle.lictor_settings.specs.declared.SettingsCheck.the-variants as K
 use Rattle.lictor_settings.specs.Settings.{settingsTable, firstRow, checkOf}
 use Rattle.claims.specs.Runs.{All}
 use Rattle.claims.specs.Demand3.{Sized}
-use Rattle.bytes_le.specs.Little.{byteAt, floatAt}
-use Rattle.bytes_le.proofs.Laws.{leAt-under}
-use Rattle.records.specs.declared.Record.the-variants.{Settings, Reset, Ack, Head, Value, Outcome, Tick}
-use Rattle.records.specs.Kinds.{journalKinds, bodyLen, settingsKind, resetKind, ackKind, headKind, valueKind, outcomeKind}
-use Rattle.long_records.specs.Long.{limitsOf, settingsOf}
-use Rattle.records.specs.Body.{ackOf, headOf, tickNumbers, recordOf}
-use Rattle.judge.specs.declared.Refusal.{Refusal}
-use Rattle.judge.specs.declared.Seen.{Seen}
-use Rattle.judge.specs.declared.Judged.{Judged}
-use Rattle.judge.specs.declared.Judged.the-variants.{Accepted, Refused}
-use Rattle.judge.specs.Causes.{beforeSettings, again, codeNotListed, sizeOutside, floatNotFinite, boxCrossed}
-use Rattle.judge.specs.Table.{isCut, refusalTable, judgedOf}
-use Rattle.judge.specs.Exactly.{Passes, not-this-row}
-use Rattle.judge.proofs.Exactly.{accepted-so}
-use Rattle.reader.specs.Stream.{Next, wait, halt, go, tell, after, settle, settled}
-use Rattle.waiting.specs.State.{State, ackWaits, headWaits, valueWaits, outcomeWaits, settingsCame, emptied, startReader}
-use Rattle.reader.specs.Reading.{Instruction, begin, restart, tick, onRecord, nextOf}
-use Rattle.reader.proofs.Reading.{machine, next-refused, next-accepted}
+use Rattle.journal_records.specs.Little.{byteAt, floatAt}
+use Rattle.journal_records.proofs.Laws.{leAt-under}
+use Rattle.journal_records.specs.declared.Record.the-variants.{Settings, Reset, Ack, Head, Value, Outcome, Tick}
+use Rattle.journal_records.specs.Kinds.{journalKinds, bodyLen, settingsKind, resetKind, ackKind, headKind, valueKind, outcomeKind}
+use Rattle.journal_records.specs.Long.{limitsOf, settingsOf}
+use Rattle.journal_records.specs.Body.{ackOf, headOf, tickNumbers, recordOf}
+use Rattle.journal_refusals.specs.declared.Refusal.{Refusal}
+use Rattle.journal_refusals.specs.declared.Seen.{Seen}
+use Rattle.journal_refusals.specs.declared.Judged.{Judged}
+use Rattle.journal_refusals.specs.declared.Judged.the-variants.{Accepted, Refused}
+use Rattle.journal_refusals.specs.Causes.{beforeSettings, again, codeNotListed, sizeOutside, floatNotFinite, boxCrossed}
+use Rattle.journal_refusals.specs.Table.{isCut, refusalTable, judgedOf}
+use Rattle.journal_refusals.specs.Exactly.{Passes, not-this-row}
+use Rattle.journal_refusals.proofs.Exactly.{accepted-so}
+use Rattle.journal_reader.specs.Stream.{Next, wait, halt, go, tell, after, settle, settled}
+use Rattle.journal_reader.specs.State.{State, ackWaits, headWaits, valueWaits, outcomeWaits, settingsCame, emptied, startReader}
+use Rattle.journal_reader.specs.Reading.{Instruction, begin, restart, tick, onRecord, nextOf}
+use Rattle.journal_reader.proofs.Reading.{machine, next-refused, next-accepted}
 use Rattle.journal.specs.Journal.{startWhole}
 use Rattle.journal_claims.specs.Instructions.{instructionsOf}
 use Rattle.journal_claims.specs.JournalStops.{Bytes, NoSettings, SettledBy}

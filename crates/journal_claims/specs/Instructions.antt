@@ -3,14 +3,14 @@
 -- The instructions are those of 01-scope.md, Journal: settings, reset and tick.
 use mathlib.Core.List.{List, [], _∷_, _++_}
 use Prim.Native.Nat.{ℕ}
-use Rattle.lictor_decide.specs.declared.Decided.{Decided}
-use Rattle.reader.specs.Stream.{settled}
-use Rattle.reader.specs.Reading.{Instruction, begin, restart, tick, nextOf}
-use Rattle.journal_tick.specs.declared.Run.{Run}
-use Rattle.journal_tick.specs.Tick.{decidedOf, tickedOf}
+use Rattle.lictor_fuse.specs.declared.decide.Decided.{Decided}
+use Rattle.journal_reader.specs.Stream.{settled}
+use Rattle.journal_reader.specs.Reading.{Instruction, begin, restart, tick, nextOf}
+use Rattle.journal.specs.declared.tick.Run.{Run}
+use Rattle.journal.specs.Tick.{decidedOf, tickedOf}
 use Rattle.journal.specs.Journal.{begunOf, restartedOf, startWhole}
 
--- The instructions of a journal up to its end, or up to the record that is turned away. The run state has no part in them (reader, specs/Reading).
+-- The instructions of a journal up to its end, or up to the record that is turned away. The run state has no part in them (journal_reader, specs/Reading).
 unfoldable pub instructionsOf : List ℕ → List Instruction
 instructionsOf s = settled nextOf (startWhole .state) s .told
 

@@ -9,14 +9,14 @@ use Rattle.lictor_core.specs.declared.envelope.Settings.{Settings}
 use Rattle.lictor_core.specs.declared.fuse.FuseRt.{FuseRt}
 use Rattle.lictor_settings.specs.declared.SettingsCheck.the-variants.{Accepted}
 use Rattle.lictor_settings.specs.Settings.{checkOf}
-use Rattle.lictor_decide.specs.declared.Decided.{Decided}
-use Rattle.lictor_fuse.specs.declared.tick.Ticked.{Ticked}
+use Rattle.lictor_fuse.specs.declared.decide.Decided.{Decided}
+use Rattle.lictor_fuse.specs.declared.Ticked.{Ticked}
 use Rattle.claims.specs.Runs.{All, trace}
 use Rattle.claims.specs.Calls as C
 use Rattle.claims.specs.Calls.{stepOf, ticksFrom}
 use Rattle.claims.specs.Demand3.{Sized, Demand3}
-use Rattle.reader.specs.Reading.{Call, Instruction, begin, restart, tick}
-use Rattle.journal_tick.specs.declared.Run.{Run}
+use Rattle.journal_reader.specs.Reading.{Call, Instruction, begin, restart, tick}
+use Rattle.journal.specs.declared.tick.Run.{Run}
 use Rattle.journal.specs.Journal.{startRun, journalOf}
 use Rattle.journal_claims.specs.Instructions.{instructionsOf, leaves, leftBy, played}
 

@@ -1,9 +1,13 @@
 // The escalation state machine (fsm.rs). `next` does what the table of lictor_table says; every row of fsm.rs is under its own number, with every
-// change of a counter: rows 4 to 8, of Escalated, in the crate lictor_escalated, rows 9 to 13, of Held, in lictor_held, rows 17 to 23, of the running
-// states, in lictor_running, the others here. The run state goes in by value and comes back.
+// change of a counter: rows 4 to 8, of Escalated, in the crate lictor_fsm::escalated, rows 9 to 13, of Held, in lictor_fsm::held, rows 17 to 23, of the running
+// states, in lictor_fsm::running, the others here. The run state goes in by value and comes back.
 //
 // Three kinds of function: tests and numbers over plain values; rows, which change the run state and do not branch; and choices, which test
 // and then hand on, or answer with nothing changed.
+pub mod escalated;
+pub mod held;
+pub mod running;
+
 ghost use mathlib.Core.Path.{_≡_};
 ghost use Prim.Native.Nat.{_≤_};
 ghost use Rattle.lictor_core.specs.declared.state.FuseState.the-variants.{Fault};
@@ -11,6 +15,11 @@ ghost use Rattle.lictor_table.specs.Fields.{withState};
 ghost use Rattle.lictor_table.specs.Helpers.{faultReason, latchedOf, latchHold, countIf, isClean, countRun, to, settledOf};
 ghost use Rattle.lictor_table.specs.Rows.{faultRow, confirmedOf, standstillRow, stoppingRow, brakingOf, byFrom, transitionOf};
 ghost use Rattle.lictor_table.specs.Table.{nextOf};
+use crate::escalated::accepted_ack;
+use crate::escalated::escalated;
+use crate::held::count_clean;
+use crate::held::held;
+use crate::running::running;
 use fmath::clamp;
 use lictor_core::ack::MaybeAck;
 use lictor_core::chunk::MAX_POS;
@@ -24,11 +33,6 @@ use lictor_core::state::FuseState;
 use lictor_core::state::is_state;
 use lictor_core::verdict;
 use lictor_core::verdict::any;
-use lictor_escalated::accepted_ack;
-use lictor_escalated::escalated;
-use lictor_held::count_clean;
-use lictor_held::held;
-use lictor_running::running;
 use lictor_table::FsmInput;
 use lictor_table::Turn;
 

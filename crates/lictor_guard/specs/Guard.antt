@@ -1,5 +1,5 @@
 -- The guard (01-scope.md, One tick; fuse.rs, guard): NONFINITE, SCHEMA and WATCHDOG, all that apply. Each cause of a bit is an operand of one `||`;
--- those that lie in a chunk, or in that there is none, stand in lictor_delivery specs/Delivery.
+-- those that lie in a chunk, or in that there is none, stand in lictor_guard specs/Delivery.
 use mathlib.Core.Bool.{Bool, not, cond, _&&_, _||_}
 use mathlib.Core.List.{List}
 use Prim.Native.Nat.{ℕ, _+_}
@@ -12,7 +12,7 @@ use Rattle.lictor_core.specs.declared.envelope.FuseConfig.{FuseConfig}
 use Rattle.lictor_core.specs.declared.fuse.Clock.{Clock}
 use Rattle.lictor_core.specs.declared.fuse.TickInput.{TickInput}
 use Rattle.lictor_core.specs.Masks as M
-use Rattle.lictor_delivery.specs.Delivery.{deliveredOf, deliveryBad}
+use Rattle.lictor_guard.specs.Delivery.{deliveredOf, deliveryBad}
 use Rattle.lictor_guard.specs.declared.Lengths.{Lengths}
 
 -- NONFINITE: a value of pos, of a supplied velocity, of aux, of ext or of a delivered chunk is not finite, whatever the list's length

@@ -14,7 +14,7 @@ use Rattle.lictor_core.specs.declared.outcome.Outcome.{Outcome}
 use Rattle.lictor_core.specs.Codes.{isObserve, isProject}
 use Rattle.lictor_core.specs.Masks as M
 use Rattle.lictor_detect.specs.Window.{pushOf, hitsOf, tripOf}
-use Rattle.lictor_delivery.specs.Delivery.{deliveredOf}
+use Rattle.lictor_guard.specs.Delivery.{deliveredOf}
 use Rattle.lictor_table.specs.declared.FsmInput.{FsmInput}
 use Rattle.lictor_core.specs.declared.scores.Scores.{Scores}
 use Rattle.lictor_stages.specs.declared.judge.Findings.{Findings}

@@ -11,10 +11,10 @@ use lictor_core::scores::Scores;
 use lictor_core::state::is_observe;
 use lictor_core::verdict::BRAKE;
 use lictor_core::verdict::TIER0_HARD;
-use lictor_delivery::delivered;
 use lictor_detect::conformal::trip;
 use lictor_detect::window::hits;
 use lictor_detect::window::push;
+use lictor_guard::delivery::delivered;
 use lictor_table::FsmInput;
 
 // What the scores say.

@@ -18,8 +18,8 @@ use Rattle.lictor_core.specs.declared.tally.ReasonMark.the-variants.{NoReason, 
 use Rattle.lictor_core.specs.declared.tally.Tally.{Tally}
 use Rattle.lictor_tally.specs.Tally.{count, countBit, countBits, first, firstReason, mostAt, mostLive, recordOf, recordChunk, withChunks}
 use Rattle.lictor_tally.specs.History.{Item, recorded, tallyFrom, tallyOf, Count, ticks, nominal, watching, clamped, braking, held, escalated, fault, terminated, substituted, violations, chunksSeen, chunksRejected, clamps, holds, rearms, escalations, tripsByBit, firedByFeat, valueOf, counts, number, overStates, trips, stops, handsOver, sOf, live, zOf, firstOf, firstReasonOf, mostOf, lastOf, OfHistory}
-use Rattle.lictor_counts.proofs.Places.{length-each}
-use Rattle.lictor_counts.proofs.Laws.{count-fits, bits-at, most-at}
+use Rattle.lictor_tally.proofs.Places.{length-each}
+use Rattle.lictor_tally.proofs.CountsLaws.{count-fits, bits-at, most-at}
 
 -- ---- one tick
 

@@ -1,22 +1,24 @@
-// The counts of an episode (tally.rs): an empty tally, and what a chunk and a tick make of one. The types stand in lictor_core, the rules of the fields in lictor_counts.
+// The counts of an episode (tally.rs): an empty tally, and what a chunk and a tick make of one. The types stand in lictor_core, the rules of the fields in lictor_tally::counts.
+pub mod counts;
+
 ghost use mathlib.Core.Path.{_≡_};
 ghost use Rattle.lictor_core.specs.Initial.{emptyTally};
 ghost use Rattle.lictor_tally.specs.Tally.{recordOf, recordChunk};
+use crate::counts::count_fired;
+use crate::counts::count_if;
+use crate::counts::count_in;
+use crate::counts::count_nominal;
+use crate::counts::count_trips;
+use crate::counts::first_at;
+use crate::counts::first_reason;
+use crate::counts::first_stop;
+use crate::counts::most_live;
 use lictor_core::num::sat_u32;
 use lictor_core::state::FuseState;
 use lictor_core::tally::Mark;
 use lictor_core::tally::ReasonMark;
 use lictor_core::tally::Tally;
 use lictor_core::verdict::SafetyVerdict;
-use lictor_counts::count_fired;
-use lictor_counts::count_if;
-use lictor_counts::count_in;
-use lictor_counts::count_nominal;
-use lictor_counts::count_trips;
-use lictor_counts::first_at;
-use lictor_counts::first_reason;
-use lictor_counts::first_stop;
-use lictor_counts::most_live;
 
 // What the state machine did in a tick beyond what its verdict shows.
 pub struct TickEvents {

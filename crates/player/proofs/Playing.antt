@@ -8,11 +8,11 @@ use lib.ListN.{length, drop, length-drop}
 use lib.Seq.{drop-drop}
 use lib.Dec.{leb}
 use borrow.Author.Tests.{leb-true, leb-false, le-leb, lt-leb}
-use Rattle.lictor_decide.specs.declared.Decided.{Decided}
-use Rattle.judge.specs.declared.Refusal.{Refusal}
-use Rattle.reader.specs.Stream.{Next, wait, halt, go, tell, settled, advanced, takes, size}
-use Rattle.reader.proofs.Stream.{goes, settled-go, advanced-go, advanced-wait, advanced-halt, advanced-tell}
-use Rattle.journal_tick.specs.Tick.{Whole}
+use Rattle.lictor_fuse.specs.declared.decide.Decided.{Decided}
+use Rattle.journal_refusals.specs.declared.Refusal.{Refusal}
+use Rattle.journal_reader.specs.Stream.{Next, wait, halt, go, tell, settled, advanced, takes, size}
+use Rattle.journal_reader.proofs.Stream.{goes, settled-go, advanced-go, advanced-wait, advanced-halt, advanced-tell}
+use Rattle.journal.specs.Tick.{Whole}
 use Rattle.journal.specs.Journal.{replayOf}
 use Rattle.journal.proofs.Replay.{replay}
 use Rattle.player.specs.Play.{tickRoom, Playing, full, played, playOf}

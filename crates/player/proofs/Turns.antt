@@ -9,26 +9,26 @@ use lib.Seq.{drop-drop, getD-drop, take-length}
 use lib.Dec.{leb}
 use lib.Ieee.{Float}
 use borrow.Author.Tests.{leb-true, leb-false}
-use Rattle.bytes_le.specs.Little.{byteAt}
+use Rattle.journal_records.specs.Little.{byteAt}
 use Rattle.lictor_core.specs.declared.fuse.TickInput.{TickInput}
-use Rattle.lictor_decide.specs.declared.Decided.{Decided}
-use Rattle.records.specs.Kinds.{journalKinds, bodyLen}
-use Rattle.judge.specs.declared.Refusal.{Refusal}
-use Rattle.judge.specs.Table.{numberOf}
-use Rattle.reader.specs.declared.What.the-variants as W
-use Rattle.reader.specs.Stream.{Next, wait, halt, go, tell, waiting, halted, Settled, telling, settled, Advanced, advanced, goesOn}
-use Rattle.waiting.specs.State.{State, emptied}
-use Rattle.reader.specs.Reading.{Instruction, begin, restart, tick, callOf, withReader, nextOf, whatOf}
-use Rattle.reader.proofs.Stream.{Ahead, ahead, settled-wait, settled-halt, settled-tell, tells-on, telling-telling}
-use Rattle.reader.proofs.Reading.{ticks-is}
+use Rattle.lictor_fuse.specs.declared.decide.Decided.{Decided}
+use Rattle.journal_records.specs.Kinds.{journalKinds, bodyLen}
+use Rattle.journal_refusals.specs.declared.Refusal.{Refusal}
+use Rattle.journal_refusals.specs.Table.{numberOf}
+use Rattle.journal_reader.specs.declared.What.the-variants as W
+use Rattle.journal_reader.specs.Stream.{Next, wait, halt, go, tell, waiting, halted, Settled, telling, settled, Advanced, advanced, goesOn}
+use Rattle.journal_reader.specs.State.{State, emptied}
+use Rattle.journal_reader.specs.Reading.{Instruction, begin, restart, tick, callOf, withReader, nextOf, whatOf}
+use Rattle.journal_reader.proofs.Stream.{Ahead, ahead, settled-wait, settled-halt, settled-tell, tells-on, telling-telling}
+use Rattle.journal_reader.proofs.Reading.{ticks-is}
 use Rattle.journal.specs.declared.How.the-variants.{Waits, Refuses, Ticks}
 use Rattle.journal.specs.declared.Advanced as J
-use Rattle.journal_tick.specs.Tick.{Whole, wholeOf, decidedOf, tickedOf as after, journalTick}
+use Rattle.journal.specs.Tick.{Whole, wholeOf, decidedOf, tickedOf as after, journalTick}
 use Rattle.journal.specs.Journal.{obey, obeyed, replayOf, howOf, advancedOf, listsAfter}
 use Rattle.journal.proofs.Replay.{replay-is, replay}
 use Rattle.journal.proofs.Steps.{part-from}
-use Rattle.render.specs.Text.{Put, eventText}
-use Rattle.render.proofs.Laws.{put-none, put-on}
+use Rattle.report.specs.Text.{Put, eventText}
+use Rattle.report.proofs.Laws.{put-none, put-on}
 use Rattle.player.specs.declared.Turn.{Turn}
 use Rattle.player.specs.Play.{eventsText, tickRoom, Playing, Stop, refuses, full, played, playOf, fedOf, turnOf, tickedOf, playingOf, Stopped, Turned, goesOnOf, Fed}
 use Rattle.player.proofs.Playing.{play-full, play-room, play-there, onward}

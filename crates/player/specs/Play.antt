@@ -6,14 +6,14 @@ use Prim.Native.Nat.{ℕ, _+_, _-_, _≤_, _<_}
 use lib.Dec.{leb}
 use lib.Ieee.{Float}
 use lib.ListN.{length, drop}
-use Rattle.lictor_decide.specs.declared.Decided.{Decided}
-use Rattle.judge.specs.declared.Refusal.{Refusal}
-use Rattle.judge.specs.Table.{numberOf}
-use Rattle.reader.specs.Stream.{Next, wait, halt, go, tell, End, waiting, halted, Settled, telling, settled}
-use Rattle.journal_tick.specs.declared.Ticked.{Ticked}
-use Rattle.journal_tick.specs.Tick.{Whole, wholeOf}
+use Rattle.lictor_fuse.specs.declared.decide.Decided.{Decided}
+use Rattle.journal_refusals.specs.declared.Refusal.{Refusal}
+use Rattle.journal_refusals.specs.Table.{numberOf}
+use Rattle.journal_reader.specs.Stream.{Next, wait, halt, go, tell, End, waiting, halted, Settled, telling, settled}
+use Rattle.journal.specs.declared.tick.Ticked.{Ticked}
+use Rattle.journal.specs.Tick.{Whole, wholeOf}
 use Rattle.journal.specs.Journal.{replayOf}
-use Rattle.render.specs.Text.{Put, eventText}
+use Rattle.report.specs.Text.{Put, eventText}
 use Rattle.player.specs.declared.Turn.{Turn}
 
 -- ---- the text of its ticks

@@ -3,12 +3,12 @@ ghost use mathlib.Core.Path.{_≡_};
 ghost use mathlib.Core.Bool.{true, false};
 ghost use Prim.Native.Nat.{_+_, _-_, _<_, _≤_};
 ghost use lib.ListN.{length};
-ghost use Rattle.journal_tick.specs.Tick.{wholeOf, journalTick};
+ghost use Rattle.journal.specs.Tick.{wholeOf, journalTick};
 ghost use Rattle.player.specs.Play.{tickRoom, tickedOf, Turned, goesOnOf, Fed};
 use journal::How;
-use journal_tick::Run;
+use journal::tick::Run;
+use journal_reader::waiting::Reader;
 use lictor_core::fuse::TickInput;
-use waiting::Reader;
 
 // ---- from tick to tick
 
@@ -38,12 +38,12 @@ fn play_tick(
     requires { ⌜ n + tickRoom ≤ length (now out) ⌝ }
     ensures { λ r. ⌜ tickedOf code (journalTick (wholeOf rd run (now (lists .entry))) inp) at (now (out .entry)) n r (now (out .exit)) ⌝ }
 {
-    let t = journal_tick::tick(rd, run, lists, inp);
+    let t = journal::tick::tick(rd, run, lists, inp);
     let reader = t.reader;
     let after = t.run;
     let verdict = t.verdict;
     let rt = after.rt;
-    let m = render::tick_text(code, verdict, rt, out, n);
+    let m = report::render::tick_text(code, verdict, rt, out, n);
     Turn {
         reader,
         run: after,
@@ -88,11 +88,11 @@ fn play_turn(
             at: i,
             n,
             ticked: false,
-            refused: judge::number(r),
+            refused: journal_refusals::number(r),
         },
         How::Ticks(inp) => {
             let k = s[i];
-            let e = i + 1 + records::body_len(k);
+            let e = i + 1 + journal_records::body_len(k);
             play_tick(code, reader, after, lists, inp, e, out, n)
         }
     }
@@ -102,10 +102,10 @@ fn play_turn(
 fn goes_on(ticked: bool, n: usize, room: usize) -> bool
     ensures { λ r. ⌜ r ≡ goesOnOf ticked n room ⌝ }
 {
-    if room < render::ROOM {
+    if room < report::render::ROOM {
         return false;
     }
-    if room - render::ROOM < n {
+    if room - report::render::ROOM < n {
         return false;
     }
     ticked

@@ -1,2 +1,106 @@
-// What `fuse` prints.
-pub mod lines;
+// The lines that `fuse` prints.
+pub mod render;
+
+ghost use mathlib.Core.Path.{_≡_};
+ghost use Rattle.text.specs.Line.{lineOf, pushOf};
+ghost use Rattle.report.specs.Lines.{marginText, fieldText, tickText, stoppedOf, endText, refusedText};
+use lictor_core::reason::reason_code;
+use lictor_core::state::state_code;
+use lictor_core::tally::Tally;
+use lictor_core::verdict::SafetyVerdict;
+use lictor_core::verdict::source_code;
+use margin::Margin;
+use margin::margin_of;
+use text::Line;
+use text::empty;
+use text::push;
+use text::push_number;
+use text::push_signed;
+
+fn push_margin(l: Line, m: Margin) -> Line
+    ensures { λ r. ⌜ r ≡ pushOf l (marginText m) ⌝ }
+{
+    match m {
+        Margin::NoMargin => push(l, b"none"),
+        Margin::PlusFar => push(l, b"+far"),
+        Margin::MinusFar => push(l, b"-far"),
+        Margin::Millis(z) => push_signed(l, z),
+    }
+}
+
+// The text of a margin alone.
+pub fn margin_line(m: Margin) -> Line
+    ensures { λ r. ⌜ r ≡ lineOf (marginText m) ⌝ }
+{
+    push_margin(empty(), m)
+}
+
+// A blank and a number.
+fn field(l: Line, x: u64) -> Line
+    ensures { λ r. ⌜ r ≡ pushOf l (fieldText x) ⌝ }
+{
+    push_number(push(l, b" "), x)
+}
+
+fn field32(l: Line, x: u32) -> Line
+    ensures { λ r. ⌜ r ≡ pushOf l (fieldText x) ⌝ }
+{
+    field(l, x as u64)
+}
+
+fn field8(l: Line, x: u8) -> Line
+    ensures { λ r. ⌜ r ≡ pushOf l (fieldText x) ⌝ }
+{
+    field(l, x as u64)
+}
+
+// The line of a tick.
+pub fn tick_line(v: SafetyVerdict) -> Line
+    ensures { λ r. ⌜ r ≡ lineOf (tickText v) ⌝ }
+{
+    let state = v.state;
+    let reason = v.reason;
+    let action_src = v.action_src;
+    let s = state_code(state);
+    let w = reason_code(reason);
+    let src = source_code(action_src);
+    let m = margin_of(v.brake_margin);
+    let a = push(empty(), b"tick");
+    let b = field32(field32(a, v.seq), v.t);
+    let c = field8(field8(b, s), w);
+    let d = field8(field32(c, v.trips), src);
+    let e = push_margin(push(d, b" "), m);
+    push(e, b"\n")
+}
+
+fn wide(x: u32) -> u64
+    ensures { λ r. ⌜ r ≡ x ⌝ }
+{
+    x as u64
+}
+
+// How many ticks ended in one of the five stop states.
+fn stopped_of(t: Tally) -> u64
+    ensures { λ r. ⌜ r ≡ stoppedOf t ⌝ }
+{
+    wide(t.braking) + wide(t.held) + wide(t.escalated) + wide(t.fault) + wide(t.terminated)
+}
+
+// The line at the end of a journal.
+pub fn end_line(t: Tally) -> Line
+    ensures { λ r. ⌜ r ≡ lineOf (endText t) ⌝ }
+{
+    let a = push(empty(), b"end");
+    let b = field(field32(a, t.ticks), stopped_of(t));
+    push(b, b"\n")
+}
+
+// The line of a refusal.
+pub fn refused_line(number: u8, place: u64) -> Line
+    ensures { λ r. ⌜ r ≡ lineOf (refusedText number place) ⌝ }
+{
+    let n = number as u64;
+    let a = push(empty(), b"refused");
+    let b = field(field(a, n), place);
+    push(b, b"\n")
+}

@@ -8,9 +8,9 @@ use Rattle.lictor_core.specs.Initial.{zeros, emptyTally, freshControl, freshMot
 use Rattle.lictor_core.specs.Masks.{anyOf}
 use Rattle.lictor_core.specs.Rows.{rowTo}
 use Rattle.lictor_settings.specs.Settings.{badCode, badSize, badFloat, anyBelow, crossedOf, badBox, settingsTable, firstRow, checkOf, configOf}
-use Rattle.lictor_brake.specs.Brake.{component, boxedComponent, boxedRow, scaledComponent, scaledRow, boxedAction, scaledAction, eps, brakeFactor, brakeAction, holdAction}
+use Rattle.lictor_detect.specs.Brake.{component, boxedComponent, boxedRow, scaledComponent, scaledRow, boxedAction, scaledAction, eps, brakeFactor, brakeAction, holdAction}
 use Rattle.lictor_detect.specs.Window.{bitOf, pushOf, hitsOf, tripOf}
-use Rattle.lictor_delivery.specs.Delivery.{deliveredOf, sizesBad, placeBad, headBad, deliveryBad}
+use Rattle.lictor_guard.specs.Delivery.{deliveredOf, sizesBad, placeBad, headBad, deliveryBad}
 use Rattle.lictor_guard.specs.Guard.{nonFinite, lengthsOf, shapeBad, clockBad, schemaBad, bitIf, guardOf}
 use Rattle.lictor_table.specs.Consumed.{consumedOf}
 use Rattle.lictor_table.specs.Helpers.{faultReason, clampReason, armedReason, acceptedBy, acceptedAck, consumeNonce, latchedOf, latchHold, countIf, upIf, isClean, countRun, settledOf}
@@ -18,11 +18,11 @@ use Rattle.lictor_table.specs.Rows.{faultRow, rearmAck, resumeRow, terminateRow
 use Rattle.lictor_table.specs.Table.{firstOf, table, nextFrom, nextOf}
 use Rattle.lictor_tally.specs.History.{recorded}
 use Rattle.lictor_tally.specs.Tally.{count, bitOf as bitOf·lictor_tally, countBit, eachFrom, countBits, first, firstReason, mostAt, mostLive, recordOf, recordChunk}
-use Rattle.lictor_act.specs.Act.{statusOf, sourceOf, cutRow, passedOf, insteadOf, enforcedOf, byMode, actOf}
-use Rattle.lictor_ingest.specs.Ingest.{takenRow, stepRate, ratesRow, stillRow, velocityOf, ingestOf, isFit, withPos, faultMotion}
+use Rattle.lictor_stages.specs.Act.{statusOf, sourceOf, cutRow, passedOf, insteadOf, enforcedOf, byMode, actOf}
+use Rattle.lictor_stages.specs.Ingest.{takenRow, stepRate, ratesRow, stillRow, velocityOf, ingestOf, isFit, withPos, faultMotion}
 use Rattle.lictor_stages.specs.Judge.{withBrake, maskedOf, warnOf, slowOf, standstillOf, chunkOk, scoredOf, judgeOf, machineInput, faultInput}
-use Rattle.lictor_verdict.specs.Verdict.{liveValid, scoresOf, disarmedScores, actionDim, enteredOf, handoffOf, hasAck, consumedFlag, verdictOf, faultVerdict, eventsOf, noEvents, rejectedOf}
-use Rattle.lictor_decide.specs.Decide.{closedOf, nextChunk, cleanClock, readyOf, chunkTally, closeClean, cleanTick, faultClock, closeFault, faultTick, decideBy, decideOf}
+use Rattle.lictor_stages.specs.Verdict.{liveValid, scoresOf, disarmedScores, actionDim, enteredOf, handoffOf, hasAck, consumedFlag, verdictOf, faultVerdict, eventsOf, noEvents, rejectedOf}
+use Rattle.lictor_fuse.specs.Decide.{closedOf, nextChunk, cleanClock, readyOf, chunkTally, closeClean, cleanTick, faultClock, closeFault, faultTick, decideBy, decideOf}
 use Rattle.lictor_fuse.specs.Tick.{noVerdict, refusedTick, givenOf, acceptedTick, tickBy, tickOf}
 use Rattle.report.specs.Lines.{marginText, tickText, stoppedOf, endText, refusedText}
 use Rattle.margin.specs.Margin.{nearestWhole, marginOf}

@@ -27,7 +27,7 @@ use Rattle.lictor_core.specs.declared.state.FuseState.the-variants.{Armed, Brak
 use Rattle.lictor_core.specs.Codes.{stateCode, reasonCode}
 use Rattle.lictor_core.specs.Initial.{zeroFloat, zeros, newOf, resetOf}
 use Rattle.lictor_table.specs.Helpers.{acceptedBy}
-use Rattle.lictor_fuse.specs.declared.tick.Ticked.{Ticked}
+use Rattle.lictor_fuse.specs.declared.Ticked.{Ticked}
 use Rattle.lictor_fuse.specs.Tick.{tickOf}
 
 -- ---- what the rows are made of

@@ -10,12 +10,12 @@ use Rattle.lictor_core.specs.declared.fuse.FuseRt.{FuseRt}
 use Rattle.lictor_core.specs.declared.fuse.TickInput.{TickInput}
 use Rattle.lictor_core.specs.declared.outcome.Outcome.{Outcome}
 use Rattle.lictor_settings.specs.Settings.{checkOf, checkNumber}
-use Rattle.lictor_fuse.specs.declared.tick.Ticked.{Ticked}
+use Rattle.lictor_fuse.specs.declared.Ticked.{Ticked}
 use Rattle.lictor_fuse.specs.Tick.{tickOf, isAccepted, noVerdict}
-use Rattle.lictor_fuse.proofs.tick.tick as core
-use Rattle.lictor_fuse.proofs.tick.tick.Symbol as core-def
-use Rattle.lictor_fuse.proofs.tick.tick.Symbol.{name as #core}
-use Rattle.lictor_fuse.proofs.tick.tick.Met as core-thm
+use Rattle.lictor_fuse.proofs.tick as core
+use Rattle.lictor_fuse.proofs.tick.Symbol as core-def
+use Rattle.lictor_fuse.proofs.tick.Symbol.{name as #core}
+use Rattle.lictor_fuse.proofs.tick.Met as core-thm
 use Rattle.host.specs.declared.Answer.{Answer}
 use Rattle.host.specs.Host.{answerOf, numberOf}
 use Rattle.lent.proofs.Call.{Fs, answered-meets}
@@ -42,4 +42,4 @@ tick-spec 𝓤 H 𝓜 𝓖 𝓡 =
     entered 𝓤 H (tripleOf 𝓤 H (𝓖 .A) this.signature (this.spec 𝓤 H (𝓖 .A) (𝓜 .mem) (𝓡 .run)))
     (tables 𝓤 H 𝓜 𝓡 code.env .C) (tables 𝓤 H 𝓜 𝓡 code.env .Λ) #this code.function (code.unfolded 𝓤 H 𝓜 𝓡)
     (answered-meets S G I O R Z parts given Says #core 𝓤 H (𝓖 .A) (givenOf 𝓤 H 𝓜 𝓖) said (tablesOf 𝓤 H 𝓜 (tables 𝓤 H 𝓜 𝓡 code.env))
-    (cited 𝓤 H (tripleOf 𝓤 H (𝓖 .A) core.signature (core.spec 𝓤 H (𝓖 .A) (𝓜 .mem) (𝓡 .run))) 𝓜 𝓡 code.env #core core-def.routine code.calls-lictor-fuse·tick·tick (core-thm.met 𝓤 H 𝓜 𝓖 𝓡)))
+    (cited 𝓤 H (tripleOf 𝓤 H (𝓖 .A) core.signature (core.spec 𝓤 H (𝓖 .A) (𝓜 .mem) (𝓡 .run))) 𝓜 𝓡 code.env #core core-def.routine code.calls-lictor-fuse·tick (core-thm.met 𝓤 H 𝓜 𝓖 𝓡)))

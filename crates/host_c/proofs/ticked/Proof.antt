@@ -9,14 +9,14 @@ use denote.Triple.Table.{entered, cited}
 use Rattle.lent.proofs.Call.{Fs, turned-meets}
 use Rattle.host.proofs.Refused.{by-test}
 use Rattle.lictor_settings.specs.Settings.{checkOf}
-use Rattle.lictor_fuse.specs.declared.tick.Ticked.{Ticked}
+use Rattle.lictor_fuse.specs.declared.Ticked.{Ticked}
 use Rattle.lictor_fuse.specs.Tick.{isAccepted, acceptedTick}
 use Rattle.host_layout.specs.Input.{settingsIn, inputIn, outcomeIn}
-use Rattle.host_state.specs.State.{stateIn}
+use Rattle.host_layout.specs.State.{stateIn}
 use Rattle.host_layout.specs.declared.input.Input.{Input}
 use Rattle.host_layout.specs.declared.input.Outcome.{Outcome}
 use Rattle.host_layout.specs.declared.input.Settings.{Settings}
-use Rattle.host_state.specs.declared.RunState.{RunState}
+use Rattle.host_layout.specs.declared.state.RunState.{RunState}
 use Rattle.host_c.specs.declared.Called.{Called}
 use Rattle.host_c.specs.Call.{steppedOf, answerOf}
 use Rattle.host_c.proofs.Refused.{yes, no, all-stored, refused-fields}

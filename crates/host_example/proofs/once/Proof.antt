@@ -11,10 +11,10 @@ use Rattle.lictor_core.specs.declared.fuse.FuseRt.{FuseRt}
 use Rattle.lictor_core.specs.declared.fuse.TickInput.{TickInput}
 use Rattle.lictor_core.specs.declared.outcome.Outcome.{Outcome}
 use Rattle.lictor_settings.specs.Settings.{checkOf, checkNumber}
-use Rattle.lictor_fuse.specs.declared.tick.Ticked.{Ticked}
+use Rattle.lictor_fuse.specs.declared.Ticked.{Ticked}
 use Rattle.lictor_fuse.specs.Tick.{tickOf, isAccepted, noVerdict}
-use Rattle.lictor_fuse.proofs.tick.Ticked as Tk
-use Rattle.lictor_fuse.proofs.tick.Ticked.Laws as Tk′
+use Rattle.lictor_fuse.proofs.Ticked as Tk
+use Rattle.lictor_fuse.proofs.Ticked.Laws as Tk′
 use Rattle.host.specs.declared.Answer.{Answer}
 use Rattle.host.specs.Host.{answerOf, numberOf}
 use Rattle.host.proofs.Answer as An

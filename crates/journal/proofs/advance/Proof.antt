@@ -6,17 +6,17 @@ use mathlib.Core.List.{List}
 use native.Mathlib.Omega.{arith}
 use lib.ListN.{length, drop}
 use lib.Ieee.{Float}
-use Rattle.lictor_decide.specs.declared.Decided.{Decided}
-use Rattle.judge.specs.declared.Refusal.{Refusal}
-use Rattle.waiting.specs.declared.Reader.{Reader}
-use Rattle.reader.specs.Stream.{Advanced, Reached, goesOn}
-use Rattle.reader.specs.Reading.{nextOf}
-use Rattle.reader.proofs.Stream.{reached-none, reached-on, reached-end}
-use Rattle.journal_tick.specs.declared.Run.{Run}
+use Rattle.lictor_fuse.specs.declared.decide.Decided.{Decided}
+use Rattle.journal_refusals.specs.declared.Refusal.{Refusal}
+use Rattle.journal_reader.specs.declared.waiting.Reader.{Reader}
+use Rattle.journal_reader.specs.Stream.{Advanced, Reached, goesOn}
+use Rattle.journal_reader.specs.Reading.{nextOf}
+use Rattle.journal_reader.proofs.Stream.{reached-none, reached-on, reached-end}
+use Rattle.journal.specs.declared.tick.Run.{Run}
 use Rattle.journal.specs.declared.How.the-variants.{Waits}
 use Rattle.journal.specs.declared.Step.{Step}
 use Rattle.journal.specs.declared.Advanced as J
-use Rattle.journal_tick.specs.Tick.{Whole, wholeOf}
+use Rattle.journal.specs.Tick.{Whole, wholeOf}
 use Rattle.journal.specs.Journal.{replayOf, howOf, advancedOf, listsAfter, Stepped}
 use Rattle.journal.proofs.Replay.{replay}
 use Rattle.journal.proofs.Steps.{step-less}

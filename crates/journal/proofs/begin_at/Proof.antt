@@ -4,8 +4,8 @@ use Prim.Native.Nat.{ℕ, _+_, _-_}
 use mathlib.Core.Path.{_≡_, ap, _∙_}
 use native.Mathlib.Nat.{add-sub-cancel-left}
 use lib.ListN.{take, drop}
-use Rattle.bytes_le.specs.Little.{byteAt}
-use Rattle.records.specs.Kinds.{journalKinds, bodyLen}
+use Rattle.journal_records.specs.Little.{byteAt}
+use Rattle.journal_records.specs.Kinds.{journalKinds, bodyLen}
 use Rattle.journal.proofs.begin_at.Statement.{statement}
 use Rattle.journal.proofs.begin_at.Tie as tie
 

@@ -1,7 +1,7 @@
 use borrow.Author.Needs.{needs}
 use mathlib.Core.Path.{ap, _∙_}
 use native.Mathlib.Omega.{arith}
-use Rattle.reader.specs.Reading.{readOf, listsAfter}
+use Rattle.journal_reader.specs.Reading.{readOf, listsAfter}
 use Rattle.journal.proofs.Steps.{part-from, read-within, stepped-stops, begins-fits, resets-fits, stepped-begins, stepped-resets}
 use Rattle.journal.proofs.take_step.Statement.{statement}
 use Rattle.journal.proofs.take_step.Tie as tie

@@ -3,7 +3,7 @@ use mathlib.Core.Bool.{cond}
 use native.Mathlib.Omega.{arith}
 use lib.ListN.{length}
 use borrow.Author.Needs.{needs}
-use Rattle.journal_tick.specs.Tick.{wholeOf}
+use Rattle.journal.specs.Tick.{wholeOf}
 use Rattle.player.proofs.Turns.{turn-less, Since, since-first, since-more, more-is, fed-is}
 use Rattle.player.proofs.feed.Statement.{statement}
 use Rattle.player.proofs.feed.Tie as tie

@@ -1,8 +1,8 @@
 use mathlib.Core.Path.{_≡_, refl, ap}
 use native.Mathlib.Omega.{arith}
 use borrow.Author.Needs.{needs}
-use Rattle.journal_tick.specs.declared.Ticked.{Ticked}
-use Rattle.render.proofs.Laws.{put-is}
+use Rattle.journal.specs.declared.tick.Ticked.{Ticked}
+use Rattle.report.proofs.Laws.{put-is}
 use Rattle.player.proofs.play_tick.Statement.{statement}
 use Rattle.player.proofs.play_tick.Tie as tie
 

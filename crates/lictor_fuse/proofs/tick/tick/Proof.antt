@@ -1,7 +1,7 @@
 use Rattle.lictor_fuse.specs.Tick.{tickOf}
 use borrow.Author.Needs.{needs}
-use Rattle.lictor_fuse.proofs.tick.tick.Statement.{statement}
-use Rattle.lictor_fuse.proofs.tick.tick.Tie as tie
+use Rattle.lictor_fuse.proofs.tick.Statement.{statement}
+use Rattle.lictor_fuse.proofs.tick.Tie as tie
 
 check-requires : tie.Need-check-requires
 check-requires c κs = search needs

@@ -1,8 +1,8 @@
 use Rattle.lictor_core.proofs.Branch.{branches}
 use Rattle.lictor_fuse.specs.Tick.{tickBy}
 use borrow.Author.Needs.{needs}
-use Rattle.lictor_fuse.proofs.tick.tick_by.Statement.{statement}
-use Rattle.lictor_fuse.proofs.tick.tick_by.Tie as tie
+use Rattle.lictor_fuse.proofs.tick_by.Statement.{statement}
+use Rattle.lictor_fuse.proofs.tick_by.Tie as tie
 
 is-accepted-requires : tie.Need-is-accepted-requires
 is-accepted-requires c κs = search needs
