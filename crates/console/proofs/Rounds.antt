@@ -10,9 +10,9 @@ use lib.Ieee.{Float}
 use Rattle.lictor_fuse.specs.declared.decide.Decided.{Decided}
 use Rattle.journal_refusals.specs.declared.Refusal.{Refusal}
 use Rattle.journal_refusals.proofs.Exactly.{numbers}
-use Rattle.journal_reader.specs.Stream.{wait, End, waiting, halted, telling, settled}
+use Rattle.stream.specs.Stream.{wait, End, waiting, halted, telling, settled}
 use Rattle.journal_reader.specs.Reading.{nextOf}
-use Rattle.journal_reader.proofs.Stream.{joined, settled-still, telling-telling}
+use Rattle.stream.proofs.Stream.{joined, settled-still, telling-telling}
 use Rattle.journal_reader.proofs.Reading.{waits-short}
 use Rattle.journal.specs.Tick.{Whole, wholeOf}
 use Rattle.journal.specs.Journal.{replayOf}

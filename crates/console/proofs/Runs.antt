@@ -18,7 +18,7 @@ use Rattle.journal_refusals.specs.Table.{numberOf}
 use Rattle.journal_refusals.proofs.Exactly.{numbers}
 use Rattle.journal_reader.specs.declared.waiting.Reader.{Reader}
 use Rattle.journal_reader.specs.State.{startReader}
-use Rattle.journal_reader.specs.Stream.{End, waiting, halted, Settled, telling, settled}
+use Rattle.stream.specs.Stream.{End, waiting, halted, Settled, telling, settled}
 use Rattle.journal.specs.declared.tick.Run.{Run}
 use Rattle.journal.specs.Tick.{Whole, wholeOf}
 use Rattle.journal.specs.Journal.{replayOf, startRun, startWhole, Ending, ended, refused, Meaning, endingOf, journalOf}
@@ -27,7 +27,7 @@ use Rattle.console.specs.declared.Round.{Round}
 use Rattle.console.specs.declared.Ended.{Ended}
 use Rattle.player.specs.Play.{eventsText}
 use Rattle.console.specs.Console.{numberAt, Rests, lastText, Rounded, textOf, endedOf, endNumber, endPlace, Ran, lastOf}
-use Rattle.journal_reader.proofs.Stream.{telling-telling}
+use Rattle.stream.proofs.Stream.{telling-telling}
 use Rattle.console.proofs.Rounds.{more-bytes}
 
 -- the bytes that came so far: those before `place` were taken, those at the front of memory wait

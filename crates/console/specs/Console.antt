@@ -12,7 +12,7 @@ use Rattle.lictor_fuse.specs.declared.decide.Decided.{Decided}
 use Rattle.journal_refusals.specs.declared.Refusal.{Refusal}
 use Rattle.journal_refusals.specs.declared.Refusal.the-variants.{CutBody}
 use Rattle.journal_refusals.specs.Table.{numberOf}
-use Rattle.journal_reader.specs.Stream.{End, waiting, halted, telling, settled}
+use Rattle.stream.specs.Stream.{End, waiting, halted, telling, settled}
 use Rattle.journal.specs.declared.tick.Run.{Run}
 use Rattle.journal.specs.Tick.{Whole, wholeOf}
 use Rattle.journal.specs.Journal.{replayOf, Ending, ended, refused, journalOf}

@@ -38,7 +38,7 @@ use Rattle.journal_refusals.specs.Causes.{unknownKind, bodyCut, beforeSettings,
 use Rattle.journal_refusals.specs.Table.{refusalTable, firstRow as firstRow·judge, judgedOf, contentsOf}
 use Rattle.journal_reader.specs.Reading.{lookAs, lookOf, callOf, onRecord, onLook, nextOf as nextOf·reader, readOf, listsAfter}
 use Rattle.journal_reader.specs.State.{ackWaits, headWaits, valueWaits, stored, outcomeWaits, settingsCame, emptied, startReader, valuesOf, inputOf}
-use Rattle.journal_reader.specs.Stream.{settle, settled, advance, advanced, fed, whole}
+use Rattle.stream.specs.Stream.{settle, settled, advance, advanced, fed, whole}
 use Rattle.journal.specs.Ends.{judgedAt}
 use Rattle.journal.specs.Tick.{decidedOf, tickedOf, journalTick}
 use Rattle.journal.specs.Journal.{begunOf, restartedOf, obey, obeyed, replayOf, startRun, startWhole, journalOf, advancedOf, listsAfter as listsAfter·journal, begunAt, resetAt}

@@ -15,10 +15,10 @@ use Rattle.journal_refusals.specs.declared.Judged.{Judged}
 use Rattle.journal_refusals.specs.declared.Judged.the-variants.{Accepted, Refused}
 use Rattle.journal_refusals.specs.Table.{isCut}
 use Rattle.journal_refusals.proofs.Exactly.{numbers, cut-only}
-use Rattle.journal_reader.specs.Stream.{Next, wait, halt, go, tell, End, waiting, halted, Settled, telling, settled}
+use Rattle.stream.specs.Stream.{Next, wait, halt, go, tell, End, waiting, halted, Settled, telling, settled}
 use Rattle.journal_reader.specs.State.{State}
 use Rattle.journal_reader.specs.Reading.{Instruction, begin, restart, tick, nextOf}
-use Rattle.journal_reader.proofs.Stream.{joined, settled-wait, settled-halt, settled-still, Front, front}
+use Rattle.stream.proofs.Stream.{joined, settled-wait, settled-halt, settled-still, Front, front}
 use Rattle.journal_reader.proofs.Reading.{next-refused, halted-judged, waiting-judged}
 use Rattle.journal.specs.Tick.{Whole}
 use Rattle.journal.specs.Journal.{obey, obeyed, replayOf, startWhole, Ending, ended, refused, Meaning, endingOf, journalOf}

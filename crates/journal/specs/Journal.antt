@@ -14,7 +14,7 @@ use Rattle.journal_records.specs.Kinds.{journalKinds, bodyLen}
 use Rattle.journal_records.specs.Long.{settingsOf}
 use Rattle.journal_refusals.specs.declared.Refusal.{Refusal}
 use Rattle.journal_refusals.specs.declared.Refusal.the-variants.{CutBody}
-use Rattle.journal_reader.specs.Stream.{Next, wait, halt, go, tell, End, waiting, halted, settled, advanced, Reached, goesOn}
+use Rattle.stream.specs.Stream.{Next, wait, halt, go, tell, End, waiting, halted, settled, advanced, Reached, goesOn}
 use Rattle.journal_reader.specs.declared.waiting.Reader.{Reader}
 use Rattle.journal_reader.specs.declared.What.{What}
 use Rattle.journal_reader.specs.declared.What.the-variants as W

@@ -5,7 +5,7 @@ use Prim.Native.Nat.{ℕ, zero, suc}
 use lib.ListN.{drop}
 use Rattle.lictor_fuse.specs.declared.decide.Decided.{Decided}
 use Rattle.journal_refusals.specs.declared.Refusal.{Refusal}
-use Rattle.journal_reader.specs.Stream.{Next, wait, halt, go, tell, Settled, after, settle, settled}
+use Rattle.stream.specs.Stream.{Next, wait, halt, go, tell, Settled, after, settle, settled}
 use Rattle.journal_reader.specs.State.{State}
 use Rattle.journal_reader.specs.Reading.{Instruction, begin, restart, tick, nextOf}
 use Rattle.journal.specs.declared.tick.Run.{Run}

@@ -25,7 +25,7 @@ use Rattle.journal_refusals.specs.Causes.{beforeSettings, again, codeNotListed,
 use Rattle.journal_refusals.specs.Table.{isCut, refusalTable, judgedOf}
 use Rattle.journal_refusals.specs.Exactly.{Passes, not-this-row}
 use Rattle.journal_refusals.proofs.Exactly.{accepted-so}
-use Rattle.journal_reader.specs.Stream.{Next, wait, halt, go, tell, after, settle, settled}
+use Rattle.stream.specs.Stream.{Next, wait, halt, go, tell, after, settle, settled}
 use Rattle.journal_reader.specs.State.{State, ackWaits, headWaits, valueWaits, outcomeWaits, settingsCame, emptied, startReader}
 use Rattle.journal_reader.specs.Reading.{Instruction, begin, restart, tick, onRecord, nextOf}
 use Rattle.journal_reader.proofs.Reading.{machine, next-refused, next-accepted}

@@ -4,7 +4,7 @@
 use mathlib.Core.List.{List, [], _∷_, _++_}
 use Prim.Native.Nat.{ℕ}
 use Rattle.lictor_fuse.specs.declared.decide.Decided.{Decided}
-use Rattle.journal_reader.specs.Stream.{settled}
+use Rattle.stream.specs.Stream.{settled}
 use Rattle.journal_reader.specs.Reading.{Instruction, begin, restart, tick, nextOf}
 use Rattle.journal.specs.declared.tick.Run.{Run}
 use Rattle.journal.specs.Tick.{decidedOf, tickedOf}

@@ -26,12 +26,12 @@ use Rattle.journal_refusals.specs.Table.{isCut, judgedOf}
 use Rattle.journal_refusals.proofs.Exactly.{cut-only}
 use Rattle.journal_refusals.proofs.Framing.{judged-unknown, judged-cut, accepted-whole, whole-not-cut}
 use Rattle.journal_reader.specs.declared.Look.the-variants as L
-use Rattle.journal_reader.specs.Stream.{Next, wait, halt, tell, takes, size, Machine, End, waiting, halted, settled}
+use Rattle.stream.specs.Stream.{Next, wait, halt, tell, takes, size, Machine, End, waiting, halted, settled}
 use Rattle.journal_reader.specs.declared.What.{What}
 use Rattle.journal_reader.specs.declared.What.the-variants as W
 use Rattle.journal_reader.specs.State.{State, settingsCame, emptied, inputOf}
 use Rattle.journal_reader.specs.Reading.{Instruction, begin, restart, tick, lookAs, lookOf, callOf, withReader, onRecord, bodyOf, onLook, nextOf, whatOf}
-use Rattle.journal_reader.proofs.Stream.{settled-still}
+use Rattle.stream.proofs.Stream.{settled-still}
 
 abbrev Move : Type 0
 Move = Next State Instruction Refusal

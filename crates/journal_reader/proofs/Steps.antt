@@ -40,10 +40,10 @@ use Rattle.journal_reader.specs.declared.What.the-variants as W
 use Rattle.journal_reader.specs.declared.Took.{Took}
 use Rattle.journal_reader.specs.declared.Turn.{Turn}
 use Rattle.journal_reader.specs.State.{State, bases, ackWaits, headWaits, valueWaits, stored, outcomeWaits, inputOf}
-use Rattle.journal_reader.specs.Stream.{go, goesOn, Reached}
+use Rattle.stream.specs.Stream.{go, goesOn, Reached}
 use Rattle.journal_reader.specs.Reading.{Instruction, lookAs, lookOf, callOf, onRecord, onLook, nextOf, whatOf, bodyOf}
 use Rattle.journal_reader.specs.Steps.{stateOf, Room, isSmall, looksSmall, Added, TookOne, Collected, Instructs, Turned}
-use Rattle.journal_reader.proofs.Stream.{goes, reached-none, reached-one, reached-on}
+use Rattle.stream.proofs.Stream.{goes, reached-none, reached-one, reached-on}
 use Rattle.journal_reader.proofs.Look as K
 use Rattle.journal_reader.proofs.Reading.{machine}
 

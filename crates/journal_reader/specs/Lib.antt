@@ -1,5 +1,4 @@
 -- Definitions that the contracts of this crate, and of those above it, cite.
-pub mod Stream
 pub mod Reading
 pub mod Steps
 pub mod State

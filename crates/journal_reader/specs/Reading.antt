@@ -23,7 +23,7 @@ use Rattle.journal_reader.specs.declared.Look.the-variants as L
 use Rattle.journal_reader.specs.declared.What.{What}
 use Rattle.journal_reader.specs.declared.What.the-variants.{Waits, Refuses, Begins, Resets, Ticks}
 use Rattle.journal_reader.specs.declared.Progress.{Progress}
-use Rattle.journal_reader.specs.Stream.{Next, wait, halt, go, tell, advanced}
+use Rattle.stream.specs.Stream.{Next, wait, halt, go, tell, advanced}
 use Rattle.journal_reader.specs.State.{State, ackWaits, headWaits, valueWaits, stored, withWaiting, outcomeWaits, settingsCame, emptied, valuesOf, inputOf}
 
 -- ---- the record at the front

@@ -18,7 +18,7 @@ use Rattle.journal_reader.specs.declared.Look.{Look}
 use Rattle.journal_reader.specs.declared.Look.the-variants as L
 use Rattle.journal_reader.specs.declared.Took.{Took}
 use Rattle.journal_reader.specs.declared.Turn.{Turn}
-use Rattle.journal_reader.specs.Stream.{go, goesOn, Reached}
+use Rattle.stream.specs.Stream.{go, goesOn, Reached}
 use Rattle.journal_reader.specs.State.{State}
 use Rattle.journal_reader.specs.Reading.{Instruction, lookOf, bodyOf, onRecord, nextOf, whatOf}
 

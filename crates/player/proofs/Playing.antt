@@ -10,8 +10,8 @@ use lib.Dec.{leb}
 use borrow.Author.Tests.{leb-true, leb-false, le-leb, lt-leb}
 use Rattle.lictor_fuse.specs.declared.decide.Decided.{Decided}
 use Rattle.journal_refusals.specs.declared.Refusal.{Refusal}
-use Rattle.journal_reader.specs.Stream.{Next, wait, halt, go, tell, settled, advanced, takes, size}
-use Rattle.journal_reader.proofs.Stream.{goes, settled-go, advanced-go, advanced-wait, advanced-halt, advanced-tell}
+use Rattle.stream.specs.Stream.{Next, wait, halt, go, tell, settled, advanced, takes, size}
+use Rattle.stream.proofs.Stream.{goes, settled-go, advanced-go, advanced-wait, advanced-halt, advanced-tell}
 use Rattle.journal.specs.Tick.{Whole}
 use Rattle.journal.specs.Journal.{replayOf}
 use Rattle.journal.proofs.Replay.{replay}

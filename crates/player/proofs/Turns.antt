@@ -16,10 +16,10 @@ use Rattle.journal_records.specs.Kinds.{journalKinds, bodyLen}
 use Rattle.journal_refusals.specs.declared.Refusal.{Refusal}
 use Rattle.journal_refusals.specs.Table.{numberOf}
 use Rattle.journal_reader.specs.declared.What.the-variants as W
-use Rattle.journal_reader.specs.Stream.{Next, wait, halt, go, tell, waiting, halted, Settled, telling, settled, Advanced, advanced, goesOn}
+use Rattle.stream.specs.Stream.{Next, wait, halt, go, tell, waiting, halted, Settled, telling, settled, Advanced, advanced, goesOn}
 use Rattle.journal_reader.specs.State.{State, emptied}
 use Rattle.journal_reader.specs.Reading.{Instruction, begin, restart, tick, callOf, withReader, nextOf, whatOf}
-use Rattle.journal_reader.proofs.Stream.{Ahead, ahead, settled-wait, settled-halt, settled-tell, tells-on, telling-telling}
+use Rattle.stream.proofs.Stream.{Ahead, ahead, settled-wait, settled-halt, settled-tell, tells-on, telling-telling}
 use Rattle.journal_reader.proofs.Reading.{ticks-is}
 use Rattle.journal.specs.declared.How.the-variants.{Waits, Refuses, Ticks}
 use Rattle.journal.specs.declared.Advanced as J

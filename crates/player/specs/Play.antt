@@ -9,7 +9,7 @@ use lib.ListN.{length, drop}
 use Rattle.lictor_fuse.specs.declared.decide.Decided.{Decided}
 use Rattle.journal_refusals.specs.declared.Refusal.{Refusal}
 use Rattle.journal_refusals.specs.Table.{numberOf}
-use Rattle.journal_reader.specs.Stream.{Next, wait, halt, go, tell, End, waiting, halted, Settled, telling, settled}
+use Rattle.stream.specs.Stream.{Next, wait, halt, go, tell, End, waiting, halted, Settled, telling, settled}
 use Rattle.journal.specs.declared.tick.Ticked.{Ticked}
 use Rattle.journal.specs.Tick.{Whole, wholeOf}
 use Rattle.journal.specs.Journal.{replayOf}

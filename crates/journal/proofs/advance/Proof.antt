@@ -9,9 +9,9 @@ use lib.Ieee.{Float}
 use Rattle.lictor_fuse.specs.declared.decide.Decided.{Decided}
 use Rattle.journal_refusals.specs.declared.Refusal.{Refusal}
 use Rattle.journal_reader.specs.declared.waiting.Reader.{Reader}
-use Rattle.journal_reader.specs.Stream.{Advanced, Reached, goesOn}
+use Rattle.stream.specs.Stream.{Advanced, Reached, goesOn}
 use Rattle.journal_reader.specs.Reading.{nextOf}
-use Rattle.journal_reader.proofs.Stream.{reached-none, reached-on, reached-end}
+use Rattle.stream.proofs.Stream.{reached-none, reached-on, reached-end}
 use Rattle.journal.specs.declared.tick.Run.{Run}
 use Rattle.journal.specs.declared.How.the-variants.{Waits}
 use Rattle.journal.specs.declared.Step.{Step}

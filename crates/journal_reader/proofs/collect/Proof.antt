@@ -10,10 +10,10 @@ use Rattle.lictor_core.specs.declared.outcome.Outcome.{Outcome}
 use Rattle.journal_reader.specs.declared.waiting.Waiting.{Waiting}
 use Rattle.journal_reader.specs.declared.Look.the-variants as L
 use Rattle.journal_reader.specs.declared.Took.{Took}
-use Rattle.journal_reader.specs.Stream.{Reached}
+use Rattle.stream.specs.Stream.{Reached}
 use Rattle.journal_reader.specs.Reading.{lookOf, nextOf}
 use Rattle.journal_reader.specs.Steps.{stateOf, looksSmall, TookOne, Collected}
-use Rattle.journal_reader.proofs.Stream.{reached-none, reached-on}
+use Rattle.stream.proofs.Stream.{reached-none, reached-on}
 use Rattle.journal_reader.proofs.Reading.{machine}
 use Rattle.journal_reader.proofs.Steps.{took-reached, took-within, took-look, took-less}
 use Rattle.journal_reader.proofs.collect.Statement.{statement}

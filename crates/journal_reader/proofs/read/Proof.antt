@@ -12,10 +12,10 @@ use Rattle.journal_reader.specs.declared.waiting.Reader.{Reader}
 use Rattle.journal_reader.specs.declared.Turn.{Turn}
 use Rattle.journal_reader.specs.declared.What.the-variants.{Waits}
 use Rattle.journal_reader.specs.State.{State}
-use Rattle.journal_reader.specs.Stream.{Advanced, Reached, goesOn}
+use Rattle.stream.specs.Stream.{Advanced, Reached, goesOn}
 use Rattle.journal_reader.specs.Reading.{Instruction, nextOf, whatOf, readOf, listsAfter}
 use Rattle.journal_reader.specs.Steps.{Turned}
-use Rattle.journal_reader.proofs.Stream.{reached-none, reached-on, reached-end}
+use Rattle.stream.proofs.Stream.{reached-none, reached-on, reached-end}
 use Rattle.journal_reader.proofs.Reading.{machine}
 use Rattle.journal_reader.proofs.Steps.{turn-less}
 use Rattle.journal_reader.proofs.read.Statement.{statement}

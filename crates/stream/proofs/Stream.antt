@@ -6,7 +6,7 @@ use mathlib.Core.Path.{_≡_, refl, sym, ap, _∙_}
 use native.Mathlib.Omega.{arith}
 use lib.ListN.{length, take, drop, length-append, length-drop}
 use lib.Seq.{drop-append-le, drop-drop, take-add, drop-at, length-take-le}
-use Rattle.journal_reader.specs.Stream.{Next, wait, halt, go, tell, End, waiting, halted, Settled, telling, after, settle, settled, Advanced, past, upTo, advance, advanced, Reached, goesOn, takes, size, Machine, fed, whole}
+use Rattle.stream.specs.Stream.{Next, wait, halt, go, tell, End, waiting, halted, Settled, telling, after, settle, settled, Advanced, past, upTo, advance, advanced, Reached, goesOn, takes, size, Machine, fed, whole}
 
 with-told : {R E H : Type 0} → Settled R E H → List E → Settled R E H
 with-told a es = record { state = a .state; rest = a .rest; told = es; end = a .end }
