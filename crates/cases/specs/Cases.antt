@@ -69,13 +69,13 @@ unfoldable pub input : ℕ → ℕ → MaybeChunk → TickInput
 input t missed chunk = record { t = t; idx = 0; «missed_ticks» = missed; «schema_fault» = false; «has_vel» = false; chunk = chunk; ack = NoAck }
 
 -- after a reset, a tick at `last`
-unfoldable pub firstOf : ℕ → FuseRt
-firstOf last = tickOf settings (resetOf newOf) (input last 0 NoChunk) outcome (zeroFloat ∷ []) [] [] [] [] .rt
+unfoldable pub clockAt : ℕ → FuseRt
+clockAt last = tickOf settings (resetOf newOf) (input last 0 NoChunk) outcome (zeroFloat ∷ []) [] [] [] [] .rt
 
 -- the tick behind it, with a chunk that begins at its t
-unfoldable pub afterOf : ℕ → ℕ → ℕ → SafetyVerdict
-afterOf last missed t =
-    tickOf settings (firstOf last) (input t missed (Delivered (record { seq = 0; «t_emit» = t; horizon = 1; dim = 1; «exec_steps» = 1 }))) outcome (zeroFloat ∷ []) [] [] [] (zeroFloat ∷ []) .verdict
+unfoldable pub tickAfter : ℕ → ℕ → ℕ → SafetyVerdict
+tickAfter last missed t =
+    tickOf settings (clockAt last) (input t missed (Delivered (record { seq = 0; «t_emit» = t; horizon = 1; dim = 1; «exec_steps» = 1 }))) outcome (zeroFloat ∷ []) [] [] [] (zeroFloat ∷ []) .verdict
 
 unfoldable pub nameText : ℕ → ℕ → ℕ → List ℕ
 nameText last missed t = ascii "last t " ++ decimalOf last ++ ascii ", missed " ++ decimalOf missed ++ ascii ", t " ++ decimalOf t ++ ascii ": "

@@ -3,13 +3,13 @@
 //     last t at its end: the next tick's SCHEMA, for many values of its t
 //
 // Each line starts anew: a reset, a tick that only sets the clock (it brings no chunk, and so is a fault tick), and a tick that nothing is wrong with but,
-// where there is no next t, its t. The lines that begin with another last t show that such a tick passes (trips 0).
+// where there is no next t, its t. The lines that begin with another last t show that such a tick accepted (trips 0).
 // What is expected, the file `stdout`, was written by the second program, the Rust: `differential/sample DIR --store` (differential/README.md).
 // The other case that is executed, roots against IEEE 754, is the program `roots`; `clock-ends` in `claims` says the case over all t.
 ghost use mathlib.Core.Path.{_≡_};
 ghost use Rattle.text.specs.Line.{lineOf};
 ghost use Rattle.lictor_core.specs.Initial.{zeros};
-ghost use Rattle.cases.specs.Cases.{nameText, limits as limitsOf, settings as settingsOf, outcome as outcomeOf, input as inputOf, firstOf, afterOf};
+ghost use Rattle.cases.specs.Cases.{nameText, limits as limitsOf, settings as settingsOf, outcome as outcomeOf, input as inputOf, clockAt, tickAfter};
 use libc::STDOUT_FILENO;
 use lictor_core::ack::MaybeAck;
 use lictor_core::chunk::ChunkHead;
@@ -127,7 +127,7 @@ fn input(t: u32, missed: u8, chunk: MaybeChunk) -> TickInput
 
 // The run state after the tick that sets the clock.
 fn first(last: u32) -> FuseRt
-    ensures { λ r. ⌜ r ≡ firstOf last ⌝ }
+    ensures { λ r. ⌜ r ≡ clockAt last ⌝ }
 {
     let nothing: [f64; 0] = [];
     let rt = lictor_fuse::episode::reset(lictor_fuse::episode::new());
@@ -149,7 +149,7 @@ fn first(last: u32) -> FuseRt
 
 // The verdict of the tick behind it, which brings a chunk that fits its t.
 fn after(last: u32, missed: u8, t: u32) -> SafetyVerdict
-    ensures { λ r. ⌜ r ≡ afterOf last missed t ⌝ }
+    ensures { λ r. ⌜ r ≡ tickAfter last missed t ⌝ }
 {
     let nothing: [f64; 0] = [];
     let head = ChunkHead {

@@ -16,7 +16,7 @@ use Rattle.lictor_core.specs.Masks.{anyOf, nonfinite, schema, watchdog, faultBi
 use Rattle.lictor_settings.specs.Settings.{configOf}
 use Rattle.lictor_guard.specs.Guard.{clockBad, schemaBad, bitIf, guardOf}
 use Rattle.lictor_stages.specs.Ingest.{faultMotion}
-use Rattle.lictor_stages.specs.Judge.{faultInput}
+use Rattle.lictor_stages.specs.Findings.{faultInput}
 use Rattle.lictor_stages.specs.Verdict.{faultVerdict}
 use Rattle.lictor_table.specs.declared.FsmInput.{FsmInput}
 use Rattle.lictor_table.specs.Helpers.{settledOf}
@@ -25,7 +25,7 @@ use Rattle.lictor_fuse.specs.declared.decide.Decided.{Decided}
 use Rattle.lictor_fuse.specs.declared.Ticked.{Ticked}
 use Rattle.lictor_fuse.specs.Decide.{closedOf, closeFault, faultTick}
 use Rattle.lictor_fuse.specs.Tick.{givenOf}
-use Rattle.claims.specs.Calls.{Call, accepted, answerOf, guardBits}
+use Rattle.claims.specs.Calls.{Call, passes, tickAnswer, guardBits}
 use Rattle.claims.specs.ClockEnd.{lastTime, PastTheEnd, ClockEnds}
 use Rattle.claims.proofs.Tick.{by-call, by-guard, decided, faultTurn, guard-faults}
 
@@ -81,8 +81,8 @@ pub past-the-end : PastTheEnd
 unfolding givenOf
 past-the-end r c a p h k =
     let f = faults r c p h k in
-    let d : (T (anyOf (answerOf r c .verdict .trips) schema)) × (answerOf r c .verdict .state ≡ Fault) =
-    by-call (λ (x : Ticked). T (anyOf (x .verdict .trips) schema) × (x .verdict .state ≡ Fault)) r c (λ z. f) (λ z. absurd (T-not (accepted c) z a)) in
+    let d : (T (anyOf (tickAnswer r c .verdict .trips) schema)) × (tickAnswer r c .verdict .state ≡ Fault) =
+    by-call (λ (x : Ticked). T (anyOf (x .verdict .trips) schema) × (x .verdict .state ≡ Fault)) r c (λ z. f) (λ z. absurd (T-not (passes c) z a)) in
     record { guard = finds r c p h k; trips = d .0; state = d .1 }
 
 pub clock-ends : ClockEnds

@@ -26,12 +26,12 @@ use Rattle.lictor_core.specs.Cases.{byDecision}
 use Rattle.lictor_core.specs.Masks.{anyOf, faultBits}
 use Rattle.lictor_core.specs.Num.{satUp, wrapUp}
 use Rattle.lictor_settings.specs.Settings.{configOf}
-use Rattle.lictor_stages.specs.Judge.{machineInput}
+use Rattle.lictor_stages.specs.Findings.{machineInput}
 use Rattle.lictor_stages.specs.Verdict.{eventsOf, noEvents}
 use Rattle.lictor_table.specs.declared.FsmInput.{FsmInput}
 use Rattle.lictor_table.specs.declared.Turn.{Turn}
 use Rattle.lictor_table.specs.Helpers.{countIf, upIf, consumeNonce, latchHold, acceptedBy, acceptedAck, cleanOf, countRun, settledOf}
-use Rattle.lictor_table.specs.Rows.{faultRow, rearmAck, resumeRow, terminateRow, timeoutRow, waitRow, waitingOf, escalatedOf, rearmRow, escalateRow, holdRow, holdingOf, heldOf, standstillRow, stoppingRow, brakingOf, enterBraking, brakeRow, clampRow, clearRow, quietOf, runningOf, byFrom, transitionOf, nextByRows}
+use Rattle.lictor_table.specs.Rows.{faultRow, rearmAck, resumeRow, terminateRow, timeoutRow, waitRow, unansweredOf, escalatedOf, rearmRow, escalateRow, holdRow, holdingOf, heldOf, standstillRow, stoppingRow, brakingOf, enterBraking, brakeRow, clampRow, clearRow, quietOf, runningOf, byFrom, transitionOf, nextByRows}
 use Rattle.lictor_table.specs.Table.{nextOf}
 use Rattle.lictor_table.proofs.ByTable.{tells}
 use Rattle.lictor_table.proofs.Lines.{by-test}
@@ -40,8 +40,8 @@ use Rattle.lictor_fuse.specs.declared.decide.Decided.{Decided}
 use Rattle.lictor_fuse.specs.declared.Ticked.{Ticked}
 use Rattle.lictor_fuse.specs.Decide.{readyOf, nextChunk, cleanClock, faultClock, closedOf, closeClean, cleanTick, closeFault, faultTick}
 use Rattle.lictor_fuse.specs.Tick.{givenOf}
-use Rattle.claims.specs.Calls.{Call, accepted, answerOf, guardBits}
-use Rattle.claims.specs.Tallies.{turnOf, itemOf}
+use Rattle.claims.specs.Calls.{Call, passes, tickAnswer, guardBits}
+use Rattle.claims.specs.Tallies.{turnSeen, itemOf}
 use Rattle.claims.specs.Counters.{Rises, stays, rises, Counts, kept, counted, cleared, Numbers, same, next, MachineCounts, ClockCounts, CountersTold}
 use Rattle.claims.proofs.Tick.{by-call, by-guard, decided, foundOf, cleanTurn}
 
@@ -96,8 +96,8 @@ module _ (cfg : FuseConfig) (r : Control) (pos : List Float) (clean : Bool) (inp
   unfolding holdingOf rearmRow escalateRow holdRow countRun
   holding-rows = search rows depth 12
 
-  waiting-rows : (limit : ℕ) → Goes r (waitingOf limit now)
-  unfolding waitingOf timeoutRow waitRow countRun
+  waiting-rows : (limit : ℕ) → Goes r (unansweredOf limit now)
+  unfolding unansweredOf timeoutRow waitRow countRun
   waiting-rows limit = search rows
 
   -- an acknowledgement
@@ -189,7 +189,7 @@ module _ (r : FuseRt) (c : Call) where
 pub counters-go : CountersTold
 unfolding givenOf
 counters-go r c a =
-    let t = by-call (λ (x : Ticked). Told r c (x .rt)) r c (λ h. tick-counts r c) (λ h. absurd (T-not (accepted c) h a)) in
+    let t = by-call (λ (x : Ticked). Told r c (x .rt)) r c (λ h. tick-counts r c) (λ h. absurd (T-not (passes c) h a)) in
     record { machine = t .0; clock = t .1 }
 
 -- ---- what follows at an end, for any width
@@ -203,7 +203,7 @@ pub stays-full : {k x y : ℕ} → x ≡ 2 ^ k - 1 → Rises k x y → y ≡ x
 stays-full e stays = refl
 stays-full e rises = omega arith
 
--- no count passes its end
+-- no count accepted its end
 pub rise-fits : {k x y : ℕ} → x < 2 ^ k → Rises k x y → y < 2 ^ k
 rise-fits h stays = h
 rise-fits h rises = omega arith
@@ -229,17 +229,17 @@ wraps k = let e : 2 ^ k - 1 + 1 ≡ 2 ^ k = omega (arith, pow-pos k) in rw e (mo
 
 -- ---- what the tally counts of a full counter: nothing, though the fuse arms by a Resume or clamps
 
-module _ (r : FuseRt) (c : Call) (a : T (accepted c)) where
+module _ (r : FuseRt) (c : Call) (a : T (passes c)) where
   -- an event is one of a clean tick or none
-  by-events : (P : TickEvents → Type 0) → P (eventsOf (c .settings .calib) (c .outcome .scores) (r .control) (turnOf (answerOf r c .rt) (answerOf r c .verdict))) → P noEvents
-      → P (itemOf r c (answerOf r c) .events)
+  by-events : (P : TickEvents → Type 0) → P (eventsOf (c .settings .calib) (c .outcome .scores) (r .control) (turnSeen (tickAnswer r c .rt) (tickAnswer r c .verdict))) → P noEvents
+      → P (itemOf r c (tickAnswer r c) .events)
   by-events P f g = by-test P (eqb (guardBits r c) 0) _ _ (λ h. f) (λ h. g)
 
-  pub full-rearms : r .control .rearms ≡ 255 → itemOf r c (answerOf r c) .events .rearmed ≡ false
+  pub full-rearms : r .control .rearms ≡ 255 → itemOf r c (tickAnswer r c) .events .rearmed ≡ false
   unfolding eventsOf noEvents
   full-rearms e = by-events (λ (ev : TickEvents). ev .rearmed ≡ false) (rw (eq-eqb _ _ (stays-full e (counters-go r c a .machine .rearms))) refl) refl
 
-  pub full-clamps : r .control .clamps ≡ 65535 → itemOf r c (answerOf r c) .events .clamped ≡ false
+  pub full-clamps : r .control .clamps ≡ 65535 → itemOf r c (tickAnswer r c) .events .clamped ≡ false
   unfolding eventsOf noEvents
   full-clamps e = by-events (λ (ev : TickEvents). ev .clamped ≡ false) (rw (eq-eqb _ _ (stays-full e (counters-go r c a .machine .clamps))) refl) refl
 

@@ -17,7 +17,7 @@ use Rattle.lictor_core.specs.declared.state.FuseState.{FuseState}
 use Rattle.lictor_core.specs.Initial.{freshControl, resetOf}
 use Rattle.lictor_core.specs.Masks.{anyOf, faultBits}
 use Rattle.lictor_settings.specs.Settings.{configOf}
-use Rattle.lictor_stages.specs.Judge.{judgeOf, machineInput, faultInput}
+use Rattle.lictor_stages.specs.Findings.{findingsOf, machineInput, faultInput}
 use Rattle.lictor_stages.specs.Verdict.{verdictOf, faultVerdict}
 use Rattle.lictor_table.specs.declared.FsmInput.{FsmInput}
 use Rattle.lictor_table.specs.Consumed.{takenIn, consumedOf}
@@ -28,7 +28,7 @@ use Rattle.lictor_fuse.specs.declared.decide.Decided.{Decided}
 use Rattle.lictor_fuse.specs.Decide.{readyOf, closedOf, closeClean, cleanTick, closeFault, faultTick}
 use Rattle.lictor_fuse.specs.Tick.{givenOf}
 use Rattle.claims.specs.Runs.{All, total, Step}
-use Rattle.claims.specs.Calls.{Call, Under, guardBits, tripsOf, bitsOf, ackOf, tookOf, Seen, seenOf, stepOf, ticksFrom}
+use Rattle.claims.specs.Calls.{Call, Under, guardBits, tripsOf, bitsOf, ackAccepted, tookOf, Seen, seenOf, stepOf, ticksFrom}
 use Rattle.claims.specs.Demand3.{maxRearms, Sized, rearms, Stops, Faults, Acks, StopsClose}
 use Rattle.claims.proofs.Runs.{Run, Meets, runs}
 use Rattle.claims.proofs.Law.{Arm, ArmLaw, NonceLaw, stops-by, faults-by, rearms-by, acks-by}
@@ -65,7 +65,7 @@ true-of false h = absurd h
 abbrev seenBy : FuseRt → Call → Bool → FuseState → Seen
 seenBy r c clean p =
     let bits = not clean || anyOf (tripsOf c) faultBits in
-    record { from = r .control .state; to = p; took = cond bits NoAck (takenIn (r .control .state) (ackOf r c)); bits = bits; ack = ackOf r c }
+    record { from = r .control .state; to = p; took = cond bits NoAck (takenIn (r .control .state) (ackAccepted r c)); bits = bits; ack = ackAccepted r c }
 
 module _ (r : FuseRt) (c : Call) (z : Sized (c .settings)) where
   -- the law of the arm, for a tick under the call's own settings that ends in p and leaves r′
@@ -73,7 +73,7 @@ module _ (r : FuseRt) (c : Call) (z : Sized (c .settings)) where
   Holds clean p r′ = ArmLaw (c .settings) (armOf (c .settings) r) (seenBy r c clean p) (armIn (c .settings) (r′ .state) r′)
 
   clean-turns : Holds true (cleanTurn r c .state) (cleanTurn r c .rt)
-  unfolding readyOf machineInput judgeOf tripsOf ackOf configOf
+  unfolding readyOf machineInput findingsOf tripsOf ackAccepted configOf
   clean-turns = turns (c .settings) z (readyOf (r .control) (foundOf r c)) _ _ _ _ _ refl refl
 
   fault-turns : anyOf (guardBits r c) faultBits ≡ true → Holds false (faultTurn r c .state) (faultTurn r c .rt)
@@ -130,7 +130,7 @@ module _ (r : FuseRt) (c : Call) (o : Eight r) where
   Spends clean p after = (length after ≡ 8) × NonceLaw (floorOf r) (seenBy r c clean p) (floorIn after)
 
   clean-spends : Spends true (cleanTurn r c .state) (cleanTurn r c .rt .«last_nonce»)
-  unfolding readyOf machineInput judgeOf tripsOf ackOf configOf consumedOf
+  unfolding readyOf machineInput findingsOf tripsOf ackAccepted configOf consumedOf
   clean-spends = spends (configOf (c .settings)) (readyOf (r .control) (foundOf r c)) _ _ _ _ _ _ _ o refl
 
   fault-spends : anyOf (guardBits r c) faultBits ≡ true → Spends false (faultTurn r c .state) (faultTurn r c .rt .«last_nonce»)

@@ -29,7 +29,7 @@ use Rattle.lictor_core.proofs.Rows.{row-length}
 use Rattle.lictor_guard.specs.Delivery.{deliveredOf, sizesBad, placeBad, headBad, deliveryBad}
 use Rattle.lictor_guard.specs.Guard.{nonFinite, lengthsOf, shapeBad, clockBad, schemaBad, bitIf, guardOf}
 use Rattle.lictor_stages.specs.Ingest.{takenRow, velocityOf, ingestOf}
-use Rattle.lictor_stages.specs.Judge.{withBrake, maskedOf, slowOf, standstillOf, judgeOf, machineInput}
+use Rattle.lictor_stages.specs.Findings.{withBrake, maskedOf, slowOf, standstillOf, findingsOf, machineInput}
 use Rattle.lictor_stages.specs.Verdict.{verdictOf}
 use Rattle.lictor_table.specs.declared.FsmInput.{FsmInput}
 use Rattle.lictor_table.specs.Helpers.{acceptedAck, settledOf, countRun}
@@ -42,7 +42,7 @@ use Rattle.lictor_fuse.specs.Decide.{readyOf, cleanClock, closedOf, closeClean,
 use Rattle.lictor_fuse.specs.Tick.{isAccepted, givenOf}
 use Rattle.claims.specs.Runs.{All, Some, here, later, First, Where, at, past, series, Step, silent, event, andThen, trace}
 use Rattle.claims.specs.Demand3.{begins, closes, limit, StopsWithin}
-use Rattle.claims.specs.Calls.{Seen, Call, accepted, guardBits, stepOf, seenOf, ticksFrom}
+use Rattle.claims.specs.Calls.{Seen, Call, passes, guardBits, stepOf, seenOf, ticksFrom}
 use Rattle.claims.specs.ClockEnd.{lastTime}
 use Rattle.claims.specs.Limit.{oneFloat, slowSettings, callAt, trips, moves, stands, slowest, Met, LimitMet}
 use Rattle.claims.proofs.Demand3.{settled}
@@ -136,11 +136,11 @@ take-one (x ∷ l) v h = refl
 
 module _ (b h e i : ℕ) (r : FuseRt) (o : Running i r) where
   moves-on : foundOf r (moves (slowSettings b h e) (suc i)) .stopped ≡ false
-  unfolding judgeOf standstillOf slowOf normOf addSquares rootOf ingestOf velocityOf takenRow rowTo configOf modeOf add mul le
+  unfolding findingsOf standstillOf slowOf normOf addSquares rootOf ingestOf velocityOf takenRow rowTo configOf modeOf add mul le
   moves-on = rw (take-one (r .motion .vel) oneFloat (o .room)) refl
 
   stands-still : foundOf r (stands (slowSettings b h e) (suc i)) .stopped ≡ true
-  unfolding judgeOf standstillOf slowOf normOf addSquares rootOf ingestOf velocityOf takenRow rowTo configOf modeOf add mul le
+  unfolding findingsOf standstillOf slowOf normOf addSquares rootOf ingestOf velocityOf takenRow rowTo configOf modeOf add mul le
   stands-still = rw (take-one (r .motion .vel) zeroFloat (o .room)) refl
 
 -- ---- the words of the stop
@@ -208,7 +208,7 @@ module _ (b h e i : ℕ) (v : Float) (fine : finite v ≡ true) (r : FuseRt) (o 
 
   -- no fault bit comes, and no acknowledgement
   law : StopLaw cfg (r .control .state) false NoAck (readyOf (r .control) (foundOf r tick)) (cleanTurn r tick)
-  unfolding readyOf machineInput judgeOf maskedOf withBrake anyOf acceptedAck configOf
+  unfolding readyOf machineInput findingsOf maskedOf withBrake anyOf acceptedAck configOf
   law = stop-law cfg (readyOf (r .control) (foundOf r tick)) _ (machineInput cfg (tick .input) (foundOf r tick))
 
   -- the tick ends as the machine says
@@ -258,7 +258,7 @@ module _ (b h e : ℕ) (small : b ≤ 65535) (short : h ≤ 65535) (fits : e ≤
   st = slowSettings b h e
 
   brakes-on : At Braking brake n i r → n < b → Leads (At Braking brake (suc n) (suc i)) r (moves st (suc i))
-  unfolding readyOf machineInput judgeOf maskedOf withBrake anyOf configOf
+  unfolding readyOf machineInput findingsOf maskedOf withBrake anyOf configOf
   brakes-on a k =
       let c = moves st (suc i) in
       let o = a .running in
@@ -269,7 +269,7 @@ module _ (b h e : ℕ) (small : b ≤ 65535) (short : h ≤ 65535) (fits : e ≤
       leads b h e i oneFloat refl r o Braking brake (suc n) tt t (omega (arith, l .brakeCounts t (a .state), a .counted))
 
   stops : At Braking brake n i r → n < b → Leads (At Held held 0 (suc i)) r (stands st (suc i))
-  unfolding readyOf machineInput judgeOf maskedOf withBrake anyOf configOf
+  unfolding readyOf machineInput findingsOf maskedOf withBrake anyOf configOf
   stops a k =
       let c = stands st (suc i) in
       let o = a .running in
@@ -390,11 +390,11 @@ module _ (b h e : ℕ) (least : 1 ≤ b) (small : b ≤ 65535) (short : h ≤ 65
 
     -- an infeasible brake
     begun-turn : cleanTurn start (trips slow) .state ≡ Braking
-    unfolding nextByRows settledOf transitionOf byFrom runningOf brakeRow readyOf machineInput judgeOf maskedOf withBrake anyOf resetOf freshControl configOf
+    unfolding nextByRows settledOf transitionOf byFrom runningOf brakeRow readyOf machineInput findingsOf maskedOf withBrake anyOf resetOf freshControl configOf
     begun-turn = rw (← tells (configOf slow) (readyOf (start .control) (foundOf start (trips slow))) _ (machineInput (configOf slow) (trips slow .input) (foundOf start (trips slow)))) refl
 
     begun-law : StopLaw (configOf slow) Armed false NoAck (readyOf (start .control) (foundOf start (trips slow))) (cleanTurn start (trips slow))
-    unfolding readyOf machineInput judgeOf maskedOf withBrake anyOf acceptedAck configOf resetOf freshControl
+    unfolding readyOf machineInput findingsOf maskedOf withBrake anyOf acceptedAck configOf resetOf freshControl
     begun-law = stop-law (configOf slow) (readyOf (start .control) (foundOf start (trips slow))) _ (machineInput (configOf slow) (trips slow .input) (foundOf start (trips slow)))
 
     abbrev Begun : Decided → Type 0
@@ -454,7 +454,7 @@ module _ (b h e : ℕ) (least : 1 ≤ b) (small : b ≤ 65535) (short : h ≤ 65
     met =
         record {
           sized = record { brake = small; hold = short; handoff = long; rearms = omega arith };
-          under = every-call (λ c. T (accepted c) × (c .settings ≡ slow)) (passes b h e, refl) (λ t k. (passes b h e, refl)) (λ t k. (passes b h e, refl));
+          under = every-call (λ c. T (passes c) × (c .settings ≡ slow)) (passes b h e, refl) (λ t k. (passes b h e, refl)) (λ t k. (passes b h e, refl));
           times = every-call (λ c. c .input .t ≤ lastTime) (omega arith) (λ t k. k) (λ t k. k);
           exact = exact;
           tight = tight exact;

@@ -7,7 +7,7 @@ use Rattle.lictor_core.specs.declared.fuse.Clock.{Clock}
 use Rattle.lictor_core.specs.declared.fuse.Control.{Control}
 use Rattle.lictor_core.specs.declared.fuse.FuseRt.{FuseRt}
 use Rattle.lictor_core.specs.Num.{satUp, wrapUp}
-use Rattle.claims.specs.Calls.{Call, accepted, answerOf}
+use Rattle.claims.specs.Calls.{Call, passes, tickAnswer}
 
 -- a count x of k bits after a tick: the same, or one more up to its end; nothing but a reset takes it back
 pub data Rises (k x : ℕ) : ℕ → Type 0 where
@@ -45,9 +45,9 @@ pub record ClockCounts (t : ℕ) (k k′ : Clock) : Type 0 where
   pub chunk : Numbers 32 (k .«next_chunk_seq») (k′ .«next_chunk_seq»)
 
 pub record CountersGo (r : FuseRt) (c : Call) : Type 0 where
-  pub machine : MachineCounts (r .control) (answerOf r c .rt .control)
-  pub clock : ClockCounts (c .input .t) (r .clock) (answerOf r c .rt .clock)
+  pub machine : MachineCounts (r .control) (tickAnswer r c .rt .control)
+  pub clock : ClockCounts (c .input .t) (r .clock) (tickAnswer r c .rt .clock)
 
 -- of every tick
 abbrev pub CountersTold : Type 0
-CountersTold = (r : FuseRt) (c : Call) → T (accepted c) → CountersGo r c
+CountersTold = (r : FuseRt) (c : Call) → T (passes c) → CountersGo r c

@@ -1,6 +1,6 @@
 -- The limit of demand 3 is met: for all B from 1, all H and E, where B + H + E + 2 is at most 4294967295, settings and a list of calls from a reset on whose stop
 -- closes with the last tick of the limit. So B + H + E + 1 would be false. Proved in proofs/Limit, `limit-met`.
--- (At B = 0 the first tick in Braking ends in Fault. Where the sum passes 4294967296 the clock's end comes first, with a fault: specs/ClockEnd.)
+-- (At B = 0 the first tick in Braking ends in Fault. Where the sum accepted 4294967296 the clock's end comes first, with a fault: specs/ClockEnd.)
 -- It is of demand 3's first part (00-demands.md, Demand 3), and beyond what the papers ask.
 use mathlib.Core.Path.{_≡_}
 use mathlib.Core.Bool.{Bool, true, false}
@@ -16,7 +16,7 @@ use Rattle.lictor_core.specs.declared.envelope.Settings.{Settings}
 use Rattle.lictor_core.specs.declared.fuse.FuseRt.{FuseRt}
 use Rattle.lictor_core.specs.Initial.{zeroFloat, zeros, resetOf}
 use Rattle.claims.specs.Runs.{All, First, Where, series}
-use Rattle.claims.specs.Calls.{Call, accepted, ticksFrom}
+use Rattle.claims.specs.Calls.{Call, passes, ticksFrom}
 use Rattle.claims.specs.ClockEnd.{lastTime}
 use Rattle.claims.specs.Demand3.{Sized, begins, closes, limit, StopsWithin}
 
@@ -115,7 +115,7 @@ slowest b h e =
 pub record Met (r : FuseRt) (s : Settings) (cs : List Call) : Type 0 where
   -- the list is one of those that demand 3 speaks of, of ticks all, and its times are within the clock
   pub sized : Sized s
-  pub under : All (λ c. T (accepted c) × (c .settings ≡ s)) cs
+  pub under : All (λ c. T (passes c) × (c .settings ≡ s)) cs
   pub times : All (λ c. c .input .t ≤ lastTime) cs
   -- braking begins, and the first tick after it that closes the stop is the one with the number of the limit
   pub exact : Where (λ x after. T (begins x) × First (λ y. T (closes y)) (limit s) after) (ticksFrom (resetOf r) cs)

@@ -20,13 +20,13 @@ use Rattle.lictor_tally.specs.History.{Item, tallyOf}
 use Rattle.lictor_tally.specs.Tally.{isNominal}
 use Rattle.lictor_fuse.specs.declared.Ticked.{Ticked}
 use Rattle.claims.specs.Runs.{total, trace}
-use Rattle.claims.specs.Calls.{Call, guardBits, tripsOf, stepOf, after}
+use Rattle.claims.specs.Calls.{Call, guardBits, tripsOf, stepOf, leftBy}
 
 -- ---- what the tally takes in of a tick
 
 -- what the state machine answered, as far as the events go by it
-abbrev pub turnOf : FuseRt → SafetyVerdict → Turn
-turnOf r v = record { rt = r .control; state = v .state; extra = 0; reason = v .reason }
+abbrev pub turnSeen : FuseRt → SafetyVerdict → Turn
+turnSeen r v = record { rt = r .control; state = v .state; extra = 0; reason = v .reason }
 
 -- a call on r, clean or not, that leaves r′ and gives v: its verdict; of a clean tick its chunk, if it brings one, and the events, which a fault tick has not
 abbrev pub itemBy : Bool → FuseRt → Call → FuseRt → SafetyVerdict → Item
@@ -35,7 +35,7 @@ itemBy clean r c r′ v =
       chunk = clean && deliveredOf (c .input .chunk);
       rejected = rejectedOf (tripsOf c);
       verdict = v;
-      events = cond clean (eventsOf (c .settings .calib) (c .outcome .scores) (r .control) (turnOf r′ v)) noEvents;
+      events = cond clean (eventsOf (c .settings .calib) (c .outcome .scores) (r .control) (turnSeen r′ v)) noEvents;
     }
 
 abbrev pub itemOf : FuseRt → Call → Ticked → Item
@@ -56,8 +56,8 @@ verdictsFrom r cs = trace (stepOf verdictIn) r cs
 -- ---- the claim
 
 -- how many of the verdicts have the property
-abbrev pub number : (SafetyVerdict → Bool) → List SafetyVerdict → ℕ
-number p l = total (λ v. cond (p v) 1 0) l
+abbrev pub howMany : (SafetyVerdict → Bool) → List SafetyVerdict → ℕ
+howMany p l = total (λ v. cond (p v) 1 0) l
 
 abbrev pub endedIn : FuseState → SafetyVerdict → Bool
 endedIn q v = isState (v .state) q
@@ -70,20 +70,20 @@ endedNominal v = isNominal (v .state)
 pub record StateCounts (t : Tally) (l : List SafetyVerdict) : Type 0 where
   pub ticks : t .ticks ≡ length l
   pub sum : t .nominal + t .watching + t .clamped + t .braking + t .held + t .escalated + t .fault + t .terminated ≡ t .ticks
-  pub nominal : t .nominal ≡ number endedNominal l
-  pub watching : t .watching ≡ number (endedIn S.Watching) l
-  pub clamped : t .clamped ≡ number (endedIn S.Clamped) l
-  pub braking : t .braking ≡ number (endedIn S.Braking) l
-  pub held : t .held ≡ number (endedIn S.Held) l
-  pub escalated : t .escalated ≡ number (endedIn S.Escalated) l
-  pub fault : t .fault ≡ number (endedIn S.Fault) l
-  pub terminated : t .terminated ≡ number (endedIn S.Terminated) l
+  pub nominal : t .nominal ≡ howMany endedNominal l
+  pub watching : t .watching ≡ howMany (endedIn S.Watching) l
+  pub clamped : t .clamped ≡ howMany (endedIn S.Clamped) l
+  pub braking : t .braking ≡ howMany (endedIn S.Braking) l
+  pub held : t .held ≡ howMany (endedIn S.Held) l
+  pub escalated : t .escalated ≡ howMany (endedIn S.Escalated) l
+  pub fault : t .fault ≡ howMany (endedIn S.Fault) l
+  pub terminated : t .terminated ≡ howMany (endedIn S.Terminated) l
 
 pub record TallyTold (r : FuseRt) (cs : List Call) : Type 0 where
   -- of whatever length: the tally is that of the history, every field (lictor_tally, specs/History, says of each what it holds, at its ceiling too)
-  pub whole : after r cs .tally ≡ tallyOf (historyFrom r cs)
+  pub whole : leftBy r cs .tally ≡ tallyOf (historyFrom r cs)
   -- below 2^32 ticks
-  pub states : length (verdictsFrom r cs) < 2 ^ 32 → StateCounts (after r cs .tally) (verdictsFrom r cs)
+  pub states : length (verdictsFrom r cs) < 2 ^ 32 → StateCounts (leftBy r cs .tally) (verdictsFrom r cs)
 
 -- after any calls, whatever their settings, refused ones among them
 pub record TalliesTold : Type 0 where

@@ -10,8 +10,8 @@ use lib.Ieee.{Float}
 use Rattle.lictor_fuse.specs.declared.decide.Decided.{Decided}
 use Rattle.journal_refusals.specs.declared.Refusal.{Refusal}
 use Rattle.journal_refusals.proofs.Exactly.{numbers}
-use Rattle.stream.specs.Stream.{wait, End, waiting, halted, telling, settled}
-use Rattle.journal_reader.specs.Reading.{nextOf}
+use Rattle.stream.specs.Stream.{wait, End, awaits, halted, telling, settled}
+use Rattle.journal_reader.specs.Reading.{onBytes}
 use Rattle.stream.proofs.Stream.{joined, settled-still, telling-telling}
 use Rattle.journal_reader.proofs.Reading.{waits-short}
 use Rattle.journal.specs.Tick.{Whole, wholeOf}
@@ -19,7 +19,7 @@ use Rattle.journal.specs.Journal.{replayOf}
 use Rattle.journal.proofs.Replay.{replay}
 use Rattle.journal.proofs.Ends.{waits-as}
 use Rattle.console.specs.Intake.{movedDown, Came}
-use Rattle.player.specs.declared.Turn.{Turn}
+use Rattle.player.specs.declared.Played.{Played}
 use Rattle.console.specs.declared.Round.{Round}
 use Rattle.player.specs.Play.{tickRoom, Fed}
 use Rattle.console.specs.Console.{numberAt, Rests, Taken, Rounded}
@@ -34,20 +34,20 @@ moved-front at have b h =
     let s = drop at (take have b) in
     take-at s (drop (length s) b) (have - at) (omega (arith, length-drop at (take have b), length-take-le have b h))
 
-pub taken-is : (code : ℕ) (w : Whole) (b : List ℕ) (have : ℕ) (out : List ℕ) (r : Turn) (l' : List Float) (b' out' : List ℕ) → have ≤ length b
+pub taken-is : (code : ℕ) (w : Whole) (b : List ℕ) (have : ℕ) (out : List ℕ) (r : Played) (l' : List Float) (b' out' : List ℕ) → have ≤ length b
     → Fed code w (take have b) out r l' out' → b' ≡ movedDown (r .at) have b → Taken code w (take have b) out r l' b' out'
 taken-is code w b have out r l' b' out' h t m = record { fed = t; moved = rw (length-take-le have b h, m) (moved-front (r .at) have b h) }
 
 -- ---- where a journal rests
 
 rest-read : (w : Whole) (s : List ℕ) (x : End Refusal) → settled replayOf w s ≡ record { state = w; rest = s; told = []; end = x } → 0 ≡ numberAt x → replayOf w s ≡ wait
-rest-read w s waiting e z = rw e at (settled-still replayOf replay w s)
+rest-read w s awaits e z = rw e at (settled-still replayOf replay w s)
 rest-read w s (halted r) e z = absurd (omega (arith, numbers r .0))
 
 -- where it only waits, it waits for the rest of a record
 pub rests-short : (w : Whole) (s : List ℕ) (n : ℕ) → n ≡ 0 → Rests w s n → length s ≤ 257
 unfolding replayOf
-rests-short w s n z q = waits-short (w .state) s (waits-as w (nextOf (w .state) s) (rest-read w s (q .end) (q .rests) (sym z ∙ q .number-is)))
+rests-short w s n z q = waits-short (w .state) s (waits-as w (onBytes (w .state) s) (rest-read w s (q .end) (q .rests) (sym z ∙ q .number-is)))
 
 -- ---- one round
 
@@ -60,7 +60,7 @@ more-bytes w s told w' s' t e =
     ∙ rw e (sym (telling-telling told (a .told) (settled replayOf (a .state) (a .rest ++ t))))
     ∙ ap (telling told) (sym (joined replayOf replay w' s' t))
 
-module _ (code : ℕ) (w : Whole) (s : List ℕ) (out : List ℕ) (t : Turn) (l' : List Float) (buf' out' : List ℕ) (p : Taken code w s out t l' buf' out') (have : ℕ) (k : length s ≡ have) where
+module _ (code : ℕ) (w : Whole) (s : List ℕ) (out : List ℕ) (t : Played) (l' : List Float) (buf' out' : List ℕ) (p : Taken code w s out t l' buf' out') (have : ℕ) (k : length s ≡ have) where
   abbrev left : ℕ
   left = have - t .at
 

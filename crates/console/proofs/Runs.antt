@@ -18,7 +18,7 @@ use Rattle.journal_refusals.specs.Table.{numberOf}
 use Rattle.journal_refusals.proofs.Exactly.{numbers}
 use Rattle.journal_reader.specs.declared.waiting.Reader.{Reader}
 use Rattle.journal_reader.specs.State.{startReader}
-use Rattle.stream.specs.Stream.{End, waiting, halted, Settled, telling, settled}
+use Rattle.stream.specs.Stream.{End, awaits, halted, Settled, telling, settled}
 use Rattle.journal.specs.declared.tick.Run.{Run}
 use Rattle.journal.specs.Tick.{Whole, wholeOf}
 use Rattle.journal.specs.Journal.{replayOf, startRun, startWhole, Ending, ended, refused, Meaning, endingOf, journalOf}
@@ -26,7 +26,7 @@ use Rattle.report.specs.Lines.{endText, refusedText}
 use Rattle.console.specs.declared.Round.{Round}
 use Rattle.console.specs.declared.Ended.{Ended}
 use Rattle.player.specs.Play.{eventsText}
-use Rattle.console.specs.Console.{numberAt, Rests, lastText, Rounded, textOf, endedOf, endNumber, endPlace, Ran, lastOf}
+use Rattle.console.specs.Console.{numberAt, Rests, lastText, Rounded, textOf, endedOf, endNumber, endPlace, Ran, lastLineOf}
 use Rattle.stream.proofs.Stream.{telling-telling}
 use Rattle.console.proofs.Rounds.{more-bytes}
 
@@ -110,10 +110,10 @@ module _ (b₀ : List ℕ) (r : Round) (l : List Float) (b : List ℕ) (place : 
   ended-by : (x : End Refusal) (u : List ℕ) → rest ≡ u → r .refused ≡ numberAt x → (e : Ended) → e ≡ endedOf (r .run) (r .refused) (r .have) place
       → journalOf s ≡ record { events = c .before .told; ending = endingOf place u x; left = last } → Ran e
   unfolding endedOf endNumber endPlace
-  ended-by waiting [] h m e q j =
+  ended-by awaits [] h m e q j =
       let k : r .have ≡ 0 = sym have-is ∙ ap length h in
       record { journal = s; refused-is = rw (q, j, m, k) refl; place-is = rw (q, j) (omega (arith, c .before .count, k)); run-is = rw (q, j) refl }
-  ended-by waiting (x ∷ u) h m e q j =
+  ended-by awaits (x ∷ u) h m e q j =
       let k : r .have ≡ suc (length u) = sym have-is ∙ ap length h in
       record { journal = s; refused-is = rw (q, j, m, k, ne-eqb (suc (length u)) 0 (λ z. omega (arith, z))) refl; place-is = rw (q, j) refl; run-is = rw (q, j) refl }
   ended-by (halted f) [] h m e q j =
@@ -134,16 +134,16 @@ round-less code w u have reads r l' b' out' before k e n false y = rw e (omega a
 
 -- ---- the last line
 
-last-by : (e : Ended) (t : Tally) (x : Ending) (s : List ℕ) → e .refused ≡ endNumber x → e .place ≡ endPlace s x → e .run .rt .tally ≡ t → lastOf e ≡ lastText t x
-unfolding lastOf lastText endNumber endPlace
+last-by : (e : Ended) (t : Tally) (x : Ending) (s : List ℕ) → e .refused ≡ endNumber x → e .place ≡ endPlace s x → e .run .rt .tally ≡ t → lastLineOf e ≡ lastText t x
+unfolding lastLineOf lastText endNumber endPlace
 last-by e t ended s p q m = rw (p, m) refl
 last-by e t (refused r k) s p q m = rw (p, q, ne-eqb (numberOf r) 0 (λ z. omega (arith, z, numbers r .0))) refl
 
 -- it is that of the journal
-pub last-is : (e : Ended) → (r : Ran e) → lastOf e ≡ lastText (journalOf (r .journal) .left .run .rt .tally) (journalOf (r .journal) .ending)
+pub last-is : (e : Ended) → (r : Ran e) → lastLineOf e ≡ lastText (journalOf (r .journal) .left .run .rt .tally) (journalOf (r .journal) .ending)
 last-is e r = last-by e _ _ (r .journal) (r .refused-is) (r .place-is) (ap (λ (x : Run). x .rt .tally) (r .run-is))
 
 -- what is printed for a journal: the text of its verdicts, and this line
-pub text-is : (code : ℕ) (e : Ended) → (r : Ran e) → textOf code (r .journal) ≡ eventsText code (journalOf (r .journal) .events) ++ lastOf e
+pub text-is : (code : ℕ) (e : Ended) → (r : Ran e) → textOf code (r .journal) ≡ eventsText code (journalOf (r .journal) .events) ++ lastLineOf e
 unfolding textOf
 text-is code e r = ap (λ (t : List ℕ). eventsText code (journalOf (r .journal) .events) ++ t) (sym (last-is e r))

@@ -12,12 +12,12 @@ use Rattle.lictor_fuse.specs.declared.decide.Decided.{Decided}
 use Rattle.journal_refusals.specs.declared.Refusal.{Refusal}
 use Rattle.journal_refusals.specs.declared.Refusal.the-variants.{CutBody}
 use Rattle.journal_refusals.specs.Table.{numberOf}
-use Rattle.stream.specs.Stream.{End, waiting, halted, telling, settled}
+use Rattle.stream.specs.Stream.{End, awaits, halted, telling, settled}
 use Rattle.journal.specs.declared.tick.Run.{Run}
 use Rattle.journal.specs.Tick.{Whole, wholeOf}
 use Rattle.journal.specs.Journal.{replayOf, Ending, ended, refused, journalOf}
 use Rattle.report.specs.Lines.{endText, refusedText}
-use Rattle.player.specs.declared.Turn.{Turn}
+use Rattle.player.specs.declared.Played.{Played}
 use Rattle.player.specs.Play.{eventsText, Fed}
 use Rattle.console.specs.declared.Round.{Round}
 use Rattle.console.specs.declared.Ended.{Ended}
@@ -37,7 +37,7 @@ textOf code s = let m = journalOf s in eventsText code (m .events) ++ lastText (
 
 -- why no more is to be had of some bytes, as a number: 0 where more bytes may come, or that of the refusal
 abbrev pub numberAt : End Refusal → ℕ
-numberAt waiting = 0
+numberAt awaits = 0
 numberAt (halted r) = numberOf r
 
 -- the journal w comes to rest at once, before all of s
@@ -47,12 +47,12 @@ pub record Rests (w : Whole) (s : List ℕ) (number : ℕ) : Type 0 where
   pub rests : settled replayOf w s ≡ record { state = w; rest = s; told = []; end = end }
 
 -- the bytes s were fed, and those that were not taken stand at the front of memory then
-pub record Taken (code : ℕ) (w : Whole) (s : List ℕ) (out : List ℕ) (r : Turn) (l' : List Float) (buf' out' : List ℕ) : Type 0 where
+pub record Taken (code : ℕ) (w : Whole) (s : List ℕ) (out : List ℕ) (r : Played) (l' : List Float) (buf' out' : List ℕ) : Type 0 where
   pub fed : Fed code w s out r l' out'
   pub moved : take (length s - r .at) buf' ≡ drop (r .at) s
 
 -- a round that came to t, with so many bytes at hand and reads left
-unfoldable pub roundOf : Turn → ℕ → ℕ → Bool → Round
+unfoldable pub roundOf : Played → ℕ → ℕ → Bool → Round
 roundOf t have reads more = record { reader = t .reader; run = t .run; taken = t .at; have = have; n = t .n; refused = t .refused; reads = reads; more = more }
 
 -- one round, with bytes s at hand: the bytes `came` were read, the ticks `told` were played, and their text stands at the front of memory. Where it is over, the journal rests.
@@ -94,5 +94,5 @@ pub record Ran (r : Ended) : Type 0 where
   pub run-is : r .run ≡ journalOf journal .left .run
 
 -- the last line
-unfoldable pub lastOf : Ended → List ℕ
-lastOf r = cond (eqb (r .refused) 0) (endText (r .run .rt .tally)) (refusedText (r .refused) (r .place))
+unfoldable pub lastLineOf : Ended → List ℕ
+lastLineOf r = cond (eqb (r .refused) 0) (endText (r .run .rt .tally)) (refusedText (r .refused) (r .place))

@@ -9,12 +9,12 @@ ghost use Rattle.text.specs.Line.{lineOf};
 ghost use Rattle.journal.specs.Tick.{wholeOf};
 ghost use Rattle.console.specs.Intake.{Came};
 ghost use Rattle.player.specs.Play.{tickRoom};
-ghost use Rattle.console.specs.Console.{Taken, roundOf, Rounded, endedOf, Ran, lastOf};
+ghost use Rattle.console.specs.Console.{Taken, roundOf, Rounded, endedOf, Ran, lastLineOf};
 use journal::tick::Run;
 use journal_reader::waiting::Reader;
 use journal_refusals::Refusal;
 use libc::STDOUT_FILENO;
-use player::Turn;
+use player::Played;
 use text::Line;
 
 // ---- part by part
@@ -34,7 +34,7 @@ fn take_in(
     buf: &mut [u8],
     have: usize,
     out: &mut [u8],
-) -> Turn
+) -> Played
     requires { ⌜ have ≤ length (now buf) ⌝ }
     ensures { λ r. ⌜ Taken code (wholeOf rd run (now (lists .entry))) (take have (now (buf .entry))) (now (out .entry)) r (now (lists .exit)) (now (buf .exit)) (now (out .exit)) ⌝ }
 {
@@ -68,7 +68,7 @@ struct Round {
 }
 
 // A round that came to t, with so many bytes at hand and reads left.
-fn round_of(t: Turn, have: usize, reads: u64, more: bool) -> Round
+fn round_of(t: Played, have: usize, reads: u64, more: bool) -> Round
     ensures { λ r. ⌜ r ≡ roundOf t have reads more ⌝ }
 {
     let reader = t.reader;
@@ -183,7 +183,7 @@ fn run_rounds(code: u8, lists: &mut [f64; 576], buf: &mut [u8], out: &mut [u8]) 
 
 // The last line of a journal.
 fn last_line(e: Ended) -> Line
-    ensures { λ r. ⌜ r ≡ lineOf (lastOf e) ⌝ }
+    ensures { λ r. ⌜ r ≡ lineOf (lastLineOf e) ⌝ }
 {
     let refused = e.refused;
     if refused != 0 {

@@ -18,9 +18,9 @@ use Rattle.lictor_core.proofs.verdict.SafetyVerdict as Ve
 use Rattle.lictor_core.proofs.verdict.SafetyVerdict.Laws as Ve′
 use Rattle.lictor_fuse.proofs.Ticked as Tk
 use Rattle.lictor_fuse.proofs.Ticked.Laws as Tk′
-use Rattle.host.specs.Host.{answerOf}
-use Rattle.host.proofs.Answer as An
-use Rattle.host.proofs.Answer.Laws as An′
+use Rattle.host.specs.Host.{hostAnswerOf}
+use Rattle.host.proofs.HostAnswer as An
+use Rattle.host.proofs.HostAnswer.Laws as An′
 use Rattle.lent.proofs.Call.{Parts}
 use Rattle.lent.proofs.Data.{Data, struct, vals}
 
@@ -51,11 +51,11 @@ parts = record {
   cv = λ r. EL.val Ck.the-type Ck′.the-laws (r .check);
   vv = λ r. LL.val Ve.the-type Ve′.the-laws (r .verdict);
   st = λ r. r .rt;
-  an = answerOf;
+  an = hostAnswerOf;
   R-ty = refl;
   Z-ty = refl;
   R-val = λ r. refl;
   Z-val = λ r. refl;
   st-of = λ r is. LL.owed Tk.the-type Tk′.the-laws r (vals R r) is .1 .0;
-  an-of = λ r is. LL.owes An.the-type An′.the-laws (answerOf r) (LL.owed Tk.the-type Tk′.the-laws r (vals R r) is .0, (LL.owed Tk.the-type Tk′.the-laws r (vals R r) is .1 .1 .0, tt));
+  an-of = λ r is. LL.owes An.the-type An′.the-laws (hostAnswerOf r) (LL.owed Tk.the-type Tk′.the-laws r (vals R r) is .0, (LL.owed Tk.the-type Tk′.the-laws r (vals R r) is .1 .1 .0, tt));
 }

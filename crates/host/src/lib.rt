@@ -4,7 +4,7 @@ ghost use mathlib.Core.Bool.{false};
 ghost use Rattle.lictor_core.specs.Initial.{resetOf};
 ghost use Rattle.lictor_settings.specs.Settings.{checkOf, checkNumber};
 ghost use Rattle.lictor_fuse.specs.Tick.{tickOf, isAccepted, noVerdict};
-ghost use Rattle.host.specs.Host.{answerOf, numberOf};
+ghost use Rattle.host.specs.Host.{hostAnswerOf, hostNumber};
 use lictor_core::envelope::Settings;
 use lictor_core::fuse::FuseRt;
 use lictor_core::fuse::TickInput;
@@ -13,7 +13,7 @@ use lictor_core::verdict::SafetyVerdict;
 use lictor_settings::SettingsCheck;
 
 // What a call answers: what the check of the settings says, and the verdict where it accepts them.
-pub struct Answer {
+pub struct HostAnswer {
     pub check: SettingsCheck,
     pub verdict: SafetyVerdict,
 }
@@ -37,14 +37,14 @@ pub fn tick(
     aux: &[f64],
     ext: &[f64],
     chunk: &[f64],
-) -> Answer
-    ensures { λ r. ⌜ (r ≡ answerOf (tickOf s (now (rt .entry)) inp out (now (pos .entry)) (now (vel .entry)) (now (aux .entry)) (now (ext .entry)) (now (chunk .entry))))
+) -> HostAnswer
+    ensures { λ r. ⌜ (r ≡ hostAnswerOf (tickOf s (now (rt .entry)) inp out (now (pos .entry)) (now (vel .entry)) (now (aux .entry)) (now (ext .entry)) (now (chunk .entry))))
         × (now (rt .exit) ≡ tickOf s (now (rt .entry)) inp out (now (pos .entry)) (now (vel .entry)) (now (aux .entry)) (now (ext .entry)) (now (chunk .entry)) .rt)
-        × (isAccepted (checkOf s) ≡ false → (numberOf r ≡ checkNumber (checkOf s)) × (r .verdict ≡ noVerdict) × (now (rt .exit) ≡ now (rt .entry))) ⌝ }
+        × (isAccepted (checkOf s) ≡ false → (hostNumber r ≡ checkNumber (checkOf s)) × (r .verdict ≡ noVerdict) × (now (rt .exit) ≡ now (rt .entry))) ⌝ }
 {
     let t = lictor_fuse::tick(s, *rt, inp, out, pos, vel, aux, ext, chunk);
     *rt = t.rt;
-    Answer {
+    HostAnswer {
         check: t.check,
         verdict: t.verdict,
     }

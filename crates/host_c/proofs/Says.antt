@@ -16,7 +16,7 @@ use Rattle.host_layout.specs.State.{stateIn}
 use Rattle.host_layout.specs.Verdict.{verdictOut}
 use Rattle.host_c.specs.declared.Answer.{Answer}
 use Rattle.host_c.specs.declared.Called.{Called}
-use Rattle.host_c.specs.Call.{steppedOf, callOf, calledOf, answerOf}
+use Rattle.host_c.specs.Call.{tickedOut, callOf, calledOf, answerOf}
 use Rattle.host_c.proofs.Refused.{refused-fields, answer-same}
 
 abbrev pub ticked : Settings → RunState → Input → Outcome → Fs → Ticked
@@ -28,6 +28,6 @@ given s h i u l = calledOf h s i u (l .0) (l .1 .0) (l .1 .1 .0) (l .1 .1 .1 .0)
 abbrev pub Says : RunState → Settings → Input → Outcome → Fs → Answer → RunState → Type 0
 Says h s i u l a z = (a ≡ answerOf (given s h i u l)) × (z ≡ given s h i u l .rt) × (isAccepted (checkOf (settingsIn s)) ≡ false → (a .number ≡ checkNumber (checkOf (settingsIn s))) × (a .verdict ≡ verdictOut noVerdict) × (z ≡ h))
 
-pub told : (h : RunState) (s : Settings) (i : Input) (u : Outcome) (l : Fs) (z : RunState) → z ≡ given s h i u l .rt → Says h s i u l (answerOf (steppedOf (ticked s h i u l))) z
-unfolding steppedOf callOf
+pub told : (h : RunState) (s : Settings) (i : Input) (u : Outcome) (l : Fs) (z : RunState) → z ≡ given s h i u l .rt → Says h s i u l (answerOf (tickedOut (ticked s h i u l))) z
+unfolding tickedOut callOf
 told h s i u l z e = (answer-same h (ticked s h i u l), e, λ bad. let x = refused-fields h (settingsIn s) (stateIn h) (inputIn i) (outcomeIn u) (l .0) (l .1 .0) (l .1 .1 .0) (l .1 .1 .1 .0) (l .1 .1 .1 .1 .0) bad in (x .0, x .1, e ∙ x .2))

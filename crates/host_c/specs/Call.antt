@@ -25,8 +25,8 @@ abbrev pub refusalOf : SettingsCheck → Answer
 refusalOf c = record { number = checkNumber c; verdict = verdictOut noVerdict }
 
 -- what the fuse gives, as numbers
-unfoldable pub steppedOf : Ticked → Called
-steppedOf t = record { number = checkNumber (t .check); rt = stateOut (t .rt); verdict = verdictOut (t .verdict) }
+unfoldable pub tickedOut : Ticked → Called
+tickedOut t = record { number = checkNumber (t .check); rt = stateOut (t .rt); verdict = verdictOut (t .verdict) }
 
 -- a refused call keeps every field of the run state, as it was lent
 unfoldable pub keptOf : ℕ → RunState → RunState → RunState

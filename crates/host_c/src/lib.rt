@@ -6,7 +6,7 @@ ghost use Rattle.fmath.specs.Root.{rootOf};
 ghost use Rattle.lictor_core.specs.Initial.{newOf};
 ghost use Rattle.lictor_settings.specs.Settings.{checkOf, checkNumber};
 ghost use Rattle.lictor_fuse.specs.Tick.{acceptedTick, givenOf, isAccepted, noVerdict};
-ghost use Rattle.host_c.specs.Call.{refusalOf, steppedOf, calledOf, answerOf, resetRun};
+ghost use Rattle.host_c.specs.Call.{refusalOf, tickedOut, calledOf, answerOf, resetRun};
 ghost use Rattle.host_layout.specs.Input.{settingsIn, inputIn, outcomeIn};
 ghost use Rattle.host_layout.specs.State.{stateIn, stateOut};
 ghost use Rattle.host_layout.specs.Verdict.{verdictOut};
@@ -55,7 +55,7 @@ fn refusal(s: Settings) -> Answer
 }
 
 fn packed(d: Decided) -> Called
-    ensures { λ r. ⌜ r ≡ steppedOf (givenOf d) ⌝ }
+    ensures { λ r. ⌜ r ≡ tickedOut (givenOf d) ⌝ }
 {
     let z = d.rt;
     let rt = state_out(z);
@@ -69,7 +69,7 @@ fn packed(d: Decided) -> Called
 }
 
 // One tick from numbers to numbers, with settings that are accepted.
-fn stepped(
+fn ticked_out(
     s: Settings,
     rt: RunState,
     inp: Input,
@@ -80,7 +80,7 @@ fn stepped(
     ext: &[f64],
     chunk: &[f64],
 ) -> Called
-    ensures { λ r. ⌜ r ≡ steppedOf (acceptedTick (settingsIn s) (stateIn rt) (inputIn inp) (outcomeIn out) (now (pos .entry)) (now (vel .entry)) (now (aux .entry)) (now (ext .entry)) (now (chunk .entry))) ⌝ }
+    ensures { λ r. ⌜ r ≡ tickedOut (acceptedTick (settingsIn s) (stateIn rt) (inputIn inp) (outcomeIn out) (now (pos .entry)) (now (vel .entry)) (now (aux .entry)) (now (ext .entry)) (now (chunk .entry))) ⌝ }
 {
     let g = settings_in(s);
     let cfg = config(g);
@@ -119,7 +119,7 @@ fn ticked(
     if a.number != 0 {
         return a;
     }
-    let t = stepped(s, *rt, inp, out, pos, vel, aux, ext, chunk);
+    let t = ticked_out(s, *rt, inp, out, pos, vel, aux, ext, chunk);
     *rt = t.rt;
     Answer {
         number: t.number,

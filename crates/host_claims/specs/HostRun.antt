@@ -7,7 +7,7 @@ use Rattle.lictor_core.specs.Initial.{resetOf}
 use Rattle.lictor_core.specs.declared.fuse.FuseRt.{FuseRt}
 use Rattle.lictor_fuse.specs.declared.Ticked.{Ticked}
 use Rattle.claims.specs.Runs.{All}
-use Rattle.claims.specs.Calls.{Call, Under, answerOf, ticksFrom}
+use Rattle.claims.specs.Calls.{Call, Under, tickAnswer, ticksFrom}
 use Rattle.claims.specs.Demand3.{Sized, Demand3}
 use Rattle.host_layout.specs.declared.input.Settings.{Settings}
 use Rattle.host_layout.specs.declared.input.Input.{Input}
@@ -16,7 +16,7 @@ use Rattle.host_layout.specs.declared.state.RunState.{RunState}
 use Rattle.host_layout.specs.Input.{settingsIn, inputIn, outcomeIn}
 use Rattle.host_layout.specs.State.{stateIn}
 use Rattle.host_c.specs.declared.Called.{Called}
-use Rattle.host_c.specs.Call.{steppedOf, calledOf, resetRun}
+use Rattle.host_c.specs.Call.{tickedOut, calledOf, resetRun}
 
 -- what a host hands to `disklorva_tick` beside the run state
 pub record HostCall : Type 0 where
@@ -45,16 +45,16 @@ answeredFrom rt (h ∷ hs) = answered rt h ∷ answeredFrom (answered rt h .rt) 
 -- the same of the fuse itself
 abbrev pub answersFrom : FuseRt → List Call → List Ticked
 answersFrom r [] = []
-answersFrom r (c ∷ cs) = answerOf r c ∷ answersFrom (answerOf r c .rt) cs
+answersFrom r (c ∷ cs) = tickAnswer r c ∷ answersFrom (tickAnswer r c .rt) cs
 
 -- From a reset on, whatever numbers were lent for it: number, run state and verdict of each call are those of the fuse's own run.
 abbrev pub HostRun : Type 0
-HostRun = (rt : RunState) (hs : List HostCall) → answeredFrom (resetRun rt) hs ≡ map steppedOf (answersFrom (resetOf (stateIn rt)) (map meant hs))
+HostRun = (rt : RunState) (hs : List HostCall) → answeredFrom (resetRun rt) hs ≡ map tickedOut (answersFrom (resetOf (stateIn rt)) (map meant hs))
 
 -- Of calls under one settings record s, refused ones among them: the library's answers are those of the fuse's own run, and of the ticks of that run the four parts of
 -- demand 3 hold. (That s is sized: every record that the code holds is, as `sized` of claims promises.)
 pub record HostStops (s : Settings) (rt : RunState) (hs : List HostCall) : Type 0 where
-  pub answers : answeredFrom (resetRun rt) hs ≡ map steppedOf (answersFrom (resetOf (stateIn rt)) (map meant hs))
+  pub answers : answeredFrom (resetRun rt) hs ≡ map tickedOut (answersFrom (resetOf (stateIn rt)) (map meant hs))
   pub stops : Demand3 (settingsIn s) (ticksFrom (resetOf (stateIn rt)) (map meant hs))
 
 abbrev pub HostsStop : Type 0

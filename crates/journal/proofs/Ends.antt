@@ -13,11 +13,11 @@ use Rattle.journal_refusals.specs.declared.Refusal.{Refusal}
 use Rattle.journal_refusals.specs.declared.Refusal.the-variants.{CutBody}
 use Rattle.journal_refusals.specs.declared.Judged.{Judged}
 use Rattle.journal_refusals.specs.declared.Judged.the-variants.{Accepted, Refused}
-use Rattle.journal_refusals.specs.Table.{isCut}
+use Rattle.journal_refusals.specs.Table.{isCutBody}
 use Rattle.journal_refusals.proofs.Exactly.{numbers, cut-only}
-use Rattle.stream.specs.Stream.{Next, wait, halt, go, tell, End, waiting, halted, Settled, telling, settled}
+use Rattle.stream.specs.Stream.{Next, wait, halt, go, tell, End, awaits, halted, Settled, telling, settled}
 use Rattle.journal_reader.specs.State.{State}
-use Rattle.journal_reader.specs.Reading.{Instruction, begin, restart, tick, nextOf}
+use Rattle.journal_reader.specs.Reading.{Instruction, begin, restart, tick, onBytes}
 use Rattle.stream.proofs.Stream.{joined, settled-wait, settled-halt, settled-still, Front, front}
 use Rattle.journal_reader.proofs.Reading.{next-refused, halted-judged, waiting-judged}
 use Rattle.journal.specs.Tick.{Whole}
@@ -63,22 +63,22 @@ module _ (w : Whole) (s : List ℕ) (p : ℕ) (h : p < length s) where
   pub halted-at : (r : Refusal) → replayOf w (drop p s) ≡ halt r → judgedAt w s p ≡ Refused r
   unfolding judgedAt replayOf
   halted-at r e =
-      let n : nextOf (w .state) (byteAt s p ∷ drop (p + 1) s) ≡ halt r = rw (at-place s p h) at (halts-as w (nextOf (w .state) (drop p s)) r e) in
+      let n : onBytes (w .state) (byteAt s p ∷ drop (p + 1) s) ≡ halt r = rw (at-place s p h) at (halts-as w (onBytes (w .state) (drop p s)) r e) in
       halted-judged (w .state) (byteAt s p) (drop (p + 1) s) r n
 
   -- one that waits there has a record that is cut
   pub waiting-at : replayOf w (drop p s) ≡ wait → judgedAt w s p ≡ Refused CutBody
   unfolding judgedAt replayOf
   waiting-at e =
-      let n : nextOf (w .state) (byteAt s p ∷ drop (p + 1) s) ≡ wait = rw (at-place s p h) at (waits-as w (nextOf (w .state) (drop p s)) e) in
+      let n : onBytes (w .state) (byteAt s p ∷ drop (p + 1) s) ≡ wait = rw (at-place s p h) at (waits-as w (onBytes (w .state) (drop p s)) e) in
       waiting-judged (w .state) (byteAt s p) (drop (p + 1) s) n
 
   -- and what the table turns away, the journal halts at, or waits for where it is cut
-  refused-at : (r : Refusal) → judgedAt w s p ≡ Refused r → replayOf w (drop p s) ≡ obeyed w (cond (isCut r) wait (halt r))
+  refused-at : (r : Refusal) → judgedAt w s p ≡ Refused r → replayOf w (drop p s) ≡ obeyed w (cond (isCutBody r) wait (halt r))
   unfolding judgedAt
   refused-at r e =
-      replay-is w (drop p s) (cond (isCut r) wait (halt r))
-      (ap (nextOf (w .state)) (at-place s p h) ∙ next-refused (w .state) (byteAt s p) (drop (p + 1) s) r e)
+      replay-is w (drop p s) (cond (isCutBody r) wait (halt r))
+      (ap (onBytes (w .state)) (at-place s p h) ∙ next-refused (w .state) (byteAt s p) (drop (p + 1) s) r e)
 
 -- ---- a whole journal
 
@@ -131,9 +131,9 @@ no-refusal s e back p h b (Refused r) c =
 -- ---- the other way: what the table turns away is refused, at its place
 
 -- a journal that ends with `ended` has settled with nothing left
-ended-by : (p : ℕ) (rest : List ℕ) (x : End Refusal) → endingOf p rest x ≡ ended → (rest ≡ []) × (x ≡ waiting)
-ended-by p [] waiting e = (refl, refl)
-ended-by p (k ∷ u) waiting e = absurd (let z : _≡_ {A = ℕ} 0 1 = cc in omega arith)
+ended-by : (p : ℕ) (rest : List ℕ) (x : End Refusal) → endingOf p rest x ≡ ended → (rest ≡ []) × (x ≡ awaits)
+ended-by p [] awaits e = (refl, refl)
+ended-by p (k ∷ u) awaits e = absurd (let z : _≡_ {A = ℕ} 0 1 = cc in omega arith)
 ended-by p [] (halted r) e = absurd (let z : _≡_ {A = ℕ} 0 1 = cc in omega arith)
 ended-by p (k ∷ u) (halted r) e = absurd (let z : _≡_ {A = ℕ} 0 1 = cc in omega arith)
 
@@ -159,11 +159,11 @@ module _ (s : List ℕ) (p : ℕ) (h : p < length s) where
       ∙ ap (λ (u : List ℕ). endingOf p u x) (at-place s p h)
       ∙ d p (byteAt s p) (drop (p + 1) s)
 
-  refused-by : (r : Refusal) (t : Bool) → isCut r ≡ t → up-to .rest ≡ [] → judgedAt (up-to .state) s p ≡ Refused r → journalOf s .ending ≡ refused r p
+  refused-by : (r : Refusal) (t : Bool) → isCutBody r ≡ t → up-to .rest ≡ [] → judgedAt (up-to .state) s p ≡ Refused r → journalOf s .ending ≡ refused r p
   unfolding obeyed
   refused-by r true t e c =
       let n : replayOf (up-to .state) (drop p s) ≡ wait = rw t at (refused-at (up-to .state) s p h r c) in
-      settles-at waiting r e (settled-wait replayOf (replay .there) (up-to .state) (drop p s) n) (λ q k u. ap (λ (x : Refusal). refused x q) (sym (cut-only r t)))
+      settles-at awaits r e (settled-wait replayOf (replay .there) (up-to .state) (drop p s) n) (λ q k u. ap (λ (x : Refusal). refused x q) (sym (cut-only r t)))
   refused-by r false t e c =
       let n : replayOf (up-to .state) (drop p s) ≡ halt r = rw t at (refused-at (up-to .state) s p h r c) in
       settles-at (halted r) r e (settled-halt replayOf (replay .there) (up-to .state) (drop p s) r n) (λ q k u. refl)
@@ -173,16 +173,16 @@ pub turned-away-refused : (s : List ℕ) (r : Refusal) (p : ℕ) → TurnedAway 
 unfolding journalOf
 turned-away-refused s r p t =
     let b = ended-by (length (take p s) - length (up-to s p (t .inside) .rest)) (up-to s p (t .inside) .rest) (up-to s p (t .inside) .end) (t .before) in
-    refused-by s p (t .inside) r (isCut r) refl (b .0) (t .cause)
+    refused-by s p (t .inside) r (isCutBody r) refl (b .0) (t .cause)
 
 -- ---- demand 1
 
 ends-by : (s : List ℕ) (rest : List ℕ) (x : End Refusal) → settled replayOf startWhole s .rest ≡ rest → settled replayOf startWhole s .end ≡ x → Ends s
 unfolding journalOf
-ends-by s [] waiting e g =
+ends-by s [] awaits e g =
     let q : journalOf s .ending ≡ ended = rw (e, g) refl in
     with-end q (λ p h b. no-refusal s q (turned-away-refused s) p h b _ refl)
-ends-by s (k ∷ u) waiting e g =
+ends-by s (k ∷ u) awaits e g =
     let a = settled replayOf startWhole s in
     let f = front replayOf replay startWhole s in
     let h = rest-inside s (f .place) k u (sym e ∙ f .rest-is) in

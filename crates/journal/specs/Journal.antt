@@ -14,12 +14,12 @@ use Rattle.journal_records.specs.Kinds.{journalKinds, bodyLen}
 use Rattle.journal_records.specs.Long.{settingsOf}
 use Rattle.journal_refusals.specs.declared.Refusal.{Refusal}
 use Rattle.journal_refusals.specs.declared.Refusal.the-variants.{CutBody}
-use Rattle.stream.specs.Stream.{Next, wait, halt, go, tell, End, waiting, halted, settled, advanced, Reached, goesOn}
+use Rattle.stream.specs.Stream.{Next, wait, halt, go, tell, End, awaits, halted, settled, advanced, Reached, goesOn}
 use Rattle.journal_reader.specs.declared.waiting.Reader.{Reader}
 use Rattle.journal_reader.specs.declared.What.{What}
 use Rattle.journal_reader.specs.declared.What.the-variants as W
 use Rattle.journal_reader.specs.State.{State, settingsCame, emptied, startReader}
-use Rattle.journal_reader.specs.Reading.{Instruction, begin, restart, tick, nextOf}
+use Rattle.journal_reader.specs.Reading.{Instruction, begin, restart, tick, onBytes}
 use Rattle.journal.specs.declared.tick.Run.{Run}
 use Rattle.journal.specs.Tick.{decidedOf, tickedOf, Whole, wholeOf}
 use Rattle.journal.specs.declared.How.{How}
@@ -51,7 +51,7 @@ obeyed w (go st n) = go (record { state = st; run = w .run }) n
 obeyed w (tell st n i) = obey w st n i
 
 unfoldable pub replayOf : Whole → List ℕ → Next Whole Decided Refusal
-replayOf w s = obeyed w (nextOf (w .state) s)
+replayOf w s = obeyed w (onBytes (w .state) s)
 
 -- ---- a whole journal
 
@@ -75,8 +75,8 @@ pub record Meaning : Type 0 where
 
 -- at place p, with these bytes left: a record whose body the end cuts is refused too
 abbrev pub endingOf : ℕ → List ℕ → End Refusal → Ending
-endingOf p [] waiting = ended
-endingOf p (k ∷ s) waiting = refused CutBody p
+endingOf p [] awaits = ended
+endingOf p (k ∷ s) awaits = refused CutBody p
 endingOf p s (halted r) = refused r p
 
 unfoldable pub journalOf : List ℕ → Meaning
@@ -103,7 +103,7 @@ advancedOf w s =
       reader = a .state .state .reader;
       run = a .state .run;
       used = a .used;
-      how = howOf (nextOf (a .state .state) (drop (a .used) s));
+      how = howOf (onBytes (a .state .state) (drop (a .used) s));
     }
 
 unfoldable pub listsAfter : Whole → List ℕ → List Float
@@ -133,4 +133,4 @@ pub record Stepped (w : Whole) (s : List ℕ) (at : ℕ) (r : Step) (l' : List F
   pub reached : Reached replayOf w s at (wholeOf (r .reader) (r .run) l') (r .at)
   pub further : r .more ≡ true → at < r .at
   pub stops : r .more ≡ false → goesOn (replayOf (wholeOf (r .reader) (r .run) l') (drop (r .at) s)) ≡ false
-  pub how : r .more ≡ false → r .how ≡ howOf (nextOf (record { reader = r .reader; lists = l' }) (drop (r .at) s))
+  pub how : r .more ≡ false → r .how ≡ howOf (onBytes (record { reader = r .reader; lists = l' }) (drop (r .at) s))

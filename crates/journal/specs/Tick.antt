@@ -6,11 +6,11 @@ use Rattle.lictor_fuse.specs.declared.decide.Decided.{Decided}
 use Rattle.lictor_fuse.specs.Decide.{decideOf}
 use Rattle.journal_reader.specs.declared.waiting.Reader.{Reader}
 use Rattle.journal_reader.specs.State.{State, emptied}
-use Rattle.journal_reader.specs.Reading.{Call, callOf}
+use Rattle.journal_reader.specs.Reading.{Brought, broughtOf}
 use Rattle.journal.specs.declared.tick.Run.{Run}
-use Rattle.journal.specs.declared.tick.Ticked.{Ticked}
+use Rattle.journal.specs.declared.tick.JournalTicked.{JournalTicked}
 
-unfoldable pub decidedOf : Run → Call → Decided
+unfoldable pub decidedOf : Run → Brought → Decided
 decidedOf r c = decideOf (r .config) (r .rt) (c .input) (c .outcome) (c .pos) (c .vel) (c .aux) (c .ext) (c .chunk)
 
 unfoldable pub tickedOf : Run → Decided → Run
@@ -25,7 +25,7 @@ abbrev pub wholeOf : Reader → Run → List Float → Whole
 wholeOf rd run l = record { state = record { reader = rd; lists = l }; run = run }
 
 -- a tick: its verdict, the fuse after it, and the reader with nothing that waits
-unfoldable pub journalTick : Whole → TickInput → Ticked
+unfoldable pub journalTick : Whole → TickInput → JournalTicked
 journalTick w input =
-    let d = decidedOf (w .run) (callOf (w .state) input) in
+    let d = decidedOf (w .run) (broughtOf (w .state) input) in
     record { reader = emptied (w .state .reader); run = tickedOf (w .run) d; verdict = d .verdict }

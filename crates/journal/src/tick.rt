@@ -3,7 +3,7 @@ ghost use mathlib.Core.Path.{_≡_};
 ghost use Prim.Native.Nat.{_<_};
 ghost use lib.ListN.{length};
 ghost use Rattle.journal_reader.specs.State.{valuesOf};
-ghost use Rattle.journal_reader.specs.Reading.{callOf};
+ghost use Rattle.journal_reader.specs.Reading.{broughtOf};
 ghost use Rattle.journal.specs.Tick.{decidedOf, wholeOf, journalTick};
 use journal_reader::waiting::Reader;
 use journal_refusals::Seen;
@@ -20,7 +20,7 @@ pub struct Run {
     pub rt: FuseRt,
 }
 
-pub struct Ticked {
+pub struct JournalTicked {
     pub reader: Reader,
     pub run: Run,
     pub verdict: SafetyVerdict,
@@ -39,7 +39,7 @@ fn values(seen: Seen, lists: &[f64], c: usize) -> &[f64]
 }
 
 fn decide_on(rd: Reader, run: Run, lists: &[f64; 576], inp: TickInput) -> Decided
-    ensures { λ r. ⌜ r ≡ decidedOf run (callOf (record { reader = rd; lists = now (lists .entry) }) inp) ⌝ }
+    ensures { λ r. ⌜ r ≡ decidedOf run (broughtOf (record { reader = rd; lists = now (lists .entry) }) inp) ⌝ }
 {
     let w = rd.waiting;
     let seen = w.seen;
@@ -61,7 +61,7 @@ fn decide_on(rd: Reader, run: Run, lists: &[f64; 576], inp: TickInput) -> Decide
 }
 
 // The tick that comes next, on all that was collected.
-pub fn tick(rd: Reader, run: Run, lists: &[f64; 576], inp: TickInput) -> Ticked
+pub fn tick(rd: Reader, run: Run, lists: &[f64; 576], inp: TickInput) -> JournalTicked
     ensures { λ r. ⌜ r ≡ journalTick (wholeOf rd run (now (lists .entry))) inp ⌝ }
 {
     let d = decide_on(rd, run, lists, inp);
@@ -70,7 +70,7 @@ pub fn tick(rd: Reader, run: Run, lists: &[f64; 576], inp: TickInput) -> Ticked
     let verdict = d.verdict;
     let after = Run { config, rt };
     let reader = journal_reader::waiting::emptied(rd);
-    Ticked {
+    JournalTicked {
         reader,
         run: after,
         verdict,

@@ -4,24 +4,24 @@ use mathlib.Core.List.{List, [], _∷_, _++_, map, append-assoc}
 use Prim.Native.Nat.{ℕ}
 use native.Mathlib.Omega.{arith}
 use Rattle.lictor_core.specs.declared.envelope.Settings.{Settings}
-use Rattle.journal_reader.specs.Reading.{Call, Instruction, begin, restart, tick}
+use Rattle.journal_reader.specs.Reading.{Brought, Instruction, begin, restart, tick}
 use Rattle.journal_claims.specs.JournalStops.{Opens, EndsWith}
 
 -- one tick more
-one-tick : (cs : List Call) (d : Call) (is : List Instruction) → map tick cs ++ (tick d ∷ is) ≡ map tick (cs ++ (d ∷ [])) ++ is
+one-tick : (cs : List Brought) (d : Brought) (is : List Instruction) → map tick cs ++ (tick d ∷ is) ≡ map tick (cs ++ (d ∷ [])) ++ is
 one-tick [] d is = refl
 one-tick (c ∷ cs) d is = ap (λ (l : List Instruction). tick c ∷ l) (one-tick cs d is)
 
-module _ (c : Call) (later : List Instruction) where
+module _ (c : Brought) (later : List Instruction) where
   -- with the opening i and the ticks cs behind `pre`, and then more, up to c
-  abbrev Found : List Instruction → Instruction → List Call → List Instruction → Type 0
+  abbrev Found : List Instruction → Instruction → List Brought → List Instruction → Type 0
   Found pre i cs more = EndsWith (pre ++ (i ∷ (map tick cs ++ (more ++ (tick c ∷ later))))) c later
 
   -- the next opening takes its place
-  anew : (pre : List Instruction) (i : Instruction) (cs : List Call) (j : Instruction) (more : List Instruction) → Found (pre ++ (i ∷ map tick cs)) j [] more → Found pre i cs (j ∷ more)
+  anew : (pre : List Instruction) (i : Instruction) (cs : List Brought) (j : Instruction) (more : List Instruction) → Found (pre ++ (i ∷ map tick cs)) j [] more → Found pre i cs (j ∷ more)
   anew pre i cs j more f = subst (λ (l : List Instruction). EndsWith l c later) (append-assoc pre (i ∷ map tick cs) (j ∷ (more ++ (tick c ∷ later)))) f
 
-  find : (more pre : List Instruction) (i : Instruction) (cs : List Call) → Opens i → Found pre i cs more
+  find : (more pre : List Instruction) (i : Instruction) (cs : List Brought) → Opens i → Found pre i cs more
   find [] pre i cs o =
       record {
         before = pre;

@@ -14,11 +14,11 @@ use Rattle.lictor_fuse.specs.declared.decide.Decided.{Decided}
 use Rattle.lictor_fuse.specs.Tick.{givenOf}
 use Rattle.claims.specs.Runs.{All, Step, andThen}
 use Rattle.claims.specs.Calls as C
-use Rattle.claims.specs.Calls.{Under, accepted, ticksFrom}
+use Rattle.claims.specs.Calls.{Under, passes, ticksFrom}
 use Rattle.claims.specs.Demand3.{Sized, Demand3}
 use Rattle.claims.proofs.Tick.{by-step}
 use Rattle.claims.proofs.Demand3.{stops-from, faults-from, rearms-from, acks-from, stops-close}
-use Rattle.journal_reader.specs.Reading.{Call, Instruction, begin, restart, tick}
+use Rattle.journal_reader.specs.Reading.{Brought, Instruction, begin, restart, tick}
 use Rattle.journal.specs.declared.tick.Run.{Run}
 use Rattle.journal.specs.Tick.{decidedOf, tickedOf}
 use Rattle.journal.specs.Journal.{begunOf, restartedOf, startRun}
@@ -67,13 +67,13 @@ configured (j ∷ is) i js r w rest e n =
 -- ---- the ticks of an episode as calls of `tick`
 
 module _ (w : Settings) (k : checkOf w ≡ Accepted) where
-  passes : (c : Call) → T (accepted (callUnder w c))
+  passes : (c : Brought) → T (passes (callUnder w c))
   passes c = rw k tt
 
   abbrev runOf : FuseRt → Run
   runOf r = record { config = configOf w; rt = r }
 
-  ticks-answered : (cs : List Call) (r : FuseRt) → played (runOf r) (map tick cs) ≡ answersFrom r (map (callUnder w) cs)
+  ticks-answered : (cs : List Brought) (r : FuseRt) → played (runOf r) (map tick cs) ≡ answersFrom r (map (callUnder w) cs)
   unfolding decidedOf tickedOf givenOf
   ticks-answered [] r = refl
   ticks-answered (c ∷ cs) r =
@@ -81,9 +81,9 @@ module _ (w : Settings) (k : checkOf w ≡ Accepted) where
       by-step answerIn
       (λ r′ (x : Step FuseRt Decided). played (runOf r) (map tick (c ∷ cs)) ≡ andThen x (λ (r″ : FuseRt). answersFrom r″ (map (callUnder w) cs))) r (callUnder w c)
       (λ h. ap (λ (l : List Decided). d ∷ l) (ticks-answered cs (d .rt)))
-      (λ h. absurd (T-not (accepted (callUnder w c)) h (passes c)))
+      (λ h. absurd (T-not (passes (callUnder w c)) h (passes c)))
 
-  all-under : (cs : List Call) → All (Under w) (map (callUnder w) cs)
+  all-under : (cs : List Brought) → All (Under w) (map (callUnder w) cs)
   all-under [] = tt
   all-under (c ∷ cs) = (λ h. refl, all-under cs)
 
@@ -129,7 +129,7 @@ module _ (s : List ℕ) (w : Settings) (b : SettledBy w (instructionsOf s)) (e :
         closes = opened-stops w (b .sized) (leftBy startRun (e .before)) (e .opening) (n .opens) (callsOf w e) (all-under w (b .check) (e .ticks));
       }
 
-tick-inside : (is before : List Instruction) (c : Call) (later : List Instruction) (w : Settings) (rest : List Instruction)
+tick-inside : (is before : List Instruction) (c : Brought) (later : List Instruction) (w : Settings) (rest : List Instruction)
     → is ≡ before ++ (tick c ∷ later) → is ≡ begin w ∷ rest → EndsWith is c later
 tick-inside is before c later w rest e f =
     subst (λ (l : List Instruction). EndsWith l c later) (sym e) (behind-settings c later before w rest (sym e ∙ f))

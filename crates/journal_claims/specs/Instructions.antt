@@ -5,14 +5,14 @@ use mathlib.Core.List.{List, [], _∷_, _++_}
 use Prim.Native.Nat.{ℕ}
 use Rattle.lictor_fuse.specs.declared.decide.Decided.{Decided}
 use Rattle.stream.specs.Stream.{settled}
-use Rattle.journal_reader.specs.Reading.{Instruction, begin, restart, tick, nextOf}
+use Rattle.journal_reader.specs.Reading.{Instruction, begin, restart, tick, onBytes}
 use Rattle.journal.specs.declared.tick.Run.{Run}
 use Rattle.journal.specs.Tick.{decidedOf, tickedOf}
 use Rattle.journal.specs.Journal.{begunOf, restartedOf, startWhole}
 
 -- The instructions of a journal up to its end, or up to the record that is turned away. The run state has no part in them (journal_reader, specs/Reading).
 unfoldable pub instructionsOf : List ℕ → List Instruction
-instructionsOf s = settled nextOf (startWhole .state) s .told
+instructionsOf s = settled onBytes (startWhole .state) s .told
 
 -- the fuse after an instruction, and after a list of them
 abbrev pub leaves : Run → Instruction → Run

@@ -15,7 +15,7 @@ use Rattle.claims.specs.Runs.{All, trace}
 use Rattle.claims.specs.Calls as C
 use Rattle.claims.specs.Calls.{stepOf, ticksFrom}
 use Rattle.claims.specs.Demand3.{Sized, Demand3}
-use Rattle.journal_reader.specs.Reading.{Call, Instruction, begin, restart, tick}
+use Rattle.journal_reader.specs.Reading.{Brought, Instruction, begin, restart, tick}
 use Rattle.journal.specs.declared.tick.Run.{Run}
 use Rattle.journal.specs.Journal.{startRun, journalOf}
 use Rattle.journal_claims.specs.Instructions.{instructionsOf, leaves, leftBy, played}
@@ -46,7 +46,7 @@ pub record SettledBy (w : Settings) (is : List Instruction) : Type 0 where
 pub record Episode : Type 0 where
   pub before : List Instruction
   pub opening : Instruction
-  pub ticks : List Call
+  pub ticks : List Brought
   pub later : List Instruction
 
 abbrev pub Opens : Instruction → Type 0
@@ -64,7 +64,7 @@ abbrev pub opened : Episode → Run
 opened e = leaves (leftBy startRun (e .before)) (e .opening)
 
 -- a tick of a journal as a call of `tick`, with the settings w
-abbrev pub callUnder : Settings → Call → C.Call
+abbrev pub callUnder : Settings → Brought → C.Call
 callUnder w c =
     record {
       settings = w;
@@ -97,10 +97,10 @@ pub record EpisodeStops (s : List ℕ) (w : Settings) (e : Episode) : Type 0 whe
   pub closes : Demand3 w (ticksFrom (opened e .rt) (callsOf w e))
 
 -- an episode of `is` that ends with the tick c, behind which `later` comes
-pub record EndsWith (is : List Instruction) (c : Call) (later : List Instruction) : Type 0 where
+pub record EndsWith (is : List Instruction) (c : Brought) (later : List Instruction) : Type 0 where
   pub before : List Instruction
   pub opening : Instruction
-  pub ticks : List Call
+  pub ticks : List Brought
   pub episode : In is (record { before = before; opening = opening; ticks = ticks ++ (c ∷ []); later = later })
 
 -- ---- the claim
@@ -108,7 +108,7 @@ pub record EndsWith (is : List Instruction) (c : Call) (later : List Instruction
 -- of a journal that has settings: every tick stands in an episode, and every episode stops close
 pub record StopsUnder (s : List ℕ) (w : Settings) : Type 0 where
   pub settings : SettledBy w (instructionsOf s)
-  pub every-tick : (before : List Instruction) (c : Call) (later : List Instruction) → instructionsOf s ≡ before ++ (tick c ∷ later)
+  pub every-tick : (before : List Instruction) (c : Brought) (later : List Instruction) → instructionsOf s ≡ before ++ (tick c ∷ later)
       → EndsWith (instructionsOf s) c later
   pub every-episode : (e : Episode) → In (instructionsOf s) e → EpisodeStops s w e
 

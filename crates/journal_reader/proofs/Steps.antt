@@ -22,14 +22,14 @@ use Rattle.journal_records.specs.declared.Record.{Record}
 use Rattle.journal_records.specs.declared.Record.the-variants.{Settings, Reset, Ack, Head, Value, Outcome, Tick}
 use Rattle.journal_records.proofs.Record as R
 use Rattle.journal_records.specs.Kinds.{journalKinds, bodyLen}
-use Rattle.journal_records.specs.Body.{recordOf}
+use Rattle.journal_records.specs.Body.{decodeOf}
 use Rattle.journal_records.specs.Long.{outcomeOf}
 use Rattle.journal_refusals.specs.declared.Refusal.{Refusal}
 use Rattle.journal_refusals.specs.declared.Judged.{Judged}
 use Rattle.journal_refusals.specs.declared.Judged.the-variants.{Accepted, Refused}
 use Rattle.journal_refusals.specs.declared.Seen.{Seen}
 use Rattle.journal_refusals.specs.Causes.{capacities}
-use Rattle.journal_refusals.specs.Table.{isCut, judgedOf}
+use Rattle.journal_refusals.specs.Table.{isCutBody, judgedOf}
 use Rattle.journal_refusals.proofs.Framing.{accepted-whole, accepted-list, accepted-room}
 use Rattle.journal_reader.specs.declared.Look.{Look}
 use Rattle.journal_reader.specs.declared.Look.the-variants as L
@@ -38,11 +38,11 @@ use Rattle.journal_reader.specs.declared.waiting.Reader.{Reader}
 use Rattle.journal_reader.specs.declared.What.{What}
 use Rattle.journal_reader.specs.declared.What.the-variants as W
 use Rattle.journal_reader.specs.declared.Took.{Took}
-use Rattle.journal_reader.specs.declared.Turn.{Turn}
+use Rattle.journal_reader.specs.declared.Reading.{Reading}
 use Rattle.journal_reader.specs.State.{State, bases, ackWaits, headWaits, valueWaits, stored, outcomeWaits, inputOf}
 use Rattle.stream.specs.Stream.{go, goesOn, Reached}
-use Rattle.journal_reader.specs.Reading.{Instruction, lookAs, lookOf, callOf, onRecord, onLook, nextOf, whatOf, bodyOf}
-use Rattle.journal_reader.specs.Steps.{stateOf, Room, isSmall, looksSmall, Added, TookOne, Collected, Instructs, Turned}
+use Rattle.journal_reader.specs.Reading.{Instruction, lookAs, lookOf, broughtOf, onRecord, onLook, onBytes, whatOf, bodyOf}
+use Rattle.journal_reader.specs.Steps.{stateWith, Room, isSmall, looksSmall, Added, TookOne, Collected, Instructs, TookReading}
 use Rattle.stream.proofs.Stream.{goes, reached-none, reached-one, reached-on}
 use Rattle.journal_reader.proofs.Look as K
 use Rattle.journal_reader.proofs.Reading.{machine}
@@ -121,7 +121,7 @@ look-end seen s at h = rw (drop-of-length-le s h) refl
 
 module _ (w : Waiting) (l : List Float) (at n : ℕ) (x : Record) where
   -- a small record that was added
-  added : (w' : Waiting) (l' : List Float) → ((o : O.Outcome) (b : List ℕ) → onRecord (stateOf w o l) b (suc n) x ≡ go (stateOf w' o l') (suc n))
+  added : (w' : Waiting) (l' : List Float) → ((o : O.Outcome) (b : List ℕ) → onRecord (stateWith w o l) b (suc n) x ≡ go (stateWith w' o l') (suc n))
       → Added w l at n x (record { waiting = w'; at = at + n + 1; look = L.Waits; more = true }) l'
   added w' l' e = record {
     waits = λ y. e;
@@ -173,8 +173,8 @@ room-cond : (seen : Seen) (t : Bool) (x y : Record) → (t ≡ true → Room see
 room-cond seen true x y p q = p refl
 room-cond seen false x y p q = q
 
-room-of : (seen : Seen) (k : ℕ) (b : List ℕ) → judgedOf journalKinds seen k b ≡ Accepted → Room seen (recordOf k b)
-unfolding recordOf
+room-of : (seen : Seen) (k : ℕ) (b : List ℕ) → judgedOf journalKinds seen k b ≡ Accepted → Room seen (decodeOf k b)
+unfolding decodeOf
 room-of seen k b e =
     room-cond seen (eqb k 1) _ _ (λ p. tt)
     (room-cond seen (eqb k 2) _ _ (λ p. tt)
@@ -191,10 +191,10 @@ refused-not-found r false x n e = let z : _≡_ {A = ℕ} 0 1 = cc in omega arit
 found-by : (seen : Seen) (k : ℕ) (u : List ℕ) (x : Record) (n : ℕ) (j : Judged) → judgedOf journalKinds seen k (take (bodyLen journalKinds k) u) ≡ j
     → lookAs k (take (bodyLen journalKinds k) u) j ≡ L.Found x n → FoundIs seen (k ∷ u) x n
 unfolding lookAs
-found-by seen k u x n (Refused r) e f = absurd (refused-not-found r (isCut r) x n f)
+found-by seen k u x n (Refused r) e f = absurd (refused-not-found r (isCutBody r) x n f)
 found-by seen k u x n Accepted e f =
     let b = take (bodyLen journalKinds k) u in
-    let p : recordOf k b ≡ x = cc in
+    let p : decodeOf k b ≡ x = cc in
     let q : bodyLen journalKinds k ≡ n = cc in
     record {
       fits = omega (arith, accepted-whole seen k b journalKinds e, length-take (bodyLen journalKinds k) u);
@@ -208,8 +208,8 @@ found-is seen (k ∷ u) x n e = found-by seen k u x n (judgedOf journalKinds see
 
 module _ (w : Waiting) (l : List Float) (s : List ℕ) (at : ℕ) where
   -- what the reader does next, by the look there
-  pub next-look : (o : O.Outcome) (x : Look) → lookOf (w .seen) (drop at s) ≡ x → nextOf (stateOf w o l) (drop at s) ≡ onLook (stateOf w o l) (drop at s) x
-  unfolding nextOf
+  pub next-look : (o : O.Outcome) (x : Look) → lookOf (w .seen) (drop at s) ≡ x → onBytes (stateWith w o l) (drop at s) ≡ onLook (stateWith w o l) (drop at s) x
+  unfolding onBytes
   next-look o x e = rw e refl
 
   from-by : (n : ℕ) (x : Record) (r : Took) (l' : List Float) → Added w l at n x r l' → (t : Bool) → r .more ≡ t → at ≤ r .at
@@ -245,11 +245,11 @@ module _ (w : Waiting) (l : List Float) (s : List ℕ) (at : ℕ) where
 -- ---- one small record
 
 module _ (w : Waiting) (l : List Float) (s : List ℕ) (at : ℕ) (h : at ≤ length s) (r : Took) (l' : List Float) (t : TookOne w l s at r l') where
-  reached-by : (o : O.Outcome) (m : Bool) → r .more ≡ m → Reached nextOf (stateOf w o l) s at (stateOf (r .waiting) o l') (r .at)
-  reached-by o true y = reached-one nextOf machine (stateOf w o l) s at (stateOf (r .waiting) o l') (r .at) h (t .from) (t .waits y o)
-  reached-by o false y = rw (t .same-waiting y, t .same-lists y, t .same-place y) (reached-none nextOf machine (stateOf w o l) s at h)
+  reached-by : (o : O.Outcome) (m : Bool) → r .more ≡ m → Reached onBytes (stateWith w o l) s at (stateWith (r .waiting) o l') (r .at)
+  reached-by o true y = reached-one onBytes machine (stateWith w o l) s at (stateWith (r .waiting) o l') (r .at) h (t .from) (t .waits y o)
+  reached-by o false y = rw (t .same-waiting y, t .same-lists y, t .same-place y) (reached-none onBytes machine (stateWith w o l) s at h)
 
-  pub took-reached : (o : O.Outcome) → Reached nextOf (stateOf w o l) s at (stateOf (r .waiting) o l') (r .at)
+  pub took-reached : (o : O.Outcome) → Reached onBytes (stateWith w o l) s at (stateWith (r .waiting) o l') (r .at)
   took-reached o = reached-by o (r .more) refl
 
   pub took-within : r .at ≤ length s
@@ -261,7 +261,7 @@ module _ (w : Waiting) (l : List Float) (s : List ℕ) (at : ℕ) (h : at ≤ le
 
   -- there are fewer bytes left, or no more turns
   less-by : (m : Bool) → r .more ≡ m → length s - r .at + cond (r .more) 1 0 < length s - at + 1
-  less-by true y = let b = goes nextOf (machine .there) _ (drop at s) _ _ (t .waits y (outcomeOf [])) in rw y (omega (arith, b .0, b .1, length-drop at s))
+  less-by true y = let b = goes onBytes (machine .there) _ (drop at s) _ _ (t .waits y (outcomeOf [])) in rw y (omega (arith, b .0, b .1, length-drop at s))
   less-by false y = rw (y, t .same-place y) (omega arith)
 
   pub took-less : length s - r .at + cond (r .more) 1 0 < length s - at + 1
@@ -320,31 +320,31 @@ module _ (rd : Reader) (l : List Float) (s : List ℕ) (at n : ℕ) (x : Record)
 
   pub instructs-tick : (t : TickNumbers) (i : TickInput) → x ≡ Tick t → i ≡ inputOf (rd .waiting) t
       → Instructs rd l s at n x (record { reader = rd; at = at; what = W.Ticks i; more = false })
-  unfolding onRecord callOf
+  unfolding onRecord broughtOf
   instructs-tick t i e f = instructs (W.Ticks i) (rw e refl) (rw (e, f) refl)
 
 -- ---- one turn
 
 module _ (w : Waiting) (o : O.Outcome) (l : List Float) (s : List ℕ) (at : ℕ) (t : Took) (l' : List Float) (k : Collected w l s at t l') where
   abbrev came : State
-  came = stateOf (t .waiting) o l'
+  came = stateWith (t .waiting) o l'
 
-  then-is : (x : Look) → t .look ≡ x → nextOf came (drop (t .at) s) ≡ onLook came (drop (t .at) s) x
+  then-is : (x : Look) → t .look ≡ x → onBytes came (drop (t .at) s) ≡ onLook came (drop (t .at) s) x
   then-is x e = next-look (t .waiting) l' s (t .at) o x (sym (k .look) ∙ e)
 
   -- nothing is there, or it is turned away
-  turned-here : (v : What) → goesOn (nextOf came (drop (t .at) s)) ≡ false → v ≡ whatOf (nextOf came (drop (t .at) s))
-      → Turned (stateOf w o l) s at (record { reader = came .reader; at = t .at; what = v; more = false }) l'
+  turned-here : (v : What) → goesOn (onBytes came (drop (t .at) s)) ≡ false → v ≡ whatOf (onBytes came (drop (t .at) s))
+      → TookReading (stateWith w o l) s at (record { reader = came .reader; at = t .at; what = v; more = false }) l'
   turned-here v e f = record { reached = k .reached o; further = λ y. absurd (no y); stops = λ y. e; what = λ y. f }
     where
       no : false ≡ true → ⊥
       no y = let f : _≡_ {A = ℕ} 0 1 = cc in omega arith
 
-  pub turned-waits : t .look ≡ L.Waits → Turned (stateOf w o l) s at (record { reader = came .reader; at = t .at; what = W.Waits; more = false }) l'
+  pub turned-waits : t .look ≡ L.Waits → TookReading (stateWith w o l) s at (record { reader = came .reader; at = t .at; what = W.Waits; more = false }) l'
   unfolding onLook
   turned-waits e = let q = then-is L.Waits e in turned-here W.Waits (rw q refl) (rw q refl)
 
-  pub turned-refuses : (r : Refusal) → t .look ≡ L.Refuses r → Turned (stateOf w o l) s at (record { reader = came .reader; at = t .at; what = W.Refuses r; more = false }) l'
+  pub turned-refuses : (r : Refusal) → t .look ≡ L.Refuses r → TookReading (stateWith w o l) s at (record { reader = came .reader; at = t .at; what = W.Refuses r; more = false }) l'
   unfolding onLook
   turned-refuses r e = let q = then-is (L.Refuses r) e in turned-here (W.Refuses r) (rw q refl) (rw q refl)
 
@@ -356,14 +356,14 @@ module _ (w : Waiting) (o : O.Outcome) (l : List Float) (s : List ℕ) (at : ℕ
     pub found-big : isSmall x ≡ false
     found-big = rw e at (k .other)
 
-    found-by-turn : (r : Turn) → Instructs (came .reader) l' s (t .at) n x r → (m : Bool) → r .more ≡ m → Turned (stateOf w o l) s at r l'
+    found-by-turn : (r : Reading) → Instructs (came .reader) l' s (t .at) n x r → (m : Bool) → r .more ≡ m → TookReading (stateWith w o l) s at r l'
     unfolding onLook
     found-by-turn r i true y =
         let d : r .at - t .at ≡ suc n = omega (arith, i .past y) in
-        let q : nextOf came (drop (t .at) s) ≡ go (record { reader = r .reader; lists = l' }) (r .at - t .at) = rw d (then-is (L.Found x n) e ∙ i .waits y) in
+        let q : onBytes came (drop (t .at) s) ≡ go (record { reader = r .reader; lists = l' }) (r .at - t .at) = rw d (then-is (L.Found x n) e ∙ i .waits y) in
         record {
-          reached = reached-on nextOf machine (k .reached o)
-              (reached-one nextOf machine came s (t .at) (record { reader = r .reader; lists = l' }) (r .at) (k .reached o .within) (omega (arith, i .past y)) q);
+          reached = reached-on onBytes machine (k .reached o)
+              (reached-one onBytes machine came s (t .at) (record { reader = r .reader; lists = l' }) (r .at) (k .reached o .within) (omega (arith, i .past y)) q);
           further = λ z. omega (arith, k .reached o .from, i .past y);
           stops = λ z. absurd (no (sym y ∙ z));
           what = λ z. absurd (no (sym y ∙ z));
@@ -383,16 +383,16 @@ module _ (w : Waiting) (o : O.Outcome) (l : List Float) (s : List ℕ) (at : ℕ
         no : false ≡ true → ⊥
         no z = let f : _≡_ {A = ℕ} 0 1 = cc in omega arith
 
-    pub turned-found : (r : Turn) → Instructs (came .reader) l' s (t .at) n x r → Turned (stateOf w o l) s at r l'
+    pub turned-found : (r : Reading) → Instructs (came .reader) l' s (t .at) n x r → TookReading (stateWith w o l) s at r l'
     turned-found r i = found-by-turn r i (r .more) refl
 
 -- ---- the reader
 
 -- there are fewer bytes left, or no more turns
-turn-less-by : (st : State) (s : List ℕ) (at : ℕ) (r : Turn) (l' : List Float) → Turned st s at r l' → (m : Bool) → r .more ≡ m
+turn-less-by : (st : State) (s : List ℕ) (at : ℕ) (r : Reading) (l' : List Float) → TookReading st s at r l' → (m : Bool) → r .more ≡ m
     → length s - r .at + cond (r .more) 1 0 < length s - at + 1
 turn-less-by st s at r l' t true y = rw y (omega (arith, t .further y, t .reached .within))
 turn-less-by st s at r l' t false y = rw y (omega (arith, t .reached .from))
 
-pub turn-less : (st : State) (s : List ℕ) (at : ℕ) (r : Turn) (l' : List Float) → Turned st s at r l' → length s - r .at + cond (r .more) 1 0 < length s - at + 1
+pub turn-less : (st : State) (s : List ℕ) (at : ℕ) (r : Reading) (l' : List Float) → TookReading st s at r l' → length s - r .at + cond (r .more) 1 0 < length s - at + 1
 turn-less st s at r l' t = turn-less-by st s at r l' t (r .more) refl

@@ -10,13 +10,13 @@ use Rattle.lictor_core.specs.declared.outcome.Outcome as O
 use Rattle.journal_records.specs.declared.Record.{Record}
 use Rattle.journal_records.specs.declared.Record.the-variants.{Settings, Reset, Ack, Head, Value, Outcome, Tick}
 use Rattle.journal_records.specs.Kinds.{journalKinds, bodyLen}
-use Rattle.journal_records.specs.Body.{recordOf}
+use Rattle.journal_records.specs.Body.{decodeOf}
 use Rattle.journal_records.specs.Long.{settingsOf, outcomeOf}
 use Rattle.journal_refusals.specs.declared.Seen.{Seen}
 use Rattle.journal_refusals.specs.declared.Refusal.{Refusal}
 use Rattle.journal_refusals.specs.declared.Judged.{Judged}
 use Rattle.journal_refusals.specs.declared.Judged.the-variants.{Accepted, Refused}
-use Rattle.journal_refusals.specs.Table.{isCut, judgedOf}
+use Rattle.journal_refusals.specs.Table.{isCutBody, judgedOf}
 use Rattle.journal_reader.specs.declared.waiting.Reader.{Reader}
 use Rattle.journal_reader.specs.declared.Look.{Look}
 use Rattle.journal_reader.specs.declared.Look.the-variants as L
@@ -30,8 +30,8 @@ use Rattle.journal_reader.specs.State.{State, ackWaits, headWaits, value
 
 -- one that is turned away, or cut by the end of the bytes at hand, which is no refusal before the journal's end; or a record, and the length of its body
 unfoldable pub lookAs : ℕ → List ℕ → Judged → Look
-lookAs k b (Refused r) = cond (isCut r) L.Waits (L.Refuses r)
-lookAs k b Accepted = L.Found (recordOf k b) (bodyLen journalKinds k)
+lookAs k b (Refused r) = cond (isCutBody r) L.Waits (L.Refuses r)
+lookAs k b Accepted = L.Found (decodeOf k b) (bodyLen journalKinds k)
 
 -- kind k, and its body as far as it came
 unfoldable pub lookOf : Seen → List ℕ → Look
@@ -41,7 +41,7 @@ lookOf seen (k ∷ s) = let b = take (bodyLen journalKinds k) s in lookAs k b (j
 -- ---- what it does
 
 -- what a tick is called with
-pub record Call : Type 0 where
+pub record Brought : Type 0 where
   pub input : TickInput
   pub outcome : O.Outcome
   pub pos : List Float
@@ -53,11 +53,11 @@ pub record Call : Type 0 where
 pub data Instruction : Type 0 where
   begin : S.Settings → Instruction
   restart : Instruction
-  tick : Call → Instruction
+  tick : Brought → Instruction
 
 -- a tick uses all that was collected: lists 0 chunk, 1 pos, 2 vel, 3 aux, 4 ext
-unfoldable pub callOf : State → TickInput → Call
-callOf st input =
+unfoldable pub broughtOf : State → TickInput → Brought
+broughtOf st input =
     let seen = st .reader .waiting .seen in
     record {
       input = input;
@@ -86,7 +86,7 @@ onRecord st b n (Value c x) =
     })
     n
 onRecord st b n Outcome = go (withReader st (outcomeWaits (st .reader) (outcomeOf b))) n
-onRecord st b n (Tick t) = tell (withReader st (emptied (st .reader))) n (tick (callOf st (inputOf (st .reader .waiting) t)))
+onRecord st b n (Tick t) = tell (withReader st (emptied (st .reader))) n (tick (broughtOf st (inputOf (st .reader .waiting) t)))
 
 -- the body of the record at the front of s, of n bytes
 abbrev pub bodyOf : ℕ → List ℕ → List ℕ
@@ -97,8 +97,8 @@ onLook st s L.Waits = wait
 onLook st s (L.Refuses r) = halt r
 onLook st s (L.Found r n) = onRecord st (bodyOf n s) (suc n) r
 
-unfoldable pub nextOf : State → List ℕ → Next State Instruction Refusal
-nextOf st s = onLook st s (lookOf (st .reader .waiting .seen) s)
+unfoldable pub onBytes : State → List ℕ → Next State Instruction Refusal
+onBytes st s = onLook st s (lookOf (st .reader .waiting .seen) s)
 
 -- ---- what the code answers
 
@@ -114,8 +114,8 @@ whatOf (tell st n (tick c)) = Ticks (c .input)
 -- the reader takes all records up to the next instruction: the reader there, the bytes up to there, and what comes next
 unfoldable pub readOf : State → List ℕ → Progress
 readOf st s =
-    let a = advanced nextOf st s in
+    let a = advanced onBytes st s in
     record { reader = a .state .reader; used = a .used; what = whatOf (a .next) }
 
-unfoldable pub listsAfter : State → List ℕ → List Float
-listsAfter st s = advanced nextOf st s .state .lists
+unfoldable pub listsRead : State → List ℕ → List Float
+listsRead st s = advanced onBytes st s .state .lists

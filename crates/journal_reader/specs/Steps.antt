@@ -17,13 +17,13 @@ use Rattle.journal_reader.specs.declared.waiting.Reader.{Reader}
 use Rattle.journal_reader.specs.declared.Look.{Look}
 use Rattle.journal_reader.specs.declared.Look.the-variants as L
 use Rattle.journal_reader.specs.declared.Took.{Took}
-use Rattle.journal_reader.specs.declared.Turn.{Turn}
+use Rattle.journal_reader.specs.declared.Reading.{Reading}
 use Rattle.stream.specs.Stream.{go, goesOn, Reached}
 use Rattle.journal_reader.specs.State.{State}
-use Rattle.journal_reader.specs.Reading.{Instruction, lookOf, bodyOf, onRecord, nextOf, whatOf}
+use Rattle.journal_reader.specs.Reading.{Instruction, lookOf, bodyOf, onRecord, onBytes, whatOf}
 
-abbrev pub stateOf : Waiting → O.Outcome → List Float → State
-stateOf w o l = record { reader = record { waiting = w; outcome = o }; lists = l }
+abbrev pub stateWith : Waiting → O.Outcome → List Float → State
+stateWith w o l = record { reader = record { waiting = w; outcome = o }; lists = l }
 
 -- a value is of a list that has room
 abbrev pub Room : Seen → Record → Type 0
@@ -52,7 +52,7 @@ looksSmall (L.Found r n) = isSmall r
 
 -- a record at place `at`, with a body of n bytes, was added to what waits, or it is not of the small kinds
 pub record Added (w : Waiting) (l : List Float) (at n : ℕ) (x : Record) (r : Took) (l' : List Float) : Type 0 where
-  pub waits : r .more ≡ true → (o : O.Outcome) (b : List ℕ) → onRecord (stateOf w o l) b (suc n) x ≡ go (stateOf (r .waiting) o l') (suc n)
+  pub waits : r .more ≡ true → (o : O.Outcome) (b : List ℕ) → onRecord (stateWith w o l) b (suc n) x ≡ go (stateWith (r .waiting) o l') (suc n)
   pub past : r .more ≡ true → r .at ≡ at + suc n
   pub other : r .more ≡ false → isSmall x ≡ false
   pub look : r .more ≡ false → r .look ≡ L.Found x n
@@ -62,7 +62,7 @@ pub record Added (w : Waiting) (l : List Float) (at n : ℕ) (x : Record) (r : T
 
 -- the record at place `at` of s was added to what waits, or it is none of the small kinds, and `look` says what it is
 pub record TookOne (w : Waiting) (l : List Float) (s : List ℕ) (at : ℕ) (r : Took) (l' : List Float) : Type 0 where
-  pub waits : r .more ≡ true → (o : O.Outcome) → nextOf (stateOf w o l) (drop at s) ≡ go (stateOf (r .waiting) o l') (r .at - at)
+  pub waits : r .more ≡ true → (o : O.Outcome) → onBytes (stateWith w o l) (drop at s) ≡ go (stateWith (r .waiting) o l') (r .at - at)
   pub from : at ≤ r .at
   pub other : r .more ≡ false → looksSmall (r .look) ≡ false
   pub look : r .more ≡ false → r .look ≡ lookOf (w .seen) (drop at s)
@@ -72,12 +72,12 @@ pub record TookOne (w : Waiting) (l : List Float) (s : List ℕ) (at : ℕ) (r :
 
 -- all small records from place `at` on were added, whatever outcome waits, and what stands behind them is none
 pub record Collected (w : Waiting) (l : List Float) (s : List ℕ) (at : ℕ) (r : Took) (l' : List Float) : Type 0 where
-  pub reached : (o : O.Outcome) → Reached nextOf (stateOf w o l) s at (stateOf (r .waiting) o l') (r .at)
+  pub reached : (o : O.Outcome) → Reached onBytes (stateWith w o l) s at (stateWith (r .waiting) o l') (r .at)
   pub other : looksSmall (r .look) ≡ false
   pub look : r .look ≡ lookOf (r .waiting .seen) (drop (r .at) s)
 
 -- a record that is not small: an outcome waits, and the others instruct
-pub record Instructs (rd : Reader) (l : List Float) (s : List ℕ) (at n : ℕ) (x : Record) (r : Turn) : Type 0 where
+pub record Instructs (rd : Reader) (l : List Float) (s : List ℕ) (at n : ℕ) (x : Record) (r : Reading) : Type 0 where
   pub waits : r .more ≡ true → onRecord (record { reader = rd; lists = l }) (bodyOf n (drop at s)) (suc n) x ≡ go (record { reader = r .reader; lists = l }) (suc n)
   pub past : r .more ≡ true → r .at ≡ at + suc n
   pub stops : r .more ≡ false → goesOn (onRecord (record { reader = rd; lists = l }) (bodyOf n (drop at s)) (suc n) x) ≡ false
@@ -86,8 +86,8 @@ pub record Instructs (rd : Reader) (l : List Float) (s : List ℕ) (at n : ℕ) 
   pub same-place : r .more ≡ false → r .at ≡ at
 
 -- one turn of the reader: it went on, or it came to something else, and says what
-pub record Turned (st : State) (s : List ℕ) (at : ℕ) (r : Turn) (l' : List Float) : Type 0 where
-  pub reached : Reached nextOf st s at (record { reader = r .reader; lists = l' }) (r .at)
+pub record TookReading (st : State) (s : List ℕ) (at : ℕ) (r : Reading) (l' : List Float) : Type 0 where
+  pub reached : Reached onBytes st s at (record { reader = r .reader; lists = l' }) (r .at)
   pub further : r .more ≡ true → at < r .at
-  pub stops : r .more ≡ false → goesOn (nextOf (record { reader = r .reader; lists = l' }) (drop (r .at) s)) ≡ false
-  pub what : r .more ≡ false → r .what ≡ whatOf (nextOf (record { reader = r .reader; lists = l' }) (drop (r .at) s))
+  pub stops : r .more ≡ false → goesOn (onBytes (record { reader = r .reader; lists = l' }) (drop (r .at) s)) ≡ false
+  pub what : r .more ≡ false → r .what ≡ whatOf (onBytes (record { reader = r .reader; lists = l' }) (drop (r .at) s))

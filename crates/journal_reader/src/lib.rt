@@ -8,10 +8,10 @@ ghost use Prim.Native.Nat.{_+_, _<_, _≤_, _^_};
 ghost use lib.ListN.{length, drop, getD};
 ghost use Rattle.journal_refusals.specs.declared.Judged.the-variants as Judged;
 ghost use Rattle.journal_refusals.specs.Causes.{capacities, countOf};
-ghost use Rattle.journal_refusals.specs.Table.{isCut};
+ghost use Rattle.journal_refusals.specs.Table.{isCutBody};
 ghost use Rattle.journal_reader.specs.State.{valueWaits, stored};
-ghost use Rattle.journal_reader.specs.Reading.{lookAs, lookOf, readOf, listsAfter};
-ghost use Rattle.journal_reader.specs.Steps.{Room, isSmall, Added, TookOne, Collected, Instructs, Turned};
+ghost use Rattle.journal_reader.specs.Reading.{lookAs, lookOf, readOf, listsRead};
+ghost use Rattle.journal_reader.specs.Steps.{Room, isSmall, Added, TookOne, Collected, Instructs, TookReading};
 use crate::waiting::Reader;
 use crate::waiting::Waiting;
 use journal_records::Record;
@@ -45,8 +45,8 @@ pub struct Progress {
     pub what: What,
 }
 
-fn is_cut(r: Refusal) -> bool
-    ensures { λ t. ⌜ t ≡ isCut r ⌝ }
+fn is_cut_body(r: Refusal) -> bool
+    ensures { λ t. ⌜ t ≡ isCutBody r ⌝ }
 {
     journal_refusals::number(r) == 6
 }
@@ -54,7 +54,7 @@ fn is_cut(r: Refusal) -> bool
 fn refused_as(r: Refusal) -> Look
     ensures { λ x. ⌜ x ≡ lookAs 0 [] (Judged.Refused r) ⌝ }
 {
-    if is_cut(r) {
+    if is_cut_body(r) {
         return Look::Waits;
     }
     Look::Refuses(r)
@@ -200,7 +200,7 @@ fn collect(w: Waiting, lists: &mut [f64; 576], s: &[u8], at: usize) -> Took
 
 // ---- records that instruct
 
-struct Turn {
+struct Reading {
     reader: Reader,
     at: usize,
     what: What,
@@ -208,7 +208,7 @@ struct Turn {
 }
 
 // A record that is not small.
-fn instruct(rd: Reader, lists: &[f64; 576], s: &[u8], at: usize, n: usize, x: Record) -> Turn
+fn instruct(rd: Reader, lists: &[f64; 576], s: &[u8], at: usize, n: usize, x: Record) -> Reading
     requires { ⌜ at + n < length (now s) ⌝ }
     requires { ⌜ isSmall x ≡ false ⌝ }
     ensures { λ r. ⌜ Instructs rd (now (lists .entry)) (now (s .entry)) at n x r ⌝ }
@@ -219,32 +219,32 @@ fn instruct(rd: Reader, lists: &[f64; 576], s: &[u8], at: usize, n: usize, x: Re
             let a = at + 1;
             let e = a + n;
             let o = journal_records::long::read_outcome(&s[a..e]);
-            Turn {
+            Reading {
                 reader: crate::waiting::with_outcome(rd, o),
                 at: e,
                 what: What::Waits,
                 more: true,
             }
         }
-        Record::Settings => Turn {
+        Record::Settings => Reading {
             reader: rd,
             at,
             what: What::Begins,
             more: false,
         },
-        Record::Reset => Turn {
+        Record::Reset => Reading {
             reader: rd,
             at,
             what: What::Resets,
             more: false,
         },
-        Record::Tick(t) => Turn {
+        Record::Tick(t) => Reading {
             reader: rd,
             at,
             what: What::Ticks(crate::waiting::input_of(w, t)),
             more: false,
         },
-        Record::Ack(_) | Record::Head(_) | Record::Value(_, _) => Turn {
+        Record::Ack(_) | Record::Head(_) | Record::Value(_, _) => Reading {
             reader: rd,
             at,
             what: What::Waits,
@@ -254,9 +254,9 @@ fn instruct(rd: Reader, lists: &[f64; 576], s: &[u8], at: usize, n: usize, x: Re
 }
 
 // All small records from a place on, and the one behind them.
-fn take_turn(rd: Reader, lists: &mut [f64; 576], s: &[u8], at: usize) -> Turn
+fn take_reading(rd: Reader, lists: &mut [f64; 576], s: &[u8], at: usize) -> Reading
     requires { ⌜ at ≤ length (now s) ⌝ }
-    ensures { λ r. ⌜ Turned (record { reader = rd; lists = now (lists .entry) }) (now (s .entry)) at r (now (lists .exit)) ⌝ }
+    ensures { λ r. ⌜ TookReading (record { reader = rd; lists = now (lists .entry) }) (now (s .entry)) at r (now (lists .exit)) ⌝ }
 {
     let w = rd.waiting;
     let outcome = rd.outcome;
@@ -267,13 +267,13 @@ fn take_turn(rd: Reader, lists: &mut [f64; 576], s: &[u8], at: usize) -> Turn
     let reader = Reader { waiting, outcome };
     match look {
         Look::Found(x, n) => instruct(reader, lists, s, i, n, x),
-        Look::Waits => Turn {
+        Look::Waits => Reading {
             reader,
             at: i,
             what: What::Waits,
             more: false,
         },
-        Look::Refuses(r) => Turn {
+        Look::Refuses(r) => Reading {
             reader,
             at: i,
             what: What::Refuses(r),
@@ -284,9 +284,9 @@ fn take_turn(rd: Reader, lists: &mut [f64; 576], s: &[u8], at: usize) -> Turn
 
 // Takes all records up to the next that instructs the fuse, that is turned away or that is not there whole, and says what comes there.
 pub fn read(rd: Reader, lists: &mut [f64; 576], s: &[u8]) -> Progress
-    ensures { λ r. ⌜ (r ≡ readOf (record { reader = rd; lists = now (lists .entry) }) (now (s .entry))) × (now (lists .exit) ≡ listsAfter (record { reader = rd; lists = now (lists .entry) }) (now (s .entry))) ⌝ }
+    ensures { λ r. ⌜ (r ≡ readOf (record { reader = rd; lists = now (lists .entry) }) (now (s .entry))) × (now (lists .exit) ≡ listsRead (record { reader = rd; lists = now (lists .entry) }) (now (s .entry))) ⌝ }
 {
-    let mut t = Turn {
+    let mut t = Reading {
         reader: rd,
         at: 0,
         what: What::Waits,
@@ -295,7 +295,7 @@ pub fn read(rd: Reader, lists: &mut [f64; 576], s: &[u8]) -> Progress
     while t.more {
         let next = t.reader;
         let i = t.at;
-        t = take_turn(next, lists, s, i);
+        t = take_reading(next, lists, s, i);
     }
     let reader = t.reader;
     let what = t.what;

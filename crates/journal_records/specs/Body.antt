@@ -27,8 +27,8 @@ unfoldable pub tickNumbers : List ℕ → TickNumbers
 tickNumbers b = record { t = leAt b 0 4; idx = leAt b 4 2; «missed_ticks» = byteAt b 6; «schema_fault» = flag (byteAt b 7); «has_vel» = flag (byteAt b 8) }
 
 -- the record of kind k with body b. Kind 5, value, has a list code and a float. A kind that is not listed is refused before, and its case here is the last.
-unfoldable pub recordOf : ℕ → List ℕ → Record
-recordOf k b =
+unfoldable pub decodeOf : ℕ → List ℕ → Record
+decodeOf k b =
     cond (eqb k settingsKind) Settings
     (cond (eqb k resetKind) Reset
     (cond (eqb k ackKind) (Ack (ackOf b))

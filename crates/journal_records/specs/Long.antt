@@ -57,8 +57,8 @@ settingsOf b = record {
   calib = calibrationOf b;
 }
 
-unfoldable pub scoresOf : List ℕ → Scores
-scoresOf b = record { z = floatsAt b 33 12; s = floatAt b 17; valid = leAt b 25 4; fired = leAt b 29 4 }
+unfoldable pub scoresIn : List ℕ → Scores
+scoresIn b = record { z = floatsAt b 33 12; s = floatAt b 17; valid = leAt b 25 4; fired = leAt b 29 4 }
 
 -- kind 6: trips, clamped_dims, feasible flag, margin, s, valid, fired, z (12), policy row (8), clamped row (8)
 unfoldable pub outcomeOf : List ℕ → Outcome
@@ -67,7 +67,7 @@ outcomeOf b = record {
   «clamped_dims» = leAt b 4 4;
   feasible = flag (byteAt b 8);
   margin = floatAt b 9;
-  scores = scoresOf b;
+  scores = scoresIn b;
   policy = floatsAt b 129 8;
   clamped = floatsAt b 193 8;
 }

@@ -4,7 +4,7 @@ pub mod long;
 
 ghost use mathlib.Core.Path.{_≡_};
 ghost use Rattle.journal_records.specs.Kinds.{journalKinds, isKnown, bodyLen};
-ghost use Rattle.journal_records.specs.Body.{ackOf, headOf, tickNumbers, recordOf};
+ghost use Rattle.journal_records.specs.Body.{ackOf, headOf, tickNumbers, decodeOf};
 use crate::little::byte;
 use crate::little::f64_at;
 use crate::little::le16;
@@ -101,7 +101,7 @@ fn read_tick(b: &[u8]) -> TickNumbers
 
 // The record of a kind, from its body.
 pub fn decode(k: u8, b: &[u8]) -> Record
-    ensures { λ r. ⌜ r ≡ recordOf k (now (b .entry)) ⌝ }
+    ensures { λ r. ⌜ r ≡ decodeOf k (now (b .entry)) ⌝ }
 {
     match k {
         1 => Record::Settings,

@@ -32,7 +32,7 @@ fn present(s: &[u8], at: usize, n: usize) -> u64
 }
 
 // The same of 8 bytes, as one sum: it is compiled to one load.
-fn eight(s: &[u8], at: usize) -> u64
+fn le_eight(s: &[u8], at: usize) -> u64
     requires { ⌜ at + 8 ≤ length (now s) ⌝ }
     ensures { λ r. ⌜ r ≡ leAt (now (s .entry)) at 8 ⌝ }
 {
@@ -82,7 +82,7 @@ pub fn le64(s: &[u8], at: usize) -> u64
     if s.len() - at < 8 {
         return le(s, at, 8);
     }
-    eight(s, at)
+    le_eight(s, at)
 }
 
 pub fn f64_at(s: &[u8], at: usize) -> f64

@@ -3,7 +3,7 @@ ghost use mathlib.Core.Path.{_≡_};
 ghost use Prim.Native.Nat.{_≤_};
 ghost use lib.ListN.{length};
 ghost use Rattle.journal_records.specs.Little.{floatsAt};
-ghost use Rattle.journal_records.specs.Long.{flag, limitsOf, calibrationOf, settingsOf, scoresOf, outcomeOf};
+ghost use Rattle.journal_records.specs.Long.{flag, limitsOf, calibrationOf, settingsOf, scoresIn, outcomeOf};
 use crate::little::byte;
 use crate::little::f64_at;
 use crate::little::le16;
@@ -32,7 +32,7 @@ fn fill(b: &[u8], at: usize, out: &mut [f64])
     }
 }
 
-fn eight(b: &[u8], at: usize) -> [f64; 8]
+fn eight_floats(b: &[u8], at: usize) -> [f64; 8]
     requires { ⌜ at ≤ 1024 ⌝ }
     ensures { λ r. ⌜ r ≡ floatsAt (now (b .entry)) at 8 ⌝ }
 {
@@ -74,8 +74,8 @@ fn read_calibration(b: &[u8]) -> Calibration
 pub fn read_settings(b: &[u8]) -> lictor_core::envelope::Settings
     ensures { λ r. ⌜ r ≡ settingsOf (now (b .entry)) ⌝ }
 {
-    let box_lo = eight(b, 92);
-    let box_hi = eight(b, 156);
+    let box_lo = eight_floats(b, 92);
+    let box_hi = eight_floats(b, 156);
     let hyst = read_limits(b);
     let calib = read_calibration(b);
     lictor_core::envelope::Settings {
@@ -100,7 +100,7 @@ pub fn read_settings(b: &[u8]) -> lictor_core::envelope::Settings
 }
 
 fn read_scores(b: &[u8]) -> Scores
-    ensures { λ r. ⌜ r ≡ scoresOf (now (b .entry)) ⌝ }
+    ensures { λ r. ⌜ r ≡ scoresIn (now (b .entry)) ⌝ }
 {
     let mut z = [0.0; 12];
     fill(b, 33, &mut z);
@@ -117,8 +117,8 @@ pub fn read_outcome(b: &[u8]) -> lictor_core::outcome::Outcome
     ensures { λ r. ⌜ r ≡ outcomeOf (now (b .entry)) ⌝ }
 {
     let scores = read_scores(b);
-    let policy = eight(b, 129);
-    let clamped = eight(b, 193);
+    let policy = eight_floats(b, 129);
+    let clamped = eight_floats(b, 193);
     lictor_core::outcome::Outcome {
         trips: le32(b, 0),
         clamped_dims: le32(b, 4),

@@ -8,7 +8,7 @@ use Rattle.journal_refusals.specs.declared.Seen.{Seen}
 use Rattle.journal_refusals.specs.declared.Refusal.{Refusal}
 use Rattle.journal_refusals.specs.declared.Refusal.the-variants.{UnknownKind, CutBody, BeforeSettings, Again, BadCode, BadSize, NotFinite, BoxCrossed, ListFull, NotReady}
 use Rattle.journal_refusals.specs.declared.Judged.the-variants.{Accepted, Refused}
-use Rattle.journal_refusals.specs.Table.{Row, numberOf, isCut, firstRow}
+use Rattle.journal_refusals.specs.Table.{Row, numberOf, isCutBody, firstRow}
 use Rattle.journal_refusals.specs.Exactly.{Decides, this-row, later-row, Passes, no-row, not-this-row}
 
 module _ (seen : Seen) (k : ℕ) (b : List ℕ) where
@@ -61,7 +61,7 @@ numbers ListFull = (omega arith, omega arith)
 numbers NotReady = (omega arith, omega arith)
 
 -- only the cut body can be undone by more bytes
-pub cut-only : (r : Refusal) → isCut r ≡ true → r ≡ CutBody
+pub cut-only : (r : Refusal) → isCutBody r ≡ true → r ≡ CutBody
 cut-only UnknownKind e = absurd (let z : _≡_ {A = ℕ} 0 1 = cc in omega arith)
 cut-only CutBody e = refl
 cut-only BeforeSettings e = absurd (let z : _≡_ {A = ℕ} 0 1 = cc in omega arith)

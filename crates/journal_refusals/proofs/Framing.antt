@@ -14,7 +14,7 @@ use Rattle.journal_refusals.specs.declared.Refusal.{Refusal}
 use Rattle.journal_refusals.specs.declared.Refusal.the-variants.{UnknownKind, CutBody}
 use Rattle.journal_refusals.specs.declared.Judged.the-variants.{Accepted, Refused}
 use Rattle.journal_refusals.specs.Causes.{capacities, countOf, unknownKind, bodyCut, codeNotListed, listFull}
-use Rattle.journal_refusals.specs.Table.{Row, isCut, refusalTable, firstRow, judgedOf}
+use Rattle.journal_refusals.specs.Table.{Row, isCutBody, refusalTable, firstRow, judgedOf}
 use Rattle.journal_refusals.specs.Exactly.{Passes, no-row, not-this-row}
 use Rattle.journal_refusals.proofs.Exactly.{accepted-so}
 
@@ -35,7 +35,7 @@ module _ (seen : Seen) (k : ℕ) (b : List ℕ) where
   unfolding judgedOf refusalTable firstRow
   judged-cut kinds e f = rw (e, f) refl
 
-  -- of these rows every answer passes the test
+  -- of these rows every answer accepted the test
   answers : (Refusal → Bool) → List Row → Bool
   answers p [] = true
   answers p (w ∷ ws) = p (w .answer) && answers p ws
@@ -55,17 +55,17 @@ module _ (seen : Seen) (k : ℕ) (b : List ℕ) where
   answered p [] r a e = absurd (let z : _≡_ {A = ℕ} 0 1 = cc in omega arith)
   answered p (w ∷ ws) r a e = answers-by p w ws r (answered p ws r) (w .cause seen k b) refl a e
 
-  not-cut-by : (kinds : List ℕ) (r : Refusal) (t : Bool) → unknownKind kinds seen k b ≡ t → bodyCut kinds seen k b ≡ false → judgedOf kinds seen k b ≡ Refused r → not (isCut r) ≡ true
+  not-cut-by : (kinds : List ℕ) (r : Refusal) (t : Bool) → unknownKind kinds seen k b ≡ t → bodyCut kinds seen k b ≡ false → judgedOf kinds seen k b ≡ Refused r → not (isCutBody r) ≡ true
   unfolding judgedOf refusalTable firstRow answers
   not-cut-by kinds r true u c e =
       let f : Refused UnknownKind ≡ Refused r = rw u at e in
       let q : UnknownKind ≡ r = cc in
-      ap (λ (x : Refusal). not (isCut x)) (sym q)
-  not-cut-by kinds r false u c e = answered (λ x. not (isCut x)) (drop 2 (refusalTable kinds)) r refl (rw (u, c) at e)
+      ap (λ (x : Refusal). not (isCutBody x)) (sym q)
+  not-cut-by kinds r false u c e = answered (λ x. not (isCutBody x)) (drop 2 (refusalTable kinds)) r refl (rw (u, c) at e)
 
   -- a record that is there whole is not refused as cut
-  pub whole-not-cut : (kinds : List ℕ) (r : Refusal) → bodyCut kinds seen k b ≡ false → judgedOf kinds seen k b ≡ Refused r → isCut r ≡ false
-  whole-not-cut kinds r c e = not-true (isCut r) (not-cut-by kinds r (unknownKind kinds seen k b) refl c e)
+  pub whole-not-cut : (kinds : List ℕ) (r : Refusal) → bodyCut kinds seen k b ≡ false → judgedOf kinds seen k b ≡ Refused r → isCutBody r ≡ false
+  whole-not-cut kinds r c e = not-true (isCutBody r) (not-cut-by kinds r (unknownKind kinds seen k b) refl c e)
 
   passes-this : {w : Row} {ws : List Row} → Passes seen k b (w ∷ ws) → w .cause seen k b ≡ false
   passes-this (not-this-row c p) = c

@@ -26,8 +26,8 @@ numberOf ListFull = 7
 numberOf NotReady = 10
 
 -- the one refusal that more bytes can undo
-abbrev pub isCut : Refusal → Bool
-isCut r = eqb (numberOf r) (numberOf CutBody)
+abbrev pub isCutBody : Refusal → Bool
+isCutBody r = eqb (numberOf r) (numberOf CutBody)
 
 -- a row: what is answered where the cause is there. A cause goes by what has been seen, the kind, and the body as far as it came.
 pub record Row : Type 0 where

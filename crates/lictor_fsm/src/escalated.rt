@@ -3,7 +3,7 @@
 // `accepted_ack` and `escalated` here.
 ghost use mathlib.Core.Path.{_≡_};
 ghost use Rattle.lictor_table.specs.Helpers.{acceptedBy, acceptedAck, consumeNonce};
-ghost use Rattle.lictor_table.specs.Rows.{rearmAck, resumeRow, terminateRow, timeoutRow, waitRow, waitingOf, escalatedOf};
+ghost use Rattle.lictor_table.specs.Rows.{rearmAck, resumeRow, terminateRow, timeoutRow, waitRow, unansweredOf, escalatedOf};
 use lictor_core::ack::AckDecision;
 use lictor_core::ack::MaybeAck;
 use lictor_core::ack::VerifiedAck;
@@ -26,7 +26,7 @@ pub fn accepted_ack(rt: Control, ack: MaybeAck) -> MaybeAck
         MaybeAck::NoAck => MaybeAck::NoAck,
         MaybeAck::Given(a) => {
             let nonces = rt.last_nonce;
-            if accepted(rt.handoff_seq, nonces, a) {
+            if accepted_by(rt.handoff_seq, nonces, a) {
                 return MaybeAck::Given(a);
             }
             MaybeAck::NoAck
@@ -35,7 +35,7 @@ pub fn accepted_ack(rt: Control, ack: MaybeAck) -> MaybeAck
 }
 
 // The three checks of an acknowledgement.
-fn accepted(handoff: u32, nonces: [u64; 8], a: VerifiedAck) -> bool
+fn accepted_by(handoff: u32, nonces: [u64; 8], a: VerifiedAck) -> bool
     ensures { λ r. ⌜ r ≡ acceptedBy handoff nonces a ⌝ }
 {
     let slot = a.operator_slot as usize;
@@ -123,13 +123,13 @@ pub fn escalated(limit: u32, rt: Control, ack: MaybeAck) -> Turn
                 AckDecision::Resume => resume_row(rt, a),
             }
         }
-        MaybeAck::NoAck => waiting(limit, rt),
+        MaybeAck::NoAck => unanswered(limit, rt),
     }
 }
 
 // Rows 7 and 8: nothing was accepted.
-fn waiting(limit: u32, rt: Control) -> Turn
-    ensures { λ r. ⌜ r ≡ waitingOf limit rt ⌝ }
+fn unanswered(limit: u32, rt: Control) -> Turn
+    ensures { λ r. ⌜ r ≡ unansweredOf limit rt ⌝ }
 {
     if limit <= rt.escalated_ticks {
         return timeout_row(rt);

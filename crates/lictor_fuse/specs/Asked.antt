@@ -12,9 +12,9 @@ use Rattle.lictor_core.specs.declared.fuse.TickInput.{TickInput}
 use Rattle.lictor_core.specs.declared.fuse.Window.{Window}
 use Rattle.lictor_core.specs.declared.outcome.Outcome.{Outcome}
 use Rattle.lictor_guard.specs.Delivery.{deliveredOf}
-use Rattle.lictor_stages.specs.declared.judge.Findings.{Findings}
+use Rattle.lictor_stages.specs.declared.findings.Findings.{Findings}
 use Rattle.lictor_stages.specs.Ingest.{ingestOf, faultMotion}
-use Rattle.lictor_stages.specs.Judge.{judgeOf, machineInput, faultInput}
+use Rattle.lictor_stages.specs.Findings.{findingsOf, machineInput, faultInput}
 use Rattle.lictor_table.specs.declared.Turn.{Turn}
 use Rattle.lictor_table.specs.Table.{nextOf}
 use Rattle.lictor_fuse.specs.declared.steps.Asked.{Asked}
@@ -24,7 +24,7 @@ use Rattle.lictor_fuse.specs.Steps.{readyOf}
 unfoldable pub cleanAsked : FuseConfig → Motion → Window → TickInput → Outcome → List Float → List Float → Asked
 cleanAsked cfg m w inp out pos vel =
     let moved = ingestOf cfg m (inp .«has_vel») pos vel in
-    let f = judgeOf cfg (deliveredOf (inp .chunk)) out w (moved .vel) in
+    let f = findingsOf cfg (deliveredOf (inp .chunk)) out w (moved .vel) in
     record { motion = moved; findings = f; machine = machineInput cfg inp f }
 
 -- a fault tick finds the guard's bits, and leaves the window as it is

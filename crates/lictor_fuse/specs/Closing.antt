@@ -14,7 +14,7 @@ use Rattle.lictor_core.specs.declared.tally.Tally.{Tally}
 use Rattle.lictor_core.specs.declared.verdict.SafetyVerdict.{SafetyVerdict}
 use Rattle.lictor_detect.specs.Brake.{holdAction}
 use Rattle.lictor_guard.specs.Delivery.{deliveredOf}
-use Rattle.lictor_stages.specs.declared.judge.Findings.{Findings}
+use Rattle.lictor_stages.specs.declared.findings.Findings.{Findings}
 use Rattle.lictor_table.specs.declared.Turn.{Turn}
 use Rattle.lictor_stages.specs.Act.{actOf}
 use Rattle.lictor_stages.specs.Verdict.{verdictOf, faultVerdict, eventsOf, noEvents}

@@ -18,10 +18,10 @@ use Rattle.lictor_detect.specs.Brake.{holdAction}
 use Rattle.lictor_guard.specs.Delivery.{deliveredOf}
 use Rattle.lictor_guard.specs.Guard.{guardOf}
 use Rattle.lictor_stages.specs.Ingest.{ingestOf, faultMotion}
-use Rattle.lictor_stages.specs.Judge.{judgeOf, machineInput, faultInput}
+use Rattle.lictor_stages.specs.Findings.{findingsOf, machineInput, faultInput}
 use Rattle.lictor_stages.specs.Act.{actOf}
 use Rattle.lictor_stages.specs.Verdict.{verdictOf, faultVerdict, eventsOf, noEvents}
-use Rattle.lictor_stages.specs.declared.judge.Findings.{Findings}
+use Rattle.lictor_stages.specs.declared.findings.Findings.{Findings}
 use Rattle.lictor_table.specs.declared.Turn.{Turn}
 use Rattle.lictor_table.specs.Table.{nextOf}
 use Rattle.lictor_tally.specs.declared.TickEvents.{TickEvents}
@@ -61,7 +61,7 @@ closeClean cfg rt inp out m f turn v =
 unfoldable pub cleanTick : FuseConfig → FuseRt → TickInput → Outcome → List Float → List Float → Decided
 cleanTick cfg rt inp out pos vel =
     let m = ingestOf cfg (rt .motion) (inp .«has_vel») pos vel in
-    let f = judgeOf cfg (deliveredOf (inp .chunk)) out (rt .control .window) (m .vel) in
+    let f = findingsOf cfg (deliveredOf (inp .chunk)) out (rt .control .window) (m .vel) in
     let turn = nextOf cfg (readyOf (rt .control) f) (m .pos) (machineInput cfg inp f) in
     let a = actOf cfg (turn .state) m (turn .rt .hold) out in
     let v = verdictOf cfg (rt .clock .seq) (rt .control .state) inp out f turn a in

@@ -19,7 +19,7 @@ use lictor_core::verdict::SafetyVerdict;
 use lictor_detect::brake::hold_action;
 use lictor_guard::delivery::delivered;
 use lictor_stages::act::act;
-use lictor_stages::judge::Findings;
+use lictor_stages::findings::Findings;
 use lictor_stages::verdict::events_of;
 use lictor_stages::verdict::fault_verdict;
 use lictor_stages::verdict::no_events;

@@ -71,7 +71,7 @@ pub fn no_verdict() -> SafetyVerdict
     }
 }
 
-fn refused(c: SettingsCheck, rt: FuseRt) -> Ticked
+fn refused_tick(c: SettingsCheck, rt: FuseRt) -> Ticked
     ensures { λ r. ⌜ r ≡ refusedTick c rt ⌝ }
 {
     let v = no_verdict();
@@ -94,7 +94,7 @@ fn given(d: Decided) -> Ticked
     }
 }
 
-fn accepted(
+fn accepted_tick(
     s: Settings,
     rt: FuseRt,
     inp: TickInput,
@@ -127,9 +127,9 @@ fn tick_by(
     ensures { λ r. ⌜ r ≡ tickBy c s rt inp out (now (pos .entry)) (now (vel .entry)) (now (aux .entry)) (now (ext .entry)) (now (chunk .entry)) ⌝ }
 {
     if is_accepted(c) {
-        return accepted(s, rt, inp, out, pos, vel, aux, ext, chunk);
+        return accepted_tick(s, rt, inp, out, pos, vel, aux, ext, chunk);
     }
-    refused(c, rt)
+    refused_tick(c, rt)
 }
 
 // One call: settings that fail the check answer that, and nothing changes; else one tick under them.

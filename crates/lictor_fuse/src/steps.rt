@@ -10,13 +10,13 @@ use lictor_core::fuse::TickInput;
 use lictor_core::fuse::Window;
 use lictor_core::outcome::Outcome;
 use lictor_guard::delivery::delivered;
+use lictor_stages::findings::Findings;
+use lictor_stages::findings::Scored;
+use lictor_stages::findings::fault_input;
+use lictor_stages::findings::find;
+use lictor_stages::findings::machine_input;
 use lictor_stages::ingest::fault_motion;
 use lictor_stages::ingest::ingest;
-use lictor_stages::judge::Findings;
-use lictor_stages::judge::Scored;
-use lictor_stages::judge::fault_input;
-use lictor_stages::judge::judge;
-use lictor_stages::judge::machine_input;
 use lictor_table::FsmInput;
 use lictor_table::Turn;
 
@@ -42,7 +42,7 @@ fn clean_asked(
     let boundary = delivered(c);
     let motion = ingest(cfg, m, inp.has_vel, pos, vel);
     let v = motion.vel;
-    let findings = judge(cfg, boundary, out, w, v);
+    let findings = find(cfg, boundary, out, w, v);
     let machine = machine_input(cfg, inp, findings);
     Asked {
         motion,

@@ -27,7 +27,7 @@ use Rattle.lictor_table.specs.declared.Turn.{Turn}
 use Rattle.lictor_tally.specs.declared.TickEvents.{TickEvents}
 use Rattle.lictor_stages.specs.Act.{statusOf}
 use Rattle.lictor_stages.specs.declared.act.Acted.{Acted}
-use Rattle.lictor_stages.specs.declared.judge.Findings.{Findings}
+use Rattle.lictor_stages.specs.declared.findings.Findings.{Findings}
 
 -- which features were computed: none without a calibration mask (docs/DECISIONS.md), else the outcome's
 unfoldable pub liveValid : ℕ → ℕ → ℕ

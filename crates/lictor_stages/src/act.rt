@@ -105,7 +105,7 @@ fn braked(cfg: FuseConfig, m: Motion) -> Acted
     instead(ActionSource::Brake, x)
 }
 
-fn held(cfg: FuseConfig, hold: [f64; 8]) -> Acted
+fn held_still(cfg: FuseConfig, hold: [f64; 8]) -> Acted
     ensures { λ r. ⌜ r ≡ insteadOf ActionSource.Hold (holdAction cfg hold) ⌝ }
 {
     let x = hold_action(cfg, hold);
@@ -126,7 +126,7 @@ fn enforced(
         ActionSource::Policy => passed(cfg, ActionSource::Policy, policy),
         ActionSource::Clamped => clamped_row(cfg, clamped),
         ActionSource::Brake => braked(cfg, m),
-        ActionSource::Hold => held(cfg, hold),
+        ActionSource::Hold => held_still(cfg, hold),
     }
 }
 

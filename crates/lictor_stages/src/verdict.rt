@@ -6,7 +6,7 @@ ghost use Rattle.lictor_core.specs.Initial.{zeros};
 ghost use Rattle.lictor_stages.specs.Verdict.{liveValid, scoresOf, disarmedScores, actionDim, enteredOf, handoffOf, hasAck, consumedFlag, verdictOf, faultVerdict, eventsOf, noEvents, rejectedOf};
 use crate::act::Acted;
 use crate::act::status_of;
-use crate::judge::Findings;
+use crate::findings::Findings;
 use lictor_core::ack::MaybeAck;
 use lictor_core::chunk::MAX_D;
 use lictor_core::envelope::Calibration;

@@ -17,7 +17,7 @@ use Rattle.lictor_core.specs.Masks.{anyOf}
 use Rattle.lictor_table.specs.declared.FsmInput.{FsmInput}
 use Rattle.lictor_table.specs.declared.Turn.{Turn}
 use Rattle.lictor_table.specs.Helpers.{acceptedAck, cleanOf, countRun, to, settledOf}
-use Rattle.lictor_table.specs.Rows.{faultRow, rearmAck, resumeRow, terminateRow, timeoutRow, waitRow, waitingOf, escalatedOf, mayRearm, rearmRow, escalateRow, holdRow, holdingOf, heldOf, confirmedOf, standstillRow, stoppingRow, brakingOf, enterBraking, brakeRow, unclampableOf, overBudget, clampRow, clearedOf, clearRow, watchedOf, quietOf, runningOf, byFrom, transitionOf, nextByRows}
+use Rattle.lictor_table.specs.Rows.{faultRow, rearmAck, resumeRow, terminateRow, timeoutRow, waitRow, unansweredOf, escalatedOf, mayRearm, rearmRow, escalateRow, holdRow, holdingOf, heldOf, confirmedOf, standstillRow, stoppingRow, brakingOf, enterBraking, brakeRow, unclampableOf, overBudget, clampRow, clearedOf, clearRow, watchedOf, quietOf, runningOf, byFrom, transitionOf, nextByRows}
 use Rattle.lictor_table.specs.Table.{Facts, firstOf, table, nextFrom, nextOf}
 
 module _ (none : Turn) (cfg : FuseConfig) (rt : Control) (pos : List Float) (clean : Bool) (inp : FsmInput) where
@@ -38,7 +38,7 @@ module _ (none : Turn) (cfg : FuseConfig) (rt : Control) (pos : List Float) (cle
   escalated-says Retune slot nonce seq = refl
 
   pub says : (from : FuseState) (ack : MaybeAck) → Says from ack
-  unfolding transitionOf byFrom faultRow firstOf table anyOf waitingOf timeoutRow waitRow escalatedOf mayRearm rearmRow escalateRow holdRow holdingOf heldOf confirmedOf standstillRow stoppingRow brakingOf enterBraking brakeRow unclampableOf overBudget clampRow clearedOf clearRow watchedOf quietOf runningOf
+  unfolding transitionOf byFrom faultRow firstOf table anyOf unansweredOf timeoutRow waitRow escalatedOf mayRearm rearmRow escalateRow holdRow holdingOf heldOf confirmedOf standstillRow stoppingRow brakingOf enterBraking brakeRow unclampableOf overBudget clampRow clearedOf clearRow watchedOf quietOf runningOf
   says Idle ack = refl
   says Armed ack = refl
   says Watching ack = refl

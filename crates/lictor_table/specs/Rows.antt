@@ -59,13 +59,13 @@ unfoldable pub waitRow : Control → Turn
 waitRow rt = to Escalated 0 R.HeldStandstill (withEscalatedTicks (satUp 32 (rt .«escalated_ticks»)) rt)
 
 -- rows 7 and 8
-unfoldable pub waitingOf : ℕ → Control → Turn
-waitingOf limit rt = cond (leb limit (rt .«escalated_ticks»)) (timeoutRow rt) (waitRow rt)
+unfoldable pub unansweredOf : ℕ → Control → Turn
+unansweredOf limit rt = cond (leb limit (rt .«escalated_ticks»)) (timeoutRow rt) (waitRow rt)
 
 -- rows 4 to 8
 unfoldable pub escalatedOf : ℕ → Control → MaybeAck → Turn
 escalatedOf limit rt ack =
-    byAck ack (waitingOf limit rt)
+    byAck ack (unansweredOf limit rt)
     (λ a. byDecision (a .decision) (resumeRow rt a) (terminateRow rt a operatorAbort R.TerminatedAbort) (terminateRow rt a 0 R.TerminatedRetune))
 
 -- ---- Held

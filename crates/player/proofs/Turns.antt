@@ -16,9 +16,9 @@ use Rattle.journal_records.specs.Kinds.{journalKinds, bodyLen}
 use Rattle.journal_refusals.specs.declared.Refusal.{Refusal}
 use Rattle.journal_refusals.specs.Table.{numberOf}
 use Rattle.journal_reader.specs.declared.What.the-variants as W
-use Rattle.stream.specs.Stream.{Next, wait, halt, go, tell, waiting, halted, Settled, telling, settled, Advanced, advanced, goesOn}
+use Rattle.stream.specs.Stream.{Next, wait, halt, go, tell, awaits, halted, Settled, telling, settled, Advanced, advanced, goesOn}
 use Rattle.journal_reader.specs.State.{State, emptied}
-use Rattle.journal_reader.specs.Reading.{Instruction, begin, restart, tick, callOf, withReader, nextOf, whatOf}
+use Rattle.journal_reader.specs.Reading.{Instruction, begin, restart, tick, broughtOf, withReader, onBytes, whatOf}
 use Rattle.stream.proofs.Stream.{Ahead, ahead, settled-wait, settled-halt, settled-tell, tells-on, telling-telling}
 use Rattle.journal_reader.proofs.Reading.{ticks-is}
 use Rattle.journal.specs.declared.How.the-variants.{Waits, Refuses, Ticks}
@@ -29,8 +29,8 @@ use Rattle.journal.proofs.Replay.{replay-is, replay}
 use Rattle.journal.proofs.Steps.{part-from}
 use Rattle.report.specs.Text.{Put, eventText}
 use Rattle.report.proofs.Laws.{put-none, put-on}
-use Rattle.player.specs.declared.Turn.{Turn}
-use Rattle.player.specs.Play.{eventsText, tickRoom, Playing, Stop, refuses, full, played, playOf, fedOf, turnOf, tickedOf, playingOf, Stopped, Turned, goesOnOf, Fed}
+use Rattle.player.specs.declared.Played.{Played}
+use Rattle.player.specs.Play.{eventsText, tickRoom, Playing, Stop, refuses, full, withText, playOf, fedOf, playedOf, tickedOf, playingOf, Stopped, Turned, goesOnOf, Fed}
 use Rattle.player.proofs.Playing.{play-full, play-room, play-there, onward}
 
 -- ---- what comes next, by what `advance` says of it
@@ -95,14 +95,14 @@ module _ (w : Whole) (s : List ℕ) (at : ℕ) (h : at ≤ length s) (a : J.Adva
   rest-is : drop (far .used) (drop at s) ≡ drop i s
   rest-is = ap (λ (k : ℕ). drop k (drop at s)) (sym used-is) ∙ drop-drop (a .used) at s
 
-  how-is : howOf (nextOf (v .state) (drop i s)) ≡ a .how
+  how-is : howOf (onBytes (v .state) (drop i s)) ≡ a .how
   unfolding advancedOf
-  how-is = sym (ap (λ (x : J.Advanced). x .how) e ∙ ap₂ (λ (x : Whole) (u : List ℕ). howOf (nextOf (x .state) u)) (sym v-is) rest-is)
+  how-is = sym (ap (λ (x : J.Advanced). x .how) e ∙ ap₂ (λ (x : Whole) (u : List ℕ). howOf (onBytes (x .state) u)) (sym v-is) rest-is)
 
-  replay-here : replayOf v (drop i s) ≡ obeyed v (nextOf (v .state) (drop i s))
-  replay-here = replay-is v (drop i s) (nextOf (v .state) (drop i s)) refl
+  replay-here : replayOf v (drop i s) ≡ obeyed v (onBytes (v .state) (drop i s))
+  replay-here = replay-is v (drop i s) (onBytes (v .state) (drop i s)) refl
 
-  stops-here : goesOn (obeyed v (nextOf (v .state) (drop i s))) ≡ false
+  stops-here : goesOn (obeyed v (onBytes (v .state) (drop i s))) ≡ false
   stops-here =
       ap goesOn (sym replay-here ∙ ap₂ replayOf v-is (sym rest-is) ∙ there .then) ∙ there .stops
 
@@ -134,31 +134,31 @@ module _ (w : Whole) (s : List ℕ) (at : ℕ) (h : at ≤ length s) (a : J.Adva
     }
 
     pub turned-waits : a .how ≡ Waits → Turned code w s at out n (record { reader = a .reader; run = a .run; at = i; n = n; ticked = false; refused = 0 }) l' out
-    unfolding played
+    unfolding withText
     turned-waits y = stopped 0 (record {
-      end = waiting;
+      end = awaits;
       stays =
           settled-wait play (play-there code (length out)) (with-n v) (drop i s)
-          (play-room code (length out) (with-n v) (drop i s) room wait (replay-here ∙ how-waits v (nextOf (v .state) (drop i s)) stops-here (how-is ∙ y)));
+          (play-room code (length out) (with-n v) (drop i s) room wait (replay-here ∙ how-waits v (onBytes (v .state) (drop i s)) stops-here (how-is ∙ y)));
       ticked-is = refl;
       refused-is = refl;
     })
 
     pub turned-refuses : (r : Refusal) → a .how ≡ Refuses r → (number : ℕ) → number ≡ numberOf r
         → Turned code w s at out n (record { reader = a .reader; run = a .run; at = i; n = n; ticked = false; refused = number }) l' out
-    unfolding played
+    unfolding withText
     turned-refuses r y number m = stopped number (record {
       end = halted (refuses r);
       stays =
           settled-halt play (play-there code (length out)) (with-n v) (drop i s) (refuses r)
-          (play-room code (length out) (with-n v) (drop i s) room (halt r) (replay-here ∙ how-refuses v (nextOf (v .state) (drop i s)) r (how-is ∙ y)));
+          (play-room code (length out) (with-n v) (drop i s) room (halt r) (replay-here ∙ how-refuses v (onBytes (v .state) (drop i s)) r (how-is ∙ y)));
       ticked-is = refl;
       refused-is = m;
     })
 
   module _ (inp : TickInput) (y : a .how ≡ Ticks inp) where
     abbrev decided : Decided
-    decided = decidedOf (a .run) (callOf (v .state) inp)
+    decided = decidedOf (a .run) (broughtOf (v .state) inp)
 
     abbrev next : Whole
     next = record { state = withReader (v .state) (emptied (a .reader)); run = after (a .run) decided }
@@ -169,7 +169,7 @@ module _ (w : Whole) (s : List ℕ) (at : ℕ) (h : at ≤ length s) (a : J.Adva
     tells : replayOf v (drop i s) ≡ tell next (suc (bodyLen journalKinds (byteAt s i))) decided
     unfolding obeyed obey
     tells =
-        replay-is v (drop i s) _ (ticks-is (v .state) (drop i s) inp (how-ticks (nextOf (v .state) (drop i s)) inp (how-is ∙ y)))
+        replay-is v (drop i s) _ (ticks-is (v .state) (drop i s) inp (how-ticks (onBytes (v .state) (drop i s)) inp (how-is ∙ y)))
         ∙ ap (λ (k : ℕ). tell next (suc (bodyLen journalKinds k)) decided) byte-here
 
     -- the record of the tick is there
@@ -185,7 +185,7 @@ module _ (w : Whole) (s : List ℕ) (at : ℕ) (h : at ≤ length s) (a : J.Adva
 
       goes-on : settled (playOf code (length out)) (record { journal = w; n = n }) (drop at s)
           ≡ telling (decided ∷ []) (settled (playOf code (length out)) behind (drop (i + 1 + bodyLen journalKinds (byteAt s i)) s))
-      unfolding played
+      unfolding withText
       goes-on =
           let play = playOf code (length out) in
           let m = suc (bodyLen journalKinds (byteAt s i)) in
@@ -195,7 +195,7 @@ module _ (w : Whole) (s : List ℕ) (at : ℕ) (h : at ≤ length s) (a : J.Adva
           ∙ settled-tell play (play-there code (length out)) p (drop i s) behind m decided (play-room code (length out) p (drop i s) room (tell next m decided) tells)
           ∙ ap (λ (u : List ℕ). telling (decided ∷ []) (settled play behind u)) (drop-drop m i s ∙ ap (λ (j : ℕ). drop j s) k)
 
-      pub turned-ticks : (r : Turn) (out' : List ℕ) → tickedOf code (journalTick v inp) (i + 1 + bodyLen journalKinds (byteAt s i)) out n r out' → Turned code w s at out n r l' out'
+      pub turned-ticks : (r : Played) (out' : List ℕ) → tickedOf code (journalTick v inp) (i + 1 + bodyLen journalKinds (byteAt s i)) out n r out' → Turned code w s at out n r l' out'
       unfolding eventsText journalTick after
       turned-ticks r out' t = record {
         told = decided ∷ [];
@@ -256,11 +256,11 @@ module _ (code room : ℕ) (p : Playing) (s : List ℕ) (number : ℕ) where
 -- ---- from the first byte
 
 -- before the first turn
-abbrev first : Whole → Turn
+abbrev first : Whole → Played
 first w = record { reader = w .state .reader; run = w .run; at = 0; n = 0; ticked = true; refused = 0 }
 
 -- what was played so far, from t₀ to t: where there is more to do, there is room; where it is over, no more records are taken
-pub record Since (code : ℕ) (l₀ : List Float) (s : List ℕ) (out₀ : List ℕ) (t₀ : Turn) (l : List Float) (out : List ℕ) (t : Turn) (more : Bool) : Type 0 where
+pub record Since (code : ℕ) (l₀ : List Float) (s : List ℕ) (out₀ : List ℕ) (t₀ : Played) (l : List Float) (out : List ℕ) (t : Played) (more : Bool) : Type 0 where
   pub told : List Decided
   pub within : t .at ≤ length s
   pub goes : settled (playOf code (length out₀)) (playingOf t₀ l₀) (drop (t₀ .at) s) ≡ telling told (settled (playOf code (length out₀)) (playingOf t l) (drop (t .at) s))
@@ -281,7 +281,7 @@ since-first code w s out more e = record {
   over = over-is code (length out) (record { journal = w; n = 0 }) s 0 true more e (λ y. refl) (λ y. absurd (let z : _≡_ {A = ℕ} 0 1 = cc in omega arith));
 }
 
-pub since-more : (code : ℕ) (l₀ : List Float) (s : List ℕ) (out₀ : List ℕ) (t₀ : Turn) (l : List Float) (out : List ℕ) (t : Turn) (more : Bool) (r : Turn) (l' : List Float)
+pub since-more : (code : ℕ) (l₀ : List Float) (s : List ℕ) (out₀ : List ℕ) (t₀ : Played) (l : List Float) (out : List ℕ) (t : Played) (more : Bool) (r : Played) (l' : List Float)
     (out' : List ℕ) (more' : Bool) → t₀ .n ≤ length out₀ → length out' ≡ length out → Since code l₀ s out₀ t₀ l out t more
     → Turned code (wholeOf (t .reader) (t .run) l) s (t .at) out (t .n) r l' out' → more' ≡ goesOnOf (r .ticked) (r .n) (length out') → Since code l₀ s out₀ t₀ l' out' r more'
 since-more code l₀ s out₀ t₀ l out t more r l' out' more' h k i q y =
@@ -304,9 +304,9 @@ put-front : (out s : List ℕ) (r : ℕ) (out' : List ℕ) → Put out 0 s r out
 put-front out s r out' p = let z : 0 + length s ≡ length s = omega arith in p .memory ∙ ap₂ (λ (x : List ℕ) (k : ℕ). x ++ drop k out) (take-length s) z
 
 -- where it is over, that is what the bytes are played to
-pub fed-is : (code : ℕ) (w : Whole) (s out : List ℕ) (l : List Float) (out' : List ℕ) (t : Turn) (more : Bool) → more ≡ false → Since code (w .state .lists) s out (first w) l out' t more
+pub fed-is : (code : ℕ) (w : Whole) (s out : List ℕ) (l : List Float) (out' : List ℕ) (t : Played) (more : Bool) → more ≡ false → Since code (w .state .lists) s out (first w) l out' t more
     → Fed code w s out t l out'
-unfolding fedOf turnOf
+unfolding fedOf playedOf
 fed-is code w s out l out' t more y i =
     let o = i .over y in
     let a : Settled Playing Decided Stop = record { state = playingOf t l; rest = drop (t .at) s; told = i .told; end = o .end } in

@@ -9,12 +9,12 @@ use lib.ListN.{length, drop}
 use Rattle.lictor_fuse.specs.declared.decide.Decided.{Decided}
 use Rattle.journal_refusals.specs.declared.Refusal.{Refusal}
 use Rattle.journal_refusals.specs.Table.{numberOf}
-use Rattle.stream.specs.Stream.{Next, wait, halt, go, tell, End, waiting, halted, Settled, telling, settled}
-use Rattle.journal.specs.declared.tick.Ticked.{Ticked}
+use Rattle.stream.specs.Stream.{Next, wait, halt, go, tell, End, awaits, halted, Settled, telling, settled}
+use Rattle.journal.specs.declared.tick.JournalTicked.{JournalTicked}
 use Rattle.journal.specs.Tick.{Whole, wholeOf}
 use Rattle.journal.specs.Journal.{replayOf}
 use Rattle.report.specs.Text.{Put, eventText}
-use Rattle.player.specs.declared.Turn.{Turn}
+use Rattle.player.specs.declared.Played.{Played}
 
 -- ---- the text of its ticks
 
@@ -40,15 +40,15 @@ pub data Stop : Type 0 where
   full : Stop
 
 -- what the journal does next, with n bytes of text: a tick adds its own
-unfoldable pub played : ℕ → ℕ → Next Whole Decided Refusal → Next Playing Decided Stop
-played code n wait = wait
-played code n (halt r) = halt (refuses r)
-played code n (go w k) = go (record { journal = w; n = n }) k
-played code n (tell w k d) = tell (record { journal = w; n = n + length (eventText code (d .verdict) (d .rt)) }) k d
+unfoldable pub withText : ℕ → ℕ → Next Whole Decided Refusal → Next Playing Decided Stop
+withText code n wait = wait
+withText code n (halt r) = halt (refuses r)
+withText code n (go w k) = go (record { journal = w; n = n }) k
+withText code n (tell w k d) = tell (record { journal = w; n = n + length (eventText code (d .verdict) (d .rt)) }) k d
 
 -- no record is taken where there is no room for the text of a tick
 unfoldable pub playOf : ℕ → ℕ → Playing → List ℕ → Next Playing Decided Stop
-playOf code room p s = cond (leb (p .n + tickRoom) room) (played code (p .n) (replayOf (p .journal) s)) (halt full)
+playOf code room p s = cond (leb (p .n + tickRoom) room) (withText code (p .n) (replayOf (p .journal) s)) (halt full)
 
 -- what the bytes s are played to, by the journal w, with so much room: one record after the other, up to one that is turned away or is not there whole, or until the room is full
 unfoldable pub fedOf : ℕ → Whole → List ℕ → ℕ → Settled Playing Decided Stop
@@ -57,18 +57,18 @@ fedOf code w s room = settled (playOf code room) (record { journal = w; n = 0 })
 -- ---- what the code answers
 
 abbrev pub isFull : End Stop → Bool
-isFull waiting = false
+isFull awaits = false
 isFull (halted (refuses r)) = false
 isFull (halted full) = true
 
 -- the number of a refusal, or 0
 abbrev pub refusedBy : End Stop → ℕ
-refusedBy waiting = 0
+refusedBy awaits = 0
 refusedBy (halted (refuses r)) = numberOf r
 refusedBy (halted full) = 0
 
-unfoldable pub turnOf : List ℕ → Settled Playing Decided Stop → Turn
-turnOf s a = record {
+unfoldable pub playedOf : List ℕ → Settled Playing Decided Stop → Played
+playedOf s a = record {
   reader = a .state .journal .state .reader;
   run = a .state .journal .run;
   at = length s - length (a .rest);
@@ -78,8 +78,8 @@ turnOf s a = record {
 }
 
 -- the answer, the lists afterwards, and memory: the text of the ticks at its front, and behind that what was there
-pub record Fed (code : ℕ) (w : Whole) (s : List ℕ) (out : List ℕ) (r : Turn) (l' : List Float) (out' : List ℕ) : Type 0 where
-  pub turn : r ≡ turnOf s (fedOf code w s (length out))
+pub record Fed (code : ℕ) (w : Whole) (s : List ℕ) (out : List ℕ) (r : Played) (l' : List Float) (out' : List ℕ) : Type 0 where
+  pub turn : r ≡ playedOf s (fedOf code w s (length out))
   pub lists : l' ≡ fedOf code w s (length out) .state .journal .state .lists
   pub memory : (let t = eventsText code (fedOf code w s (length out) .told) in out' ≡ t ++ drop (length t) out)
 
@@ -90,7 +90,7 @@ unfoldable pub goesOnOf : Bool → ℕ → ℕ → Bool
 goesOnOf ticked n room = cond (leb (n + tickRoom) room) ticked false
 
 -- a tick that was played
-pub record tickedOf (code : ℕ) (t : Ticked) (at : ℕ) (out : List ℕ) (n : ℕ) (r : Turn) (out' : List ℕ) : Type 0 where
+pub record tickedOf (code : ℕ) (t : JournalTicked) (at : ℕ) (out : List ℕ) (n : ℕ) (r : Played) (out' : List ℕ) : Type 0 where
   pub reader : r .reader ≡ t .reader
   pub run : r .run ≡ t .run
   pub at-is : r .at ≡ at
@@ -99,7 +99,7 @@ pub record tickedOf (code : ℕ) (t : Ticked) (at : ℕ) (out : List ℕ) (n : �
   pub text : Put out n (eventText code (t .verdict) (t .run .rt)) (r .n) out'
 
 -- the journal with what an answer says of it
-abbrev pub playingOf : Turn → List Float → Playing
+abbrev pub playingOf : Played → List Float → Playing
 playingOf r l = record { journal = wholeOf (r .reader) (r .run) l; n = r .n }
 
 -- before all of s no record is taken, and why
@@ -110,7 +110,7 @@ pub record Stopped (code room : ℕ) (p : Playing) (s : List ℕ) (ticked : Bool
   pub refused-is : refused ≡ refusedBy end
 
 -- from place `at` of s some records were played: the ticks `told`, whose text stands behind n bytes. The last was a tick, or no more is to be had.
-pub record Turned (code : ℕ) (w : Whole) (s : List ℕ) (at : ℕ) (out : List ℕ) (n : ℕ) (r : Turn) (l' : List Float) (out' : List ℕ) : Type 0 where
+pub record Turned (code : ℕ) (w : Whole) (s : List ℕ) (at : ℕ) (out : List ℕ) (n : ℕ) (r : Played) (l' : List Float) (out' : List ℕ) : Type 0 where
   pub told : List Decided
   pub from : at ≤ r .at
   pub within : r .at ≤ length s

@@ -12,7 +12,7 @@ use lictor_core::fuse::TickInput;
 
 // ---- from tick to tick
 
-pub struct Turn {
+pub struct Played {
     pub reader: Reader,
     pub run: Run,
     // the bytes that were taken, and those of text
@@ -34,7 +34,7 @@ fn play_tick(
     at: usize,
     out: &mut [u8],
     n: usize,
-) -> Turn
+) -> Played
     requires { ⌜ n + tickRoom ≤ length (now out) ⌝ }
     ensures { λ r. ⌜ tickedOf code (journalTick (wholeOf rd run (now (lists .entry))) inp) at (now (out .entry)) n r (now (out .exit)) ⌝ }
 {
@@ -44,7 +44,7 @@ fn play_tick(
     let verdict = t.verdict;
     let rt = after.rt;
     let m = report::render::tick_text(code, verdict, rt, out, n);
-    Turn {
+    Played {
         reader,
         run: after,
         at,
@@ -64,7 +64,7 @@ fn play_turn(
     at: usize,
     out: &mut [u8],
     n: usize,
-) -> Turn
+) -> Played
     requires { ⌜ (at ≤ length (now s)) × (n + tickRoom ≤ length (now out)) ⌝ }
     ensures { λ r. ⌜ Turned code (wholeOf rd run (now (lists .entry))) (now (s .entry)) at (now (out .entry)) n r (now (lists .exit)) (now (out .exit)) ⌝ }
 {
@@ -74,7 +74,7 @@ fn play_turn(
     let i = at + a.used;
     let how = a.how;
     match how {
-        How::Waits => Turn {
+        How::Waits => Played {
             reader,
             run: after,
             at: i,
@@ -82,7 +82,7 @@ fn play_turn(
             ticked: false,
             refused: 0,
         },
-        How::Refuses(r) => Turn {
+        How::Refuses(r) => Played {
             reader,
             run: after,
             at: i,
@@ -119,10 +119,10 @@ pub fn feed(
     lists: &mut [f64; 576],
     s: &[u8],
     out: &mut [u8],
-) -> Turn
+) -> Played
     ensures { λ r. ⌜ Fed code (wholeOf rd run (now (lists .entry))) (now (s .entry)) (now (out .entry)) r (now (lists .exit)) (now (out .exit)) ⌝ }
 {
-    let mut t = Turn {
+    let mut t = Played {
         reader: rd,
         run,
         at: 0,

@@ -19,7 +19,7 @@ use Rattle.text.proofs.Lines.{line-text}
 use Rattle.fmath.specs.Root.{rootOf}
 use Rattle.roots.specs.declared.Read.{Read}
 use Rattle.roots.specs.declared.Read.the-variants.{Pattern, Bad}
-use Rattle.roots.specs.Text.{digitOf, readDigits, readOf, rootText, byRead, answerTo, isBad, answers, someBad, lineCount, Put, Answered}
+use Rattle.roots.specs.Text.{digitOf, readDigits, patternOf, rootText, byRead, answerTo, isBad, answers, someBad, lineCount, Put, Answered}
 
 -- ---- reading: the digits of s from the i-th on
 pub digits-on : (s : List ℕ) (i b : ℕ) → length s ≡ 17 → i < 16 → digitOf (getD s i 0) < 16
@@ -99,7 +99,7 @@ line-length b = simp length-append (omega (arith, hex-length 16 b, value-length 
 
 pub answer-length : (s : List ℕ) → length (answerTo s) ≤ 34
 unfolding answerTo
-answer-length s = go (readOf s)
+answer-length s = go (patternOf s)
   where
     go : (r : Read) → length (byRead r rootText (ascii "bad line\n")) ≤ 34
     go (Pattern b) = line-length b

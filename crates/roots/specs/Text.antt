@@ -26,9 +26,9 @@ readDigits v [] = Pattern v
 readDigits v (c ∷ cs) = cond (ltb (digitOf c) 16) (readDigits (v * 16 + digitOf c) cs) Bad
 
 -- a line is 16 digits and a newline
-unfoldable pub readOf : List ℕ → Read
+unfoldable pub patternOf : List ℕ → Read
 unfolding readDigits
-readOf s = cond (eqb (length s) 17) (cond (eqb (getD s 16 0) 10) (readDigits 0 (take 16 s)) Bad) Bad
+patternOf s = cond (eqb (length s) 17) (cond (eqb (getD s 16 0) 10) (readDigits 0 (take 16 s)) Bad) Bad
 
 -- ---- writing
 
@@ -44,12 +44,12 @@ byRead Bad f a = a
 
 -- the answer to one line
 unfoldable pub answerTo : List ℕ → List ℕ
-unfolding readOf rootText
-answerTo s = byRead (readOf s) rootText (ascii "bad line\n")
+unfolding patternOf rootText
+answerTo s = byRead (patternOf s) rootText (ascii "bad line\n")
 
 unfoldable pub isBad : List ℕ → Bool
-unfolding readOf
-isBad s = byRead (readOf s) (λ b. false) true
+unfolding patternOf
+isBad s = byRead (patternOf s) (λ b. false) true
 
 -- the answers to k lines of 17 bytes, up to the first bad one
 unfoldable pub answers : ℕ → List ℕ → List ℕ

@@ -6,7 +6,7 @@ ghost use Prim.Native.Nat.{_+_, _*_, _≤_};
 ghost use lib.ListN.{length};
 ghost use Rattle.text.specs.Line.{lineOf, pushOf};
 ghost use Rattle.text.specs.Number.{hexIn};
-ghost use Rattle.roots.specs.Text.{digitOf, readOf, rootText, answerTo, isBad, lineCount, Put, Answered};
+ghost use Rattle.roots.specs.Text.{digitOf, patternOf, rootText, answerTo, isBad, lineCount, Put, Answered};
 use lictor_core::num::least;
 use text::Line;
 use text::empty;
@@ -41,7 +41,7 @@ fn digit(c: u8) -> u8
 
 // What a line says, its newline included.
 fn read_line(s: &[u8]) -> Read
-    ensures { λ r. ⌜ r ≡ readOf (now (s .entry)) ⌝ }
+    ensures { λ r. ⌜ r ≡ patternOf (now (s .entry)) ⌝ }
 {
     if s.len() != 17 {
         return Read::Bad;

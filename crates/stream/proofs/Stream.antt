@@ -6,7 +6,7 @@ use mathlib.Core.Path.{_≡_, refl, sym, ap, _∙_}
 use native.Mathlib.Omega.{arith}
 use lib.ListN.{length, take, drop, length-append, length-drop}
 use lib.Seq.{drop-append-le, drop-drop, take-add, drop-at, length-take-le}
-use Rattle.stream.specs.Stream.{Next, wait, halt, go, tell, End, waiting, halted, Settled, telling, after, settle, settled, Advanced, past, upTo, advance, advanced, Reached, goesOn, takes, size, Machine, fed, whole}
+use Rattle.stream.specs.Stream.{Next, wait, halt, go, tell, End, awaits, halted, Settled, telling, after, settle, settled, Advanced, past, upTo, advance, advanced, Reached, goesOn, takes, size, Machine, fed, whole}
 
 with-told : {R E H : Type 0} → Settled R E H → List E → Settled R E H
 with-told a es = record { state = a .state; rest = a .rest; told = es; end = a .end }
@@ -63,7 +63,7 @@ module _ {R E H : Type 0} (next : R → List ℕ → Next R E H) (there : (r : R
   fuel (suc f) (suc g) r s p q = fuel-by f g (λ r' u p' q'. fuel f g r' u p' q') r s (omega arith) (omega arith) (next r s) refl
 
   -- one record, as a program takes it
-  pub settled-wait : (r : R) (s : List ℕ) → next r s ≡ wait → settled next r s ≡ record { state = r; rest = s; told = []; end = waiting }
+  pub settled-wait : (r : R) (s : List ℕ) → next r s ≡ wait → settled next r s ≡ record { state = r; rest = s; told = []; end = awaits }
   unfolding settled
   settled-wait r s e = step-is (length s) r s wait e
 
@@ -156,11 +156,11 @@ module _ {R E H : Type 0} (next : R → List ℕ → Next R E H) (m : Machine ne
 
   -- where a machine has settled, it waits or it halts, as it says
   abbrev pub Still : Settled R E H → End H → Type 0
-  Still a waiting = next (a .state) (a .rest) ≡ wait
+  Still a awaits = next (a .state) (a .rest) ≡ wait
   Still a (halted h) = next (a .state) (a .rest) ≡ halt h
 
   still-telling : (es : List E) (a : Settled R E H) (x : End H) → Still a x → Still (telling es a) x
-  still-telling es a waiting p = p
+  still-telling es a awaits p = p
   still-telling es a (halted h) p = p
 
   still-by : (f : ℕ) → ((r : R) (s : List ℕ) → length s < f → Still (settle next f r s) (settle next f r s .end))
@@ -189,7 +189,7 @@ module _ {R E H : Type 0} (next : R → List ℕ → Next R E H) (m : Machine ne
     pub place : ℕ
     pub within : place ≤ length s
     pub rest-is : a .rest ≡ drop place s
-    pub before : settled next r (take place s) ≡ record { state = a .state; rest = []; told = a .told; end = waiting }
+    pub before : settled next r (take place s) ≡ record { state = a .state; rest = []; told = a .told; end = awaits }
 
   front-none : (r : R) (s : List ℕ) (x : End H) → Front r s (record { state = r; rest = s; told = []; end = x })
   front-none r s x = record { place = 0; within = omega arith; rest-is = refl; before = settled-wait next (m .there) r [] (m .idle r) }
@@ -236,7 +236,7 @@ module _ {R E H : Type 0} (next : R → List ℕ → Next R E H) (m : Machine ne
 
   front-by : (f : ℕ) → ((r : R) (s : List ℕ) → length s < f → Front r s (settle next f r s))
       → (r : R) (s : List ℕ) → length s ≤ f → (x : Next R E H) → next r s ≡ x → Front r s (settle next (suc f) r s)
-  front-by f ih r s p wait e = rw (step-is next (m .there) f r s wait e) (front-none r s waiting)
+  front-by f ih r s p wait e = rw (step-is next (m .there) f r s wait e) (front-none r s awaits)
   front-by f ih r s p (halt h) e = rw (step-is next (m .there) f r s (halt h) e) (front-none r s (halted h))
   front-by f ih r s p (go r' n) e =
       let b = goes next (m .there) r s r' n e in

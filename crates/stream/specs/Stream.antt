@@ -16,7 +16,7 @@ pub data Next (R E H : Type 0) : Type 0 where
 
 -- why it takes no more bytes
 pub data End (H : Type 0) : Type 0 where
-  waiting : End H
+  awaits : End H
   halted : H → End H
 
 -- where it settles: its state, the bytes that it did not take, all that it told, and why it takes no more
@@ -31,14 +31,14 @@ abbrev pub telling : {R E H : Type 0} → List E → Settled R E H → Settled R
 telling es a = record { state = a .state; rest = a .rest; told = es ++ a .told; end = a .end }
 
 abbrev pub after : {R E H : Type 0} → R → List ℕ → Next R E H → (R → ℕ → Settled R E H) → Settled R E H
-after r s wait k = record { state = r; rest = s; told = []; end = waiting }
+after r s wait k = record { state = r; rest = s; told = []; end = awaits }
 after r s (halt h) k = record { state = r; rest = s; told = []; end = halted h }
 after r s (go r' n) k = k r' n
 after r s (tell r' n e) k = telling (e ∷ []) (k r' n)
 
 -- at most so many records
 unfoldable pub settle : {R E H : Type 0} → (R → List ℕ → Next R E H) → ℕ → R → List ℕ → Settled R E H
-settle next zero r s = record { state = r; rest = s; told = []; end = waiting }
+settle next zero r s = record { state = r; rest = s; told = []; end = awaits }
 settle next (suc f) r s = after r s (next r s) (λ r' n. settle next f r' (drop n s))
 
 -- all records: there are no more of them than bytes

@@ -1,5 +1,5 @@
 use mathlib.Core.Path.{refl}
-use Rattle.cases.specs.Cases.{afterOf}
+use Rattle.cases.specs.Cases.{tickAfter}
 use lib.Ieee.{ofBits}
 use borrow.Author.Needs.{needs}
 use Rattle.cases.proofs.after.Statement.{statement}
@@ -36,7 +36,7 @@ tick-requires : tie.Need-tick-requires
 tick-requires c κs = search needs
 
 returns : tie.Need-returns
-unfolding afterOf ofBits
+unfolding tickAfter ofBits
 returns c = rw (c .before .tick .ensures, c .before .before .before .before .before .before .before .outcome .ensures, c .before .before .before .before .before .before .before .before .first .ensures, c .before .before .before .before .before .before .before .before .before .settings .ensures, c .before .before .before .before .before .before .before .before .before .before .input .ensures) refl
 
 pub after-spec : {M : Type 1} → statement M

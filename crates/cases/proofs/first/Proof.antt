@@ -1,5 +1,5 @@
 use mathlib.Core.Path.{refl}
-use Rattle.cases.specs.Cases.{firstOf}
+use Rattle.cases.specs.Cases.{clockAt}
 use lib.Ieee.{ofBits}
 use borrow.Author.Needs.{needs}
 use Rattle.cases.proofs.first.Statement.{statement}
@@ -39,7 +39,7 @@ tick-requires : tie.Need-tick-requires
 tick-requires c κs = search needs
 
 returns : tie.Need-returns
-unfolding firstOf ofBits
+unfolding clockAt ofBits
 returns c = rw (c .before .tick .ensures, c .before .before .before .before .before .before .before .outcome .ensures, c .before .before .before .before .before .before .before .before .settings .ensures, c .before .before .before .before .before .before .before .before .before .input .ensures, c .before .before .before .before .before .before .before .before .before .before .reset .ensures, c .before .before .before .before .before .before .before .before .before .before .before .new .ensures) refl
 
 pub first-spec : {M : Type 1} → statement M

@@ -16,8 +16,8 @@ use Rattle.lictor_fuse.proofs.tick as core
 use Rattle.lictor_fuse.proofs.tick.Symbol as core-def
 use Rattle.lictor_fuse.proofs.tick.Symbol.{name as #core}
 use Rattle.lictor_fuse.proofs.tick.Met as core-thm
-use Rattle.host.specs.declared.Answer.{Answer}
-use Rattle.host.specs.Host.{answerOf, numberOf}
+use Rattle.host.specs.declared.HostAnswer.{HostAnswer}
+use Rattle.host.specs.Host.{hostAnswerOf, hostNumber}
 use Rattle.lent.proofs.Call.{Fs, answered-meets}
 use Rattle.host.proofs.Refused.{refused-call}
 use Rattle.host.proofs.Types.{S, G, I, O, R, Z, parts}
@@ -30,10 +30,10 @@ use Rattle.host.proofs.tick.Code as code
 abbrev given : Settings → FuseRt → TickInput → Outcome → Fs → Ticked
 given s h i u l = tickOf s h i u (l .0) (l .1 .0) (l .1 .1 .0) (l .1 .1 .1 .0) (l .1 .1 .1 .1 .0)
 
-abbrev Says : FuseRt → Settings → TickInput → Outcome → Fs → Answer → FuseRt → Type 0
-Says h s i u l a z = (a ≡ answerOf (given s h i u l)) × (z ≡ given s h i u l .rt) × (isAccepted (checkOf s) ≡ false → (numberOf a ≡ checkNumber (checkOf s)) × (a .verdict ≡ noVerdict) × (z ≡ h))
+abbrev Says : FuseRt → Settings → TickInput → Outcome → Fs → HostAnswer → FuseRt → Type 0
+Says h s i u l a z = (a ≡ hostAnswerOf (given s h i u l)) × (z ≡ given s h i u l .rt) × (isAccepted (checkOf s) ≡ false → (hostNumber a ≡ checkNumber (checkOf s)) × (a .verdict ≡ noVerdict) × (z ≡ h))
 
-said : (h : FuseRt) (s : Settings) (i : TickInput) (u : Outcome) (l : Fs) → Says h s i u l (answerOf (given s h i u l)) (given s h i u l .rt)
+said : (h : FuseRt) (s : Settings) (i : TickInput) (u : Outcome) (l : Fs) → Says h s i u l (hostAnswerOf (given s h i u l)) (given s h i u l .rt)
 said h s i u l = (refl, refl, refused-call s h i u (l .0) (l .1 .0) (l .1 .1 .0) (l .1 .1 .1 .0) (l .1 .1 .1 .1 .0))
 
 pub tick-spec : {M : Type 1} → stated.statement M

@@ -15,10 +15,10 @@ use Rattle.lictor_fuse.specs.declared.Ticked.{Ticked}
 use Rattle.lictor_fuse.specs.Tick.{tickOf, isAccepted, noVerdict}
 use Rattle.lictor_fuse.proofs.Ticked as Tk
 use Rattle.lictor_fuse.proofs.Ticked.Laws as Tk′
-use Rattle.host.specs.declared.Answer.{Answer}
-use Rattle.host.specs.Host.{answerOf, numberOf}
-use Rattle.host.proofs.Answer as An
-use Rattle.host.proofs.Answer.Laws as An′
+use Rattle.host.specs.declared.HostAnswer.{HostAnswer}
+use Rattle.host.specs.Host.{hostAnswerOf, hostNumber}
+use Rattle.host.proofs.HostAnswer as An
+use Rattle.host.proofs.HostAnswer.Laws as An′
 use Rattle.lent.proofs.Call.{Fs}
 use Rattle.lent.proofs.Data.{vals}
 use Rattle.lent.proofs.Lending.{Joined, lending-meets}
@@ -44,10 +44,10 @@ joined = record {
 abbrev given : Settings → FuseRt → TickInput → Outcome → Fs → Ticked
 given s h i u l = tickOf s h i u (l .0) (l .1 .0) (l .1 .1 .0) (l .1 .1 .1 .0) (l .1 .1 .1 .1 .0)
 
-abbrev Says : FuseRt → Settings → TickInput → Outcome → Fs → Answer → FuseRt → Type 0
-Says h s i u l a z = (a ≡ answerOf (given s h i u l)) × (z ≡ given s h i u l .rt) × (isAccepted (checkOf s) ≡ false → (numberOf a ≡ checkNumber (checkOf s)) × (a .verdict ≡ noVerdict) × (z ≡ h))
+abbrev Says : FuseRt → Settings → TickInput → Outcome → Fs → HostAnswer → FuseRt → Type 0
+Says h s i u l a z = (a ≡ hostAnswerOf (given s h i u l)) × (z ≡ given s h i u l .rt) × (isAccepted (checkOf s) ≡ false → (hostNumber a ≡ checkNumber (checkOf s)) × (a .verdict ≡ noVerdict) × (z ≡ h))
 
-said : (h : FuseRt) (s : Settings) (i : TickInput) (u : Outcome) (l : Fs) (a : Answer) (z : FuseRt) → Says h s i u l a z → joined .both a z ≡ given s h i u l
+said : (h : FuseRt) (s : Settings) (i : TickInput) (u : Outcome) (l : Fs) (a : HostAnswer) (z : FuseRt) → Says h s i u l a z → joined .both a z ≡ given s h i u l
 said h s i u l a z e = λ j. joined .both (e .0 j) (e .1 j)
 
 pub once-spec : {M : Type 1} → stated.statement M

@@ -10,7 +10,7 @@ use Rattle.lictor_fuse.specs.declared.decide.Decided.{Decided}
 use Rattle.journal_refusals.specs.declared.Refusal.{Refusal}
 use Rattle.journal_reader.specs.declared.waiting.Reader.{Reader}
 use Rattle.stream.specs.Stream.{Advanced, Reached, goesOn}
-use Rattle.journal_reader.specs.Reading.{nextOf}
+use Rattle.journal_reader.specs.Reading.{onBytes}
 use Rattle.stream.proofs.Stream.{reached-none, reached-on, reached-end}
 use Rattle.journal.specs.declared.tick.Run.{Run}
 use Rattle.journal.specs.declared.How.the-variants.{Waits}
@@ -34,7 +34,7 @@ first rd run = record { reader = rd; run = run; at = 0; how = Waits; more = true
 record Kept (l₀ : List Float) (s : List ℕ) (t₀ : Step) (l : List Float) (t : Step) : Type 0 where
   pub reached : Reached replayOf (at-step t₀ l₀) s (t₀ .at) (at-step t l) (t .at)
   pub stops : t .more ≡ false → goesOn (replayOf (at-step t l) (drop (t .at) s)) ≡ false
-  pub how : t .more ≡ false → t .how ≡ howOf (nextOf (at-step t l .state) (drop (t .at) s))
+  pub how : t .more ≡ false → t .how ≡ howOf (onBytes (at-step t l .state) (drop (t .at) s))
 
 kept-first : (rd : Reader) (run : Run) (s : List ℕ) (l : List Float) → Kept l s (first rd run) l (first rd run)
 kept-first rd run s l = record {

@@ -11,8 +11,8 @@ use Rattle.journal_reader.specs.declared.waiting.Waiting.{Waiting}
 use Rattle.journal_reader.specs.declared.Look.the-variants as L
 use Rattle.journal_reader.specs.declared.Took.{Took}
 use Rattle.stream.specs.Stream.{Reached}
-use Rattle.journal_reader.specs.Reading.{lookOf, nextOf}
-use Rattle.journal_reader.specs.Steps.{stateOf, looksSmall, TookOne, Collected}
+use Rattle.journal_reader.specs.Reading.{lookOf, onBytes}
+use Rattle.journal_reader.specs.Steps.{stateWith, looksSmall, TookOne, Collected}
 use Rattle.stream.proofs.Stream.{reached-none, reached-on}
 use Rattle.journal_reader.proofs.Reading.{machine}
 use Rattle.journal_reader.proofs.Steps.{took-reached, took-within, took-look, took-less}
@@ -25,14 +25,14 @@ first w at = record { waiting = w; at = at; look = L.Waits; more = true }
 
 -- what was taken so far, and what stands there where nothing more is taken
 record Kept (l₀ : List Float) (s : List ℕ) (t₀ : Took) (l : List Float) (t : Took) : Type 0 where
-  pub reached : (o : Outcome) → Reached nextOf (stateOf (t₀ .waiting) o l₀) s (t₀ .at) (stateOf (t .waiting) o l) (t .at)
+  pub reached : (o : Outcome) → Reached onBytes (stateWith (t₀ .waiting) o l₀) s (t₀ .at) (stateWith (t .waiting) o l) (t .at)
   pub within : t .at ≤ length s
   pub other : t .more ≡ false → looksSmall (t .look) ≡ false
   pub look : t .more ≡ false → t .look ≡ lookOf (t .waiting .seen) (drop (t .at) s)
 
 kept-first : (w : Waiting) (l : List Float) (s : List ℕ) (at : ℕ) → at ≤ length s → Kept l s (first w at) l (first w at)
 kept-first w l s at h = record {
-  reached = λ o. reached-none nextOf machine (stateOf w o l) s at h;
+  reached = λ o. reached-none onBytes machine (stateWith w o l) s at h;
   within = h;
   other = λ y. absurd (no y);
   look = λ y. absurd (no y);
@@ -44,7 +44,7 @@ kept-first w l s at h = record {
 kept-more : (l₀ : List Float) (s : List ℕ) (t₀ : Took) (l : List Float) (t : Took) → Kept l₀ s t₀ l t → (r : Took) (l' : List Float) → TookOne (t .waiting) l s (t .at) r l'
     → Kept l₀ s t₀ l' r
 kept-more l₀ s t₀ l t k r l' n = record {
-  reached = λ o. reached-on nextOf machine (k .reached o) (took-reached (t .waiting) l s (t .at) (k .within) r l' n o);
+  reached = λ o. reached-on onBytes machine (k .reached o) (took-reached (t .waiting) l s (t .at) (k .within) r l' n o);
   within = took-within (t .waiting) l s (t .at) (k .within) r l' n;
   other = n .other;
   look = took-look (t .waiting) l s (t .at) (k .within) r l' n;

@@ -1,4 +1,4 @@
--- Turn by turn, up to what the reader comes to.
+-- Reading by turn, up to what the reader comes to.
 use Prim.Native.Nat.{ℕ, _+_, _-_}
 use mathlib.Core.Path.{_≡_, sym, ap}
 use mathlib.Core.Bool.{true, false, cond}
@@ -9,34 +9,34 @@ use lib.Ieee.{Float}
 use Rattle.journal_refusals.specs.declared.Refusal.{Refusal}
 use Rattle.journal_reader.specs.declared.Progress.{Progress}
 use Rattle.journal_reader.specs.declared.waiting.Reader.{Reader}
-use Rattle.journal_reader.specs.declared.Turn.{Turn}
+use Rattle.journal_reader.specs.declared.Reading.{Reading}
 use Rattle.journal_reader.specs.declared.What.the-variants.{Waits}
 use Rattle.journal_reader.specs.State.{State}
 use Rattle.stream.specs.Stream.{Advanced, Reached, goesOn}
-use Rattle.journal_reader.specs.Reading.{Instruction, nextOf, whatOf, readOf, listsAfter}
-use Rattle.journal_reader.specs.Steps.{Turned}
+use Rattle.journal_reader.specs.Reading.{Instruction, onBytes, whatOf, readOf, listsRead}
+use Rattle.journal_reader.specs.Steps.{TookReading}
 use Rattle.stream.proofs.Stream.{reached-none, reached-on, reached-end}
 use Rattle.journal_reader.proofs.Reading.{machine}
 use Rattle.journal_reader.proofs.Steps.{turn-less}
 use Rattle.journal_reader.proofs.read.Statement.{statement}
 use Rattle.journal_reader.proofs.read.Tie as tie
 
-abbrev at-turn : Turn → List Float → State
+abbrev at-turn : Reading → List Float → State
 at-turn t l = record { reader = t .reader; lists = l }
 
 -- before the first turn
-abbrev first : Reader → Turn
+abbrev first : Reader → Reading
 first rd = record { reader = rd; at = 0; what = Waits; more = true }
 
 -- what was taken so far, and what stands there where nothing more is taken
-record Kept (l₀ : List Float) (s : List ℕ) (t₀ : Turn) (l : List Float) (t : Turn) : Type 0 where
-  pub reached : Reached nextOf (at-turn t₀ l₀) s (t₀ .at) (at-turn t l) (t .at)
-  pub stops : t .more ≡ false → goesOn (nextOf (at-turn t l) (drop (t .at) s)) ≡ false
-  pub what : t .more ≡ false → t .what ≡ whatOf (nextOf (at-turn t l) (drop (t .at) s))
+record Kept (l₀ : List Float) (s : List ℕ) (t₀ : Reading) (l : List Float) (t : Reading) : Type 0 where
+  pub reached : Reached onBytes (at-turn t₀ l₀) s (t₀ .at) (at-turn t l) (t .at)
+  pub stops : t .more ≡ false → goesOn (onBytes (at-turn t l) (drop (t .at) s)) ≡ false
+  pub what : t .more ≡ false → t .what ≡ whatOf (onBytes (at-turn t l) (drop (t .at) s))
 
 kept-first : (rd : Reader) (s : List ℕ) (l : List Float) → Kept l s (first rd) l (first rd)
 kept-first rd s l = record {
-  reached = reached-none nextOf machine (at-turn (first rd) l) s 0 (omega arith);
+  reached = reached-none onBytes machine (at-turn (first rd) l) s 0 (omega arith);
   stops = λ y. absurd (no y);
   what = λ y. absurd (no y);
 }
@@ -44,15 +44,15 @@ kept-first rd s l = record {
     no : true ≡ false → ⊥
     no y = let f : _≡_ {A = ℕ} 0 1 = cc in omega arith
 
-kept-more : (l₀ : List Float) (s : List ℕ) (t₀ : Turn) (l : List Float) (t : Turn) → Kept l₀ s t₀ l t → (r : Turn) (l' : List Float) → Turned (at-turn t l) s (t .at) r l'
+kept-more : (l₀ : List Float) (s : List ℕ) (t₀ : Reading) (l : List Float) (t : Reading) → Kept l₀ s t₀ l t → (r : Reading) (l' : List Float) → TookReading (at-turn t l) s (t .at) r l'
     → Kept l₀ s t₀ l' r
-kept-more l₀ s t₀ l t k r l' n = record { reached = reached-on nextOf machine (k .reached) (n .reached); stops = n .stops; what = n .what }
+kept-more l₀ s t₀ l t k r l' n = record { reached = reached-on onBytes machine (k .reached) (n .reached); stops = n .stops; what = n .what }
 
-finished : (rd : Reader) (s : List ℕ) (l₀ l : List Float) (t : Turn) → Kept l₀ s (first rd) l t → t .more ≡ false
-    → (_≡_ {A = Progress} (record { reader = t .reader; used = t .at; what = t .what }) (readOf (at-turn (first rd) l₀) s)) × (l ≡ listsAfter (at-turn (first rd) l₀) s)
-unfolding readOf listsAfter
+finished : (rd : Reader) (s : List ℕ) (l₀ l : List Float) (t : Reading) → Kept l₀ s (first rd) l t → t .more ≡ false
+    → (_≡_ {A = Progress} (record { reader = t .reader; used = t .at; what = t .what }) (readOf (at-turn (first rd) l₀) s)) × (l ≡ listsRead (at-turn (first rd) l₀) s)
+unfolding readOf listsRead
 finished rd s l₀ l t k y =
-    let e = reached-end nextOf machine (at-turn (first rd) l₀) s (at-turn t l) (t .at) (k .reached) (k .stops y) in (
+    let e = reached-end onBytes machine (at-turn (first rd) l₀) s (at-turn t l) (t .at) (k .reached) (k .stops y) in (
       rw (e, k .what y),
       ap (λ (a : Advanced State Instruction Refusal). a .state .lists) (sym e),
     )
@@ -66,14 +66,14 @@ abbrev μ-loop : tie.MeasureT-loop
 loop-holds : tie.Need-loop-holds Inv-loop μ-loop
 loop-holds c = kept-first _ _ _
 
-take-turn-requires : tie.Need-take-turn-requires Inv-loop μ-loop
-take-turn-requires c κs = c .before .before .before .loop .inv .reached .within
+take-reading-requires : tie.Need-take-reading-requires Inv-loop μ-loop
+take-reading-requires c κs = c .before .before .before .loop .inv .reached .within
 
 loop-less : tie.Need-loop-less Inv-loop μ-loop
-loop-less c = rw (c .before .before .before .loop-test .taken) (turn-less _ _ _ _ _ (c .take-turn .ensures))
+loop-less c = rw (c .before .before .before .loop-test .taken) (turn-less _ _ _ _ _ (c .take-reading .ensures))
 
 loop-again : tie.Need-loop-again Inv-loop μ-loop
-loop-again c = kept-more _ _ _ _ _ (c .before .before .before .before .loop .inv) _ _ (c .take-turn .ensures)
+loop-again c = kept-more _ _ _ _ _ (c .before .before .before .before .loop .inv) _ _ (c .take-reading .ensures)
 
 returns : tie.Need-returns Inv-loop μ-loop
 returns c = finished _ _ _ _ _ (c .before .before .loop .inv) (c .before .loop-test .left)
@@ -85,7 +85,7 @@ read-spec =
     Inv-loop
     μ-loop
     loop-holds
-    take-turn-requires
+    take-reading-requires
     loop-less
     loop-again
     returns)

@@ -4,8 +4,8 @@ use borrow.Author.Needs.{needs}
 use Rattle.journal_reader.proofs.refused_as.Statement.{statement}
 use Rattle.journal_reader.proofs.refused_as.Tie as tie
 
-is-cut-requires : tie.Need-is-cut-requires
-is-cut-requires c κs = search needs
+is-cut-body-requires : tie.Need-is-cut-body-requires
+is-cut-body-requires c κs = search needs
 
 returns : tie.Need-returns
 unfolding lookAs
@@ -16,4 +16,4 @@ unfolding lookAs
 returns-2 c = search branches depth 12
 
 pub refused-as-spec : {M : Type 1} → statement M
-refused-as-spec = tie.close (tie.spec is-cut-requires returns returns-2)
+refused-as-spec = tie.close (tie.spec is-cut-body-requires returns returns-2)

@@ -1,7 +1,7 @@
 use mathlib.Core.Path.{_≡_, refl, ap}
 use native.Mathlib.Omega.{arith}
 use borrow.Author.Needs.{needs}
-use Rattle.journal.specs.declared.tick.Ticked.{Ticked}
+use Rattle.journal.specs.declared.tick.JournalTicked.{JournalTicked}
 use Rattle.report.proofs.Laws.{put-is}
 use Rattle.player.proofs.play_tick.Statement.{statement}
 use Rattle.player.proofs.play_tick.Tie as tie
@@ -24,8 +24,8 @@ returns c =
     let t = c .before .before .before .before .before .before .before .before .tick .ensures in
     let m = c .before .before .tick-text .ensures in
     record {
-      reader = ap (λ (x : Ticked). x .reader) t;
-      run = ap (λ (x : Ticked). x .run) t;
+      reader = ap (λ (x : JournalTicked). x .reader) t;
+      run = ap (λ (x : JournalTicked). x .run) t;
       at-is = refl;
       ticked = refl;
       none = refl;

@@ -4,7 +4,7 @@ use Prim.Native.Nat.{_-_, _^_, _<_}
 use native.Mathlib.Omega.{arith}
 use borrow.Author.Tests.{eq-eqb, ne-eqb}
 use lib.ListN.{take, drop, getD}
-use Rattle.roots.specs.Text.{digitOf, readDigits, readOf}
+use Rattle.roots.specs.Text.{digitOf, readDigits, patternOf}
 use Rattle.roots.proofs.Laws.{digits-on, digits-stop, digits-end, value-lt, value-small}
 use Rattle.roots.proofs.read_line.Statement.{statement}
 use Rattle.roots.proofs.read_line.Tie as tie
@@ -16,14 +16,14 @@ abbrev μ-loop : tie.MeasureT-loop
 μ-loop s b₀ i₀ b i = 16 - i
 
 returns : tie.Need-returns Inv-loop μ-loop
-unfolding readOf
+unfolding patternOf
 returns c = simp (ne-eqb _ _ (c .if1 .taken))
 
 shared-slice-read-if2 : tie.Need-shared-slice-read-if2 Inv-loop μ-loop
 shared-slice-read-if2 c = omega arith
 
 returns-2 : tie.Need-returns-2 Inv-loop μ-loop
-unfolding readOf
+unfolding patternOf
 returns-2 c = simp (eq-eqb _ _ (c .before .before .if1 .left), ne-eqb _ _ (c .if2 .taken))
 
 loop-holds : tie.Need-loop-holds Inv-loop μ-loop
@@ -36,7 +36,7 @@ digit-requires : tie.Need-digit-requires Inv-loop μ-loop
 digit-requires c κs = tt
 
 returns-3 : tie.Need-returns-3 Inv-loop μ-loop
-unfolding readOf
+unfolding patternOf
 returns-3 c =
     let at = c .before .before .before .before in
     let e = at .before in
@@ -70,7 +70,7 @@ loop-again c =
     )
 
 returns-4 : tie.Need-returns-4 Inv-loop μ-loop
-unfolding readOf
+unfolding patternOf
 returns-4 c =
     let at = c .before in
     let e = at .before in

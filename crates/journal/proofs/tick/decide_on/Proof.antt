@@ -1,5 +1,5 @@
 use borrow.Author.Needs.{needs}
-use Rattle.journal_reader.specs.Reading.{callOf}
+use Rattle.journal_reader.specs.Reading.{broughtOf}
 use Rattle.journal.specs.Tick.{decidedOf}
 use Rattle.journal.proofs.tick.decide_on.Statement.{statement}
 use Rattle.journal.proofs.tick.decide_on.Tie as tie
@@ -23,7 +23,7 @@ decide-requires : tie.Need-decide-requires
 decide-requires c κs = search needs
 
 returns : tie.Need-returns
-unfolding decidedOf callOf
+unfolding decidedOf broughtOf
 returns c = rw (c .decide .ensures, c .before .values5 .ensures, c .before .before .values4 .ensures, c .before .before .before .values3 .ensures, c .before .before .before .before .values2 .ensures, c .before .before .before .before .before .values .ensures)
 
 pub decide-on-spec : {M : Type 1} → statement M

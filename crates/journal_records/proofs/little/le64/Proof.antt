@@ -16,11 +16,11 @@ le-requires c κs = search needs
 returns-2 : tie.Need-returns-2
 returns-2 c = search needs
 
-eight-requires : tie.Need-eight-requires
-eight-requires c κs = search needs
+le-eight-requires : tie.Need-le-eight-requires
+le-eight-requires c κs = search needs
 
 returns-3 : tie.Need-returns-3
 returns-3 c = search needs
 
 pub le64-spec : {M : Type 1} → statement M
-le64-spec = tie.close (tie.spec returns sub-if2 le-requires returns-2 eight-requires returns-3)
+le64-spec = tie.close (tie.spec returns sub-if2 le-requires returns-2 le-eight-requires returns-3)

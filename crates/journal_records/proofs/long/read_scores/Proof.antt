@@ -1,4 +1,4 @@
-use Rattle.journal_records.specs.Long.{scoresOf}
+use Rattle.journal_records.specs.Long.{scoresIn}
 use borrow.Author.Needs.{needs}
 use Rattle.journal_records.proofs.long.read_scores.Statement.{statement}
 use Rattle.journal_records.proofs.long.read_scores.Tie as tie
@@ -19,7 +19,7 @@ le32-requires-2 : tie.Need-le32-requires-2
 le32-requires-2 c κs = search needs
 
 returns : tie.Need-returns
-unfolding scoresOf
+unfolding scoresIn
 returns c = rw (c .le322 .ensures, c .before .le32 .ensures, c .before .before .f64-at .ensures, c .before .before .before .before .fill .ensures)
 
 pub read-scores-spec : {M : Type 1} → statement M

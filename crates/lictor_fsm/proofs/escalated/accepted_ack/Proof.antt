@@ -10,8 +10,8 @@ enum-told c = search needs
 enum-known-ack : tie.Need-enum-known-ack
 enum-known-ack c = search needs
 
-accepted-requires : tie.Need-accepted-requires
-accepted-requires c κs = search needs
+accepted-by-requires : tie.Need-accepted-by-requires
+accepted-by-requires c κs = search needs
 
 returns : tie.Need-returns
 unfolding acceptedAck
@@ -27,4 +27,4 @@ returns-3 c = search branches depth 12
 
 pub accepted-ack-spec : {M : Type 1} → statement M
 accepted-ack-spec =
-    tie.close (tie.spec enum-told enum-known-ack accepted-requires returns returns-2 returns-3)
+    tie.close (tie.spec enum-told enum-known-ack accepted-by-requires returns returns-2 returns-3)

@@ -28,8 +28,8 @@ resume-row-requires c κs = search needs
 enum-told-4 : tie.Need-enum-told-4
 enum-told-4 c = search needs
 
-waiting-requires : tie.Need-waiting-requires
-waiting-requires c κs = search needs
+unanswered-requires : tie.Need-unanswered-requires
+unanswered-requires c κs = search needs
 
 returns : tie.Need-returns
 unfolding escalatedOf
@@ -59,7 +59,7 @@ escalated-spec =
     enum-told-3
     resume-row-requires
     enum-told-4
-    waiting-requires
+    unanswered-requires
     returns
     returns-2
     returns-3

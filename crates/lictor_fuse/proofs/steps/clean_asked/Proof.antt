@@ -9,7 +9,7 @@ delivered-requires c κs = search needs
 ingest-requires : tie.Need-ingest-requires
 ingest-requires c κs = search needs
 
-judge-requires : tie.Need-judge-requires
+judge-requires : tie.Need-find-requires
 judge-requires c κs = search needs
 
 machine-input-requires : tie.Need-machine-input-requires
@@ -17,7 +17,7 @@ machine-input-requires c κs = search needs
 
 returns : tie.Need-returns
 unfolding cleanAsked
-returns c = rw (c .machine-input .ensures, c .before .judge .ensures, c .before .before .before .ingest .ensures, c .before .before .before .before .delivered .ensures)
+returns c = rw (c .machine-input .ensures, c .before .find .ensures, c .before .before .before .ingest .ensures, c .before .before .before .before .delivered .ensures)
 
 pub clean-asked-spec : {M : Type 1} → statement M
 clean-asked-spec =

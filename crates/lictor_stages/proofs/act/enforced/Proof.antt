@@ -25,8 +25,8 @@ braked-requires c κs = search needs
 enum-told-4 : tie.Need-enum-told-4
 enum-told-4 c = search needs
 
-held-requires : tie.Need-held-requires
-held-requires c κs = search needs
+held-still-requires : tie.Need-held-still-requires
+held-still-requires c κs = search needs
 
 returns : tie.Need-returns
 unfolding enforcedOf
@@ -55,7 +55,7 @@ enforced-spec =
     enum-told-3
     braked-requires
     enum-told-4
-    held-requires
+    held-still-requires
     returns
     returns-2
     returns-3

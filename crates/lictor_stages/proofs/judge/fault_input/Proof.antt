@@ -1,7 +1,7 @@
-use Rattle.lictor_stages.specs.Judge.{faultInput}
+use Rattle.lictor_stages.specs.Findings.{faultInput}
 use borrow.Author.Needs.{needs}
-use Rattle.lictor_stages.proofs.judge.fault_input.Statement.{statement}
-use Rattle.lictor_stages.proofs.judge.fault_input.Tie as tie
+use Rattle.lictor_stages.proofs.findings.fault_input.Statement.{statement}
+use Rattle.lictor_stages.proofs.findings.fault_input.Tie as tie
 
 is-project-requires : tie.Need-is-project-requires
 is-project-requires c κs = search needs

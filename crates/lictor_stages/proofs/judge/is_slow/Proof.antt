@@ -1,7 +1,7 @@
-use Rattle.lictor_stages.specs.Judge.{slowOf}
+use Rattle.lictor_stages.specs.Findings.{slowOf}
 use borrow.Author.Needs.{needs}
-use Rattle.lictor_stages.proofs.judge.is_slow.Statement.{statement}
-use Rattle.lictor_stages.proofs.judge.is_slow.Tie as tie
+use Rattle.lictor_stages.proofs.findings.is_slow.Statement.{statement}
+use Rattle.lictor_stages.proofs.findings.is_slow.Tie as tie
 
 slice-aggregate-norm : tie.Need-slice-aggregate-norm
 slice-aggregate-norm c = search needs

@@ -1,7 +1,7 @@
-use Rattle.lictor_stages.specs.Judge.{machineInput}
+use Rattle.lictor_stages.specs.Findings.{machineInput}
 use borrow.Author.Needs.{needs}
-use Rattle.lictor_stages.proofs.judge.machine_input.Statement.{statement}
-use Rattle.lictor_stages.proofs.judge.machine_input.Tie as tie
+use Rattle.lictor_stages.proofs.findings.machine_input.Statement.{statement}
+use Rattle.lictor_stages.proofs.findings.machine_input.Tie as tie
 
 is-project-requires : tie.Need-is-project-requires
 is-project-requires c κs = search needs

@@ -1,7 +1,7 @@
-use Rattle.lictor_stages.specs.Judge.{maskedOf}
+use Rattle.lictor_stages.specs.Findings.{maskedOf}
 use borrow.Author.Needs.{needs}
-use Rattle.lictor_stages.proofs.judge.masked.Statement.{statement}
-use Rattle.lictor_stages.proofs.judge.masked.Tie as tie
+use Rattle.lictor_stages.proofs.findings.masked.Statement.{statement}
+use Rattle.lictor_stages.proofs.findings.masked.Tie as tie
 
 with-brake-requires : tie.Need-with-brake-requires
 with-brake-requires c κs = search needs

@@ -1,7 +1,7 @@
-use Rattle.lictor_stages.specs.Judge.{scoredOf}
+use Rattle.lictor_stages.specs.Findings.{scoredOf}
 use borrow.Author.Needs.{needs}
-use Rattle.lictor_stages.proofs.judge.score.Statement.{statement}
-use Rattle.lictor_stages.proofs.judge.score.Tie as tie
+use Rattle.lictor_stages.proofs.findings.score.Statement.{statement}
+use Rattle.lictor_stages.proofs.findings.score.Tie as tie
 
 trip-requires : tie.Need-trip-requires
 trip-requires c κs = search needs

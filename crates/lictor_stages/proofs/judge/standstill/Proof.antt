@@ -1,8 +1,8 @@
 use Rattle.lictor_core.proofs.Branch.{branches}
-use Rattle.lictor_stages.specs.Judge.{standstillOf}
+use Rattle.lictor_stages.specs.Findings.{standstillOf}
 use borrow.Author.Needs.{needs}
-use Rattle.lictor_stages.proofs.judge.standstill.Statement.{statement}
-use Rattle.lictor_stages.proofs.judge.standstill.Tie as tie
+use Rattle.lictor_stages.proofs.findings.standstill.Statement.{statement}
+use Rattle.lictor_stages.proofs.findings.standstill.Tie as tie
 
 is-observe-requires : tie.Need-is-observe-requires
 is-observe-requires c κs = search needs

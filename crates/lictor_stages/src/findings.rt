@@ -1,6 +1,6 @@
 // Stages 2 to 6, up to the state machine: what the outcome and the motion mean under the settings.
 ghost use mathlib.Core.Path.{_≡_};
-ghost use Rattle.lictor_stages.specs.Judge.{withBrake, maskedOf, warnOf, slowOf, standstillOf, chunkOk, scoredOf, judgeOf, machineInput, faultInput};
+ghost use Rattle.lictor_stages.specs.Findings.{withBrake, maskedOf, warnOf, slowOf, standstillOf, chunkOk, scoredOf, findingsOf, machineInput, faultInput};
 use lictor_core::ack::MaybeAck;
 use lictor_core::envelope::FuseConfig;
 use lictor_core::envelope::is_project;
@@ -103,8 +103,8 @@ fn score(cfg: FuseConfig, sc: Scores, w: Window) -> Scored
     }
 }
 
-pub fn judge(cfg: FuseConfig, boundary: bool, out: Outcome, w: Window, vel: [f64; 8]) -> Findings
-    ensures { λ r. ⌜ r ≡ judgeOf cfg boundary out w vel ⌝ }
+pub fn find(cfg: FuseConfig, boundary: bool, out: Outcome, w: Window, vel: [f64; 8]) -> Findings
+    ensures { λ r. ⌜ r ≡ findingsOf cfg boundary out w vel ⌝ }
 {
     let sc = out.scores;
     let trips = masked(out.trips, out.feasible, cfg.tier0_enabled);

@@ -13,12 +13,12 @@ use Rattle.lictor_core.specs.declared.fuse.Window.{Window}
 use Rattle.lictor_core.specs.declared.outcome.Outcome.{Outcome}
 use Rattle.lictor_core.specs.Codes.{isObserve, isProject}
 use Rattle.lictor_core.specs.Masks as M
-use Rattle.lictor_detect.specs.Window.{pushOf, hitsOf, tripOf}
+use Rattle.lictor_detect.specs.Window.{pushHit, hitsOf, tripOf}
 use Rattle.lictor_guard.specs.Delivery.{deliveredOf}
 use Rattle.lictor_table.specs.declared.FsmInput.{FsmInput}
 use Rattle.lictor_core.specs.declared.scores.Scores.{Scores}
-use Rattle.lictor_stages.specs.declared.judge.Findings.{Findings}
-use Rattle.lictor_stages.specs.declared.judge.Scored.{Scored}
+use Rattle.lictor_stages.specs.declared.findings.Findings.{Findings}
+use Rattle.lictor_stages.specs.declared.findings.Scored.{Scored}
 
 -- an infeasible brake adds its bit
 unfoldable pub withBrake : ℕ → Bool → ℕ
@@ -48,14 +48,14 @@ chunkOk boundary trips = boundary && eqb trips 0
 unfoldable pub scoredOf : FuseConfig → Scores → Window → Scored
 scoredOf cfg sc w = record {
   warn = warnOf (tripOf (cfg .calib) sc) (sc .s) (cfg .calib .tau) (cfg .hyst .«warn_margin»);
-  window = pushOf w (tripOf (cfg .calib) sc) (cfg .«window_mask»);
-  hits = hitsOf (pushOf w (tripOf (cfg .calib) sc) (cfg .«window_mask»));
-  predictive = leb (cfg .hyst .k) (hitsOf (pushOf w (tripOf (cfg .calib) sc) (cfg .«window_mask»)));
+  window = pushHit w (tripOf (cfg .calib) sc) (cfg .«window_mask»);
+  hits = hitsOf (pushHit w (tripOf (cfg .calib) sc) (cfg .«window_mask»));
+  predictive = leb (cfg .hyst .k) (hitsOf (pushHit w (tripOf (cfg .calib) sc) (cfg .«window_mask»)));
 }
 
 -- all that is found before the state machine runs (01-scope.md, the clean tick)
-unfoldable pub judgeOf : FuseConfig → Bool → Outcome → Window → List Float → Findings
-judgeOf cfg boundary out w vel = record {
+unfoldable pub findingsOf : FuseConfig → Bool → Outcome → Window → List Float → Findings
+findingsOf cfg boundary out w vel = record {
   trips = maskedOf (out .trips) (out .feasible) (cfg .«tier0_enabled»);
   scored = scoredOf cfg (out .scores) w;
   stopped = standstillOf cfg vel;

@@ -1,7 +1,7 @@
 use Rattle.lictor_fuse.specs.Tick.{acceptedTick}
 use borrow.Author.Needs.{needs}
-use Rattle.host_c.proofs.stepped.Statement.{statement}
-use Rattle.host_c.proofs.stepped.Tie as tie
+use Rattle.host_c.proofs.ticked_out.Statement.{statement}
+use Rattle.host_c.proofs.ticked_out.Tie as tie
 
 settings-in-requires : tie.Need-settings-in-requires
 settings-in-requires c κs = search needs
@@ -29,8 +29,8 @@ unfolding acceptedTick
 returns c =
     rw (c .packed .ensures, c .before .decide .ensures, c .before .before .outcome-in .ensures, c .before .before .before .input-in .ensures, c .before .before .before .before .state-in .ensures, c .before .before .before .before .before .config .ensures, c .before .before .before .before .before .before .settings-in .ensures)
 
-pub stepped-spec : {M : Type 1} → statement M
-stepped-spec =
+pub ticked-out-spec : {M : Type 1} → statement M
+ticked-out-spec =
     tie.close
     (tie.spec
     settings-in-requires

@@ -1,8 +1,8 @@
 use Rattle.lictor_core.proofs.Branch.{branches}
 use Rattle.lictor_table.specs.Helpers.{acceptedBy}
 use borrow.Author.Needs.{needs}
-use Rattle.lictor_fsm.proofs.escalated.accepted.Statement.{statement}
-use Rattle.lictor_fsm.proofs.escalated.accepted.Tie as tie
+use Rattle.lictor_fsm.proofs.escalated.accepted_by.Statement.{statement}
+use Rattle.lictor_fsm.proofs.escalated.accepted_by.Tie as tie
 
 cast-slot : tie.Need-cast-slot
 cast-slot c = search needs
@@ -25,6 +25,6 @@ returns-3 : tie.Need-returns-3
 unfolding acceptedBy
 returns-3 c = search branches depth 12
 
-pub accepted-spec : {M : Type 1} → statement M
-accepted-spec =
+pub accepted-by-spec : {M : Type 1} → statement M
+accepted-by-spec =
     tie.close (tie.spec cast-slot mul-result array-read-result returns returns-2 returns-3)

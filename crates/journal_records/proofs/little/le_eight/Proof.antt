@@ -2,8 +2,8 @@
 use mathlib.Core.Path.{sym}
 use Rattle.journal_records.proofs.Laws.{leAt-8}
 use borrow.Author.Needs.{needs}
-use Rattle.journal_records.proofs.little.eight.Statement.{statement}
-use Rattle.journal_records.proofs.little.eight.Tie as tie
+use Rattle.journal_records.proofs.little.le_eight.Statement.{statement}
+use Rattle.journal_records.proofs.little.le_eight.Tie as tie
 
 shared-slice-read-wide : tie.Need-shared-slice-read-wide
 shared-slice-read-wide c = search needs
@@ -121,8 +121,8 @@ returns c =
     let a = c .before .before .before .before .before .before .before .before .before .before .before .before .before .before .before .before .before .args in
     rw (c .wide8 .ensures .0, c .before .before .wide7 .ensures .0, c .before .before .before .before .wide6 .ensures .0, c .before .before .before .before .before .before .wide5 .ensures .0, c .before .before .before .before .before .before .before .before .wide4 .ensures .0, c .before .before .before .before .before .before .before .before .before .before .wide3 .ensures .0, c .before .before .before .before .before .before .before .before .before .before .before .before .wide2 .ensures .0, c .before .before .before .before .before .before .before .before .before .before .before .before .before .before .wide .ensures .0) (sym (leAt-8 (a .s .now) (a .at)))
 
-pub eight-spec : {M : Type 1} → statement M
-eight-spec =
+pub le-eight-spec : {M : Type 1} → statement M
+le-eight-spec =
     tie.close
     (tie.spec
     shared-slice-read-wide
