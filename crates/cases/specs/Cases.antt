@@ -72,7 +72,7 @@ input t missed chunk = record { t = t; idx = 0; «missed_ticks» = missed; «sch
 unfoldable pub clockAt : ℕ → FuseRt
 clockAt last = tickOf settings (resetOf newOf) (input last 0 NoChunk) outcome (zeroFloat ∷ []) [] [] [] [] .rt
 
--- the tick behind it, with a chunk that begins at its t
+-- the tick after it, with a chunk that begins at its t
 unfoldable pub tickAfter : ℕ → ℕ → ℕ → SafetyVerdict
 tickAfter last missed t =
     tickOf settings (clockAt last) (input t missed (Delivered (record { seq = 0; «t_emit» = t; horizon = 1; dim = 1; «exec_steps» = 1 }))) outcome (zeroFloat ∷ []) [] [] [] (zeroFloat ∷ []) .verdict

@@ -3,7 +3,7 @@
 //     last t at its end: the next tick's SCHEMA, for many values of its t
 //
 // Each line starts anew: a reset, a tick that only sets the clock (it brings no chunk, and so is a fault tick), and a tick that nothing is wrong with but,
-// where there is no next t, its t. The lines that begin with another last t show that such a tick accepted (trips 0).
+// where there is no next t, its t. The lines that begin with another last t show that such a tick passes (trips 0).
 // What is expected, the file `stdout`, was written by the second program, the Rust: `differential/sample DIR --store` (differential/README.md).
 // The other case that is executed, roots against IEEE 754, is the program `roots`; `clock-ends` in `claims` says the case over all t.
 ghost use mathlib.Core.Path.{_≡_};
@@ -147,7 +147,7 @@ fn first(last: u32) -> FuseRt
     after
 }
 
-// The verdict of the tick behind it, which brings a chunk that fits its t.
+// The verdict of the tick after it, which brings a chunk that fits its t.
 fn after(last: u32, missed: u8, t: u32) -> SafetyVerdict
     ensures { λ r. ⌜ r ≡ tickAfter last missed t ⌝ }
 {

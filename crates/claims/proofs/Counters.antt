@@ -203,7 +203,7 @@ pub stays-full : {k x y : ℕ} → x ≡ 2 ^ k - 1 → Rises k x y → y ≡ x
 stays-full e stays = refl
 stays-full e rises = omega arith
 
--- no count accepted its end
+-- no count passes its end
 pub rise-fits : {k x y : ℕ} → x < 2 ^ k → Rises k x y → y < 2 ^ k
 rise-fits h stays = h
 rise-fits h rises = omega arith

@@ -114,13 +114,13 @@ module _ (cfg : FuseConfig) (rt : Control) (pos : List Float) (inp : FsmInput) (
   unfolding nextByRows settledOf countRun brakingOf confirmedOf stoppingRow
   moving h k m = rw (← tells cfg rt pos inp, braking-rows (rt .state) _ _ _ h, lt-leb _ _ k, m) refl
 
-  -- what stands is held at once, where one tick confirms it
+  -- an arm that stands still is held at once, where one tick confirms it
   standing : T (isState Braking (rt .state)) → rt .«brake_ticks» < cfg .hyst .«brake_timeout_ticks» → cfg .hyst .«stop_confirm_ticks» ≡ 1 → inp .stopped ≡ true
       → nextOf cfg rt pos inp .state ≡ Held
   unfolding nextByRows settledOf countRun brakingOf confirmedOf standstillRow
   standing h k c m = rw (← tells cfg rt pos inp, braking-rows (rt .state) _ _ _ h, lt-leb _ _ k, m, c, le-leb 1 (rt .«stopped_ticks» + 1) (omega arith)) refl
 
--- ---- what a tick of the stop needs of the run state: a chunk was taken, the clock stands at i, the velocity has a first component
+-- ---- what a tick of the stop needs of the run state: a chunk was taken, the clock is at i, the velocity has a first component
 
 record Running (i : ℕ) (r : FuseRt) : Type 0 where
   filled : r .clock .filled ≡ true
@@ -128,7 +128,7 @@ record Running (i : ℕ) (r : FuseRt) : Type 0 where
   time : r .clock .«last_t» ≡ i
   room : 0 < length (r .motion .vel)
 
--- ---- whether the arm stands
+-- ---- whether the arm stands still
 
 take-one : (l : List Float) (v : Float) → 0 < length l → take 1 (set l 0 v) ≡ v ∷ []
 take-one [] v h = absurd (omega arith)
@@ -173,7 +173,7 @@ open-as q p h k = subst (λ (n : ℕ). T (eqb 4 n || (eqb 5 n || eqb 6 n))) (eqb
 abbrev Leads : (FuseRt → Type 0) → FuseRt → Call → Type 0
 Leads Q r c = Quiet (stepOf seenOf) Closes Q (stepOf seenOf r c)
 
--- the state is q, its count is n, and the clock stands at i
+-- the state is q, its count is n, and the clock is at i
 record At (q : FuseState) (count : Control → ℕ) (n i : ℕ) (r : FuseRt) : Type 0 where
   state : T (isState q (r .control .state))
   counted : count (r .control) ≡ n
@@ -329,7 +329,7 @@ module _ (b h e : ℕ) (least : 1 ≤ b) (small : b ≤ 65535) (short : h ≤ 65
   long : e ≤ 4294967295
   long = omega arith
 
-  -- a call at t, where the clock stands before it
+  -- a call at t, where the clock is before it
   standing-at : (Q : FuseRt → Type 0) (r : FuseRt) {t i : ℕ} → t ≡ suc i → Leads Q r (stands slow (suc i)) → Leads Q r (stands slow t)
   standing-at Q r u l = subst (λ (t : ℕ). Leads Q r (stands slow t)) (sym u) l
 

@@ -1,4 +1,4 @@
--- Demand 3, stops close: one claim about every list of calls from a reset on (00-demands.md, Demand 3; 01-scope.md, The list in demand 3). It stands at the end
+-- Demand 3, stops close: one claim about every list of calls from a reset on (00-demands.md, Demand 3; 01-scope.md, The list in demand 3). It is at the end
 -- of this file, and is proved in proofs/Demand3, `stops-close`. Of other files it names: what is said of a list (Runs); a call, its settings, what is seen of
 -- its tick, the ticks of a list (Calls); the state that `reset` leaves, by the definition that it promises (lictor_core, specs/Initial, resetOf).
 use mathlib.Core.Bool.{Bool, true, false, cond, not, _&&_, _||_}

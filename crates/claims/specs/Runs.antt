@@ -42,7 +42,7 @@ module _ {A : Type 0} where
   total f [] = 0
   total f (x ∷ l) = f x + total f l
 
--- ---- a machine: each call leaves a state, and either accepted in silence or gives an event
+-- ---- a machine: each call leaves a state, and either passes in silence or gives an event
 
 pub data Step (R A : Type 0) : Type 0 where
   silent : R → Step R A

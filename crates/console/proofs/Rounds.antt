@@ -27,7 +27,7 @@ use Rattle.console.proofs.Feeds.{Followed, followed}
 
 -- ---- memory
 
--- the bytes of a part that were moved down stand at the front
+-- the bytes of a part that were moved down are at the front
 moved-front : (at have : ℕ) (b : List ℕ) → have ≤ length b → take (have - at) (movedDown at have b) ≡ drop at (take have b)
 unfolding movedDown
 moved-front at have b h =
@@ -51,7 +51,7 @@ rests-short w s n z q = waits-short (w .state) s (waits-as w (onBytes (w .state)
 
 -- ---- one round
 
--- what is told of some bytes is told first with more behind them
+-- what is told of some bytes is told first with more after them
 pub more-bytes : (w : Whole) (s : List ℕ) (told : List Decided) (w' : Whole) (s' t : List ℕ) → settled replayOf w s ≡ telling told (settled replayOf w' s')
     → settled replayOf w (s ++ t) ≡ telling told (settled replayOf w' (s' ++ t))
 more-bytes w s told w' s' t e =

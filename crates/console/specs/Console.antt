@@ -46,7 +46,7 @@ pub record Rests (w : Whole) (s : List ℕ) (number : ℕ) : Type 0 where
   pub number-is : number ≡ numberAt end
   pub rests : settled replayOf w s ≡ record { state = w; rest = s; told = []; end = end }
 
--- the bytes s were fed, and those that were not taken stand at the front of memory then
+-- the bytes s were fed, and those that were not taken are at the front of memory then
 pub record Taken (code : ℕ) (w : Whole) (s : List ℕ) (out : List ℕ) (r : Played) (l' : List Float) (buf' out' : List ℕ) : Type 0 where
   pub fed : Fed code w s out r l' out'
   pub moved : take (length s - r .at) buf' ≡ drop (r .at) s
@@ -55,7 +55,7 @@ pub record Taken (code : ℕ) (w : Whole) (s : List ℕ) (out : List ℕ) (r : P
 unfoldable pub roundOf : Played → ℕ → ℕ → Bool → Round
 roundOf t have reads more = record { reader = t .reader; run = t .run; taken = t .at; have = have; n = t .n; refused = t .refused; reads = reads; more = more }
 
--- one round, with bytes s at hand: the bytes `came` were read, the ticks `told` were played, and their text stands at the front of memory. Where it is over, the journal rests.
+-- one round, with bytes s at hand: the bytes `came` were read, the ticks `told` were played, and their text is at the front of memory. Where it is over, the journal rests.
 pub record Rounded (code : ℕ) (w : Whole) (s : List ℕ) (reads : ℕ) (r : Round) (l' : List Float) (buf' out' : List ℕ) : Type 0 where
   pub told : List Decided
   pub came : List ℕ

@@ -5,11 +5,11 @@ use mathlib.Core.List.{List, _++_}
 use mathlib.Core.Path.{_≡_}
 use lib.ListN.{length, take, drop}
 
--- memory b with its bytes from `at` to `have` at the front, and behind these as it was
+-- memory b with its bytes from `at` to `have` at the front, and after these as it was
 unfoldable pub movedDown : ℕ → ℕ → List ℕ → List ℕ
 movedDown at have b = let s = drop at (take have b) in s ++ drop (length s) b
 
--- The bytes `came` were read, and the first r bytes of memory are s and these. The promise cannot name them, nor what stands behind them, since that of the operating system's read
+-- The bytes `came` were read, and the first r bytes of memory are s and these. The promise cannot name them, nor what is after them, since that of the operating system's read
 -- says nothing of the bytes.
 pub record Came (s : List ℕ) (r : ℕ) (buf' : List ℕ) : Type 0 where
   pub came : List ℕ

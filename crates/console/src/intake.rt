@@ -1,4 +1,4 @@
-// The bytes of standard input that are at hand: those that wait are moved to the front of memory, and more are read behind them.
+// The bytes of standard input that are at hand: those that wait are moved to the front of memory, and more are read after them.
 ghost use mathlib.Core.Path.{_≡_};
 ghost use lib.ListN.{take};
 ghost use Rattle.console.specs.Intake.{movedDown, Came};
@@ -19,7 +19,7 @@ pub fn move_down(buf: &mut [u8], at: usize, have: usize)
     }
 }
 
-// Reads once behind the first `have` bytes, and answers how many are there then.
+// Reads once after the first `have` bytes, and answers how many are there then.
 pub fn read_more(buf: &mut [u8], have: usize) -> usize
     ensures { λ r. ⌜ Came (take have (now (buf .entry))) r (now (buf .exit)) ⌝ }
 {

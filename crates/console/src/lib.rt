@@ -44,7 +44,7 @@ fn take_in(
     t
 }
 
-// Reads once behind the first `have` bytes, where there is room.
+// Reads once after the first `have` bytes, where there is room.
 fn read_on(buf: &mut [u8], have: usize) -> usize
     requires { ⌜ have < length (now buf) ⌝ }
     ensures { λ r. ⌜ Came (take have (now (buf .entry))) r (now (buf .exit)) ⌝ }

@@ -1,4 +1,4 @@
--- The library's types as a walk takes them (the crate `lent`, `Data.antt`), how the result of a step and the answer lie, and how settings are turned away.
+-- The library's types as a walk takes them (the crate `lent`, `Data.antt`), how the result of a step and the answer lie, and how settings are refused.
 --     S, G, I, O   the run state, the settings, a tick's numbers, the outcome.        G², I², O²     the last three can be copied.        R, Z     the result of `stepped`, and the answer of `ticked` and `disklorva_tick`
 -- Assumes nothing.
 use mathlib.Core.Path.{refl}

@@ -1,4 +1,4 @@
--- What the numbers that a tick is given mean: field by field the same, but for flags and what they stand beside.
+-- What the numbers that a tick is given mean: field by field the same, but for flags and what they are beside.
 -- It joins the layout of C to the types of lictor_core: settings, input, chunk head, acknowledgement and outcome (01-scope.md, Journal, kinds 1, 3, 4, 6 and 7).
 use mathlib.Core.Bool.{cond}
 use Prim.Native.Nat.{ℕ}

@@ -1,5 +1,5 @@
 // What a tick is given, as numbers in the layout of C, and what it means.
-// A flag is 0 or 1, and where it is 0, what stands beside it is not looked at. Another number is read to the safe side: `feasible` and `has_ack` are then no, the others yes.
+// A flag is 0 or 1, and where it is 0, what is beside it is not looked at. Another number is read to the safe side: `feasible` and `has_ack` are then no, the others yes.
 ghost use mathlib.Core.Path.{_≡_};
 ghost use Rattle.host_layout.specs.Flags.{flagOf, sureOf};
 ghost use Rattle.host_layout.specs.Input.{settingsIn, chunkIn, ackGiven, ackBy, ackIn, inputIn, outcomeIn};

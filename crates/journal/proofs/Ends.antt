@@ -1,4 +1,4 @@
--- Demand 1: every journal ends, with its verdicts and the end of its bytes, or with a refusal; and exactly the causes of the table turn a record away.
+-- Demand 1: every journal ends, with its verdicts and the end of its bytes, or with a refusal; and exactly the causes of the table refuse a record.
 use Prim.Native.Nat.{ℕ, zero, suc, _+_, _-_, _≤_, _<_}
 use mathlib.Core.Path.{_≡_, refl, sym, ap, subst, _∙_}
 use mathlib.Core.List.{List, [], _∷_, _++_}
@@ -59,7 +59,7 @@ waits-as w (go st n) e = absurd (let z : _≡_ {A = ℕ} 0 1 = cc in omega arith
 waits-as w (tell st n i) e = absurd (obey-moves w st n i (obey w st n i) refl .0 e)
 
 module _ (w : Whole) (s : List ℕ) (p : ℕ) (h : p < length s) where
-  -- a journal that halts at p is turned away there by the table
+  -- a journal that halts at p is refused there by the table
   pub halted-at : (r : Refusal) → replayOf w (drop p s) ≡ halt r → judgedAt w s p ≡ Refused r
   unfolding judgedAt replayOf
   halted-at r e =
@@ -73,7 +73,7 @@ module _ (w : Whole) (s : List ℕ) (p : ℕ) (h : p < length s) where
       let n : onBytes (w .state) (byteAt s p ∷ drop (p + 1) s) ≡ wait = rw (at-place s p h) at (waits-as w (onBytes (w .state) (drop p s)) e) in
       waiting-judged (w .state) (byteAt s p) (drop (p + 1) s) n
 
-  -- and what the table turns away, the journal halts at, or waits for where it is cut
+  -- and what the table refuses, the journal halts at, or waits for where it is cut
   refused-at : (r : Refusal) → judgedAt w s p ≡ Refused r → replayOf w (drop p s) ≡ obeyed w (cond (isCutBody r) wait (halt r))
   unfolding judgedAt
   refused-at r e =
@@ -128,7 +128,7 @@ no-refusal s e back p h b Accepted c = refl
 no-refusal s e back p h b (Refused r) c =
     absurd (let q : ended ≡ refused r p = sym e ∙ back r p (record { inside = h; before = b; cause = c }) in let z : _≡_ {A = ℕ} 0 1 = cc in omega arith)
 
--- ---- the other way: what the table turns away is refused, at its place
+-- ---- the other way: what the table refuses is refused, at its place
 
 -- a journal that ends with `ended` has settled with nothing left
 ended-by : (p : ℕ) (rest : List ℕ) (x : End Refusal) → endingOf p rest x ≡ ended → (rest ≡ []) × (x ≡ awaits)
@@ -141,7 +141,7 @@ module _ (s : List ℕ) (p : ℕ) (h : p < length s) where
   abbrev up-to : Settled Whole Decided Refusal
   up-to = settled replayOf startWhole (take p s)
 
-  -- the journal goes on behind the bytes before p
+  -- the journal goes on after the bytes before p
   goes-on : up-to .rest ≡ [] → settled replayOf startWhole s ≡ telling (up-to .told) (settled replayOf (up-to .state) (drop p s))
   goes-on e =
       ap (settled replayOf startWhole) (sym (take-append-drop p s))
@@ -168,7 +168,7 @@ module _ (s : List ℕ) (p : ℕ) (h : p < length s) where
       let n : replayOf (up-to .state) (drop p s) ≡ halt r = rw t at (refused-at (up-to .state) s p h r c) in
       settles-at (halted r) r e (settled-halt replayOf (replay .there) (up-to .state) (drop p s) r n) (λ q k u. refl)
 
--- what the table turns away is refused, with its number and its place
+-- what the table refuses is refused, with its number and its place
 pub turned-away-refused : (s : List ℕ) (r : Refusal) (p : ℕ) → TurnedAway s r p → journalOf s .ending ≡ refused r p
 unfolding journalOf
 turned-away-refused s r p t =

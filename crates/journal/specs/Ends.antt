@@ -1,4 +1,4 @@
--- Demand 1 (00-demands.md; 01-scope.md, Journal): only stated causes turn a record away. What is claimed of every list of bytes.
+-- Demand 1 (00-demands.md; 01-scope.md, Journal): only stated causes refuse a record. What is claimed of every list of bytes.
 use mathlib.Core.List.{List}
 use mathlib.Core.Path.{_≡_}
 use Prim.Native.Nat.{ℕ, _+_, _≤_, _<_}
@@ -12,13 +12,13 @@ use Rattle.journal_refusals.specs.declared.Judged.{Judged}
 use Rattle.journal.specs.Tick.{Whole}
 use Rattle.journal.specs.Journal.{ended, refused, journalOf}
 
--- what the table says of the record whose kind byte stands at place p, for a reader that is left so
+-- what the table says of the record whose kind byte is at place p, for a reader that is left so
 unfoldable pub judgedAt : Whole → List ℕ → ℕ → Judged
 judgedAt w s p =
     let k = byteAt s p in
     judgedOf journalKinds (w .state .reader .waiting .seen) k (take (bodyLen journalKinds k) (drop (p + 1) s))
 
--- s is turned away at place p for r: the bytes before p are a journal that ends there with nothing turned away, and the table turns away the record at p, for r
+-- s is refused at place p for r: the bytes before p are a journal that ends there with nothing refused, and the table refuses the record at p, for r
 pub record TurnedAway (s : List ℕ) (r : Refusal) (p : ℕ) : Type 0 where
   pub inside : p < length s
   pub before : journalOf (take p s) .ending ≡ ended

@@ -55,7 +55,7 @@ replayOf w s = obeyed w (onBytes (w .state) s)
 
 -- ---- a whole journal
 
--- before the first byte. There is no configuration yet, and no tick before the settings: zeros stand in its place.
+-- before the first byte. There is no configuration yet, and no tick before the settings: zeros are in its place.
 unfoldable pub startRun : Run
 startRun = begunOf (settingsOf [])
 
@@ -111,7 +111,7 @@ listsAfter w s = advanced replayOf w s .state .state .lists
 
 -- ---- what its own functions promise each other
 
--- settings, or a reset, of which the kind byte stands at place `at` of s
+-- settings, or a reset, of which the kind byte is at place `at` of s
 unfoldable pub begunAt : Reader → List ℕ → ℕ → Step
 begunAt rd s at =
     let n = bodyLen journalKinds (byteAt s at) in

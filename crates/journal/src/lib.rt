@@ -134,7 +134,7 @@ pub fn start() -> Run
     begin(journal_records::long::read_settings(b""))
 }
 
-// Takes all records up to the next tick, to one that is turned away or to one that is not there whole, and says which comes there.
+// Takes all records up to the next tick, to one that is refused or to one that is not there whole, and says which comes there.
 pub fn advance(rd: Reader, run: Run, lists: &mut [f64; 576], s: &[u8]) -> Advanced
     ensures { λ r. ⌜ (r ≡ advancedOf (wholeOf rd run (now (lists .entry))) (now (s .entry))) × (now (lists .exit) ≡ listsAfter (wholeOf rd run (now (lists .entry))) (now (s .entry))) ⌝ }
 {

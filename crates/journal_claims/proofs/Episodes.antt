@@ -1,4 +1,4 @@
--- Every tick behind an opening stands in an episode: the last opening before it begins one.
+-- Every tick after an opening is in an episode: the last opening before it begins one.
 use mathlib.Core.Path.{_≡_, refl, sym, ap, subst}
 use mathlib.Core.List.{List, [], _∷_, _++_, map, append-assoc}
 use Prim.Native.Nat.{ℕ}
@@ -13,7 +13,7 @@ one-tick [] d is = refl
 one-tick (c ∷ cs) d is = ap (λ (l : List Instruction). tick c ∷ l) (one-tick cs d is)
 
 module _ (c : Brought) (later : List Instruction) where
-  -- with the opening i and the ticks cs behind `pre`, and then more, up to c
+  -- with the opening i and the ticks cs after `pre`, and then more, up to c
   abbrev Found : List Instruction → Instruction → List Brought → List Instruction → Type 0
   Found pre i cs more = EndsWith (pre ++ (i ∷ (map tick cs ++ (more ++ (tick c ∷ later))))) c later
 

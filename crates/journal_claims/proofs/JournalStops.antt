@@ -54,7 +54,7 @@ keeps : (is : List Instruction) (i : Instruction) (js : List Instruction) (r : R
 keeps [] i js r n = keeps-one r i (n .0)
 keeps (j ∷ is) i js r n = keeps is i js (leaves r j) (n .1) ∙ keeps-one r j (n .0)
 
--- so every one behind the settings has theirs
+-- so every one after the settings has theirs
 configured : (is : List Instruction) (i : Instruction) (js : List Instruction) (r : Run) (w : Settings) (rest : List Instruction)
     → is ++ (i ∷ js) ≡ begin w ∷ rest → All NoSettings rest → leaves (leftBy r is) i .config ≡ configOf w
 unfolding begunOf

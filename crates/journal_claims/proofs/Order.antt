@@ -1,4 +1,4 @@
--- A journal's instructions are none, or its settings and then resets and ticks: the judge turns away what comes before settings, and settings again.
+-- A journal's instructions are none, or its settings and then resets and ticks: the judge refuses what comes before settings, and settings again.
 use mathlib.Core.Path.{_≡_, refl, _∙_}
 use mathlib.Core.Bool.{Bool, true, false, cond, not, _&&_}
 use mathlib.Core.List.{List, [], _∷_}
@@ -144,7 +144,7 @@ next-moves st (k ∷ u) h = judged-moves st k u (h .1) _ refl
 not-both : {x : Bool} → x ≡ true → x ≡ false → ⊥
 not-both p q = let z : _≡_ {A = ℕ} 0 1 = cc in omega arith
 
--- behind the settings
+-- after the settings
 module _ (f : ℕ) (ih : (st : State) (s : List ℕ) → Bytes s → came st ≡ true → All NoSettings (settle onBytes f st s .told)) where
   later-by : (st : State) (s : List ℕ) → Bytes s → came st ≡ true → (x : Next State Instruction Refusal) → Moves st x
       → All NoSettings (after st s x (λ st' n. settle onBytes f st' (drop n s)) .told)

@@ -10,7 +10,7 @@ use Rattle.journal.specs.declared.tick.Run.{Run}
 use Rattle.journal.specs.Tick.{decidedOf, tickedOf}
 use Rattle.journal.specs.Journal.{begunOf, restartedOf, startWhole}
 
--- The instructions of a journal up to its end, or up to the record that is turned away. The run state has no part in them (journal_reader, specs/Reading).
+-- The instructions of a journal up to its end, or up to the record that is refused. The run state has no part in them (journal_reader, specs/Reading).
 unfoldable pub instructionsOf : List ℕ → List Instruction
 instructionsOf s = settled onBytes (startWhole .state) s .told
 

@@ -1,4 +1,4 @@
--- Demand 3 of journals: in every journal the ticks from a reset to the next, or to the end, stop close, under the journal's one settings record. The claim stands at
+-- Demand 3 of journals: in every journal the ticks from a reset to the next, or to the end, stop close, under the journal's one settings record. The claim is at
 -- the end of this file, and is proved in proofs/JournalStops, `journal-stops`. Of other files it names: demand 3 of a list of calls of `tick` (claims,
 -- specs/Demand3, with Calls and Runs); the meaning of a journal (journal, specs/Journal, journalOf); its instructions (Instructions).
 -- (00-demands.md, Demand 3; 01-scope.md, The list in demand 3 and Journal.)
@@ -31,7 +31,7 @@ NoSettings (begin s) = ⊥
 NoSettings restart = Unit {0}
 NoSettings (tick c) = Unit {0}
 
--- the instructions `is` stand under w: it comes first, it passed the check, and behind it come resets and ticks alone; each limit of w is a number that its field
+-- the instructions `is` are under w: it comes first, it passed the check, and after it come resets and ticks alone; each limit of w is a number that its field
 -- can hold
 pub record SettledBy (w : Settings) (is : List Instruction) : Type 0 where
   pub rest : List Instruction
@@ -42,7 +42,7 @@ pub record SettledBy (w : Settings) (is : List Instruction) : Type 0 where
 
 -- ---- an episode
 
--- what came before; the reset, or the settings, that it opens with; ticks, all up to the next reset or the first of them; what comes behind these
+-- what came before; the reset, or the settings, that it opens with; ticks, all up to the next reset or the first of them; what comes after these
 pub record Episode : Type 0 where
   pub before : List Instruction
   pub opening : Instruction
@@ -88,7 +88,7 @@ abbrev pub answersFrom : FuseRt → List C.Call → List Decided
 answersFrom r cs = trace (stepOf answerIn) r cs
 
 pub record EpisodeStops (s : List ℕ) (w : Settings) (e : Episode) : Type 0 where
-  -- the journal's verdicts: in the episode's place stand the answers of `tick`
+  -- the journal's verdicts: in the episode's place are the answers of `tick`
   pub verdicts : journalOf s .events
       ≡ played startRun (e .before)
       ++ (answersFrom (opened e .rt) (callsOf w e)
@@ -96,7 +96,7 @@ pub record EpisodeStops (s : List ℕ) (w : Settings) (e : Episode) : Type 0 whe
   -- and of these calls the four parts of demand 3 hold
   pub closes : Demand3 w (ticksFrom (opened e .rt) (callsOf w e))
 
--- an episode of `is` that ends with the tick c, behind which `later` comes
+-- an episode of `is` that ends with the tick c, after which `later` comes
 pub record EndsWith (is : List Instruction) (c : Brought) (later : List Instruction) : Type 0 where
   pub before : List Instruction
   pub opening : Instruction
@@ -105,7 +105,7 @@ pub record EndsWith (is : List Instruction) (c : Brought) (later : List Instruct
 
 -- ---- the claim
 
--- of a journal that has settings: every tick stands in an episode, and every episode stops close
+-- of a journal that has settings: every tick is in an episode, and every episode stops close
 pub record StopsUnder (s : List ℕ) (w : Settings) : Type 0 where
   pub settings : SettledBy w (instructionsOf s)
   pub every-tick : (before : List Instruction) (c : Brought) (later : List Instruction) → instructionsOf s ≡ before ++ (tick c ∷ later)

@@ -46,7 +46,7 @@ record-length st b n (Value c x) = refl
 record-length st b n Outcome = refl
 record-length st b n (Tick t) = refl
 
--- a record that is not turned away does not wait
+-- a record that is not refused does not wait
 record-moves : (st : State) (b : List ℕ) (n : ℕ) (r : Record) → onRecord st b n r ≡ wait → ⊥
 unfolding onRecord
 record-moves st b n Settings e = let z : _≡_ {A = ℕ} 0 1 = cc in omega arith

@@ -255,7 +255,7 @@ module _ (w : Waiting) (l : List Float) (s : List ℕ) (at : ℕ) (h : at ≤ le
   pub took-within : r .at ≤ length s
   took-within = took-reached (outcomeOf []) .within
 
-  -- what stands there, where nothing was added
+  -- what is there, where nothing was added
   pub took-look : r .more ≡ false → r .look ≡ lookOf (r .waiting .seen) (drop (r .at) s)
   took-look y = rw (t .same-waiting y, t .same-place y) (t .look y)
 
@@ -332,7 +332,7 @@ module _ (w : Waiting) (o : O.Outcome) (l : List Float) (s : List ℕ) (at : ℕ
   then-is : (x : Look) → t .look ≡ x → onBytes came (drop (t .at) s) ≡ onLook came (drop (t .at) s) x
   then-is x e = next-look (t .waiting) l' s (t .at) o x (sym (k .look) ∙ e)
 
-  -- nothing is there, or it is turned away
+  -- nothing is there, or it is refused
   turned-here : (v : What) → goesOn (onBytes came (drop (t .at) s)) ≡ false → v ≡ whatOf (onBytes came (drop (t .at) s))
       → TookReading (stateWith w o l) s at (record { reader = came .reader; at = t .at; what = v; more = false }) l'
   turned-here v e f = record { reached = k .reached o; further = λ y. absurd (no y); stops = λ y. e; what = λ y. f }

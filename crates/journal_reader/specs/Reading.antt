@@ -28,7 +28,7 @@ use Rattle.journal_reader.specs.State.{State, ackWaits, headWaits, value
 
 -- ---- the record at the front
 
--- one that is turned away, or cut by the end of the bytes at hand, which is no refusal before the journal's end; or a record, and the length of its body
+-- one that is refused, or cut by the end of the bytes at hand, which is no refusal before the journal's end; or a record, and the length of its body
 unfoldable pub lookAs : ℕ → List ℕ → Judged → Look
 lookAs k b (Refused r) = cond (isCutBody r) L.Waits (L.Refuses r)
 lookAs k b Accepted = L.Found (decodeOf k b) (bodyLen journalKinds k)
@@ -72,7 +72,7 @@ broughtOf st input =
 abbrev pub withReader : State → Reader → State
 withReader st r = record { reader = r; lists = st .lists }
 
--- a record of n bytes, with body b, that is not turned away. Settings, a reset and a tick instruct the fuse; a reset and a tick empty what was collected; the others wait.
+-- a record of n bytes, with body b, that is not refused. Settings, a reset and a tick instruct the fuse; a reset and a tick empty what was collected; the others wait.
 unfoldable pub onRecord : State → List ℕ → ℕ → Record → Next State Instruction Refusal
 onRecord st b n Settings = tell (withReader st (settingsCame (st .reader))) n (begin (settingsOf b))
 onRecord st b n Reset = tell (withReader st (emptied (st .reader))) n restart
@@ -102,7 +102,7 @@ onBytes st s = onLook st s (lookOf (st .reader .waiting .seen) s)
 
 -- ---- what the code answers
 
--- what comes next. (Settings hold arrays, and stand beside it: in the body of the record that comes next.)
+-- what comes next. (Settings hold arrays, and are beside it: in the body of the record that comes next.)
 abbrev pub whatOf : Next State Instruction Refusal → What
 whatOf wait = Waits
 whatOf (halt r) = Refuses r

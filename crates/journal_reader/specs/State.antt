@@ -63,7 +63,7 @@ headWaits w h = record { seen = seenHead (w .seen); ack = w .ack; head = h }
 unfoldable pub valueWaits : Waiting → ℕ → Waiting
 valueWaits w c = withSeen w (seenValue (w .seen) c)
 
--- the memory with value x behind those that list c has
+-- the memory with value x after those that list c has
 unfoldable pub stored : List Float → Seen → ℕ → Float → List Float
 stored l n c x = set l (getD bases c 0 + countOf n c) x
 

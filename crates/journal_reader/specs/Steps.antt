@@ -70,7 +70,7 @@ pub record TookOne (w : Waiting) (l : List Float) (s : List ℕ) (at : ℕ) (r :
   pub same-lists : r .more ≡ false → l' ≡ l
   pub same-place : r .more ≡ false → r .at ≡ at
 
--- all small records from place `at` on were added, whatever outcome waits, and what stands behind them is none
+-- all small records from place `at` on were added, whatever outcome waits, and what is after them is none
 pub record Collected (w : Waiting) (l : List Float) (s : List ℕ) (at : ℕ) (r : Took) (l' : List Float) : Type 0 where
   pub reached : (o : O.Outcome) → Reached onBytes (stateWith w o l) s at (stateWith (r .waiting) o l') (r .at)
   pub other : looksSmall (r .look) ≡ false

@@ -105,7 +105,7 @@ fn with_value(w: Waiting, c: u8) -> Waiting
     Waiting { seen, ack, head }
 }
 
-// Puts a value behind those that its list has.
+// Puts a value after those that its list has.
 fn store(lists: &mut [f64; 576], seen: Seen, c: u8, x: f64) -> usize
     requires { ⌜ (c < 5) × (countOf seen c < getD capacities c 0) ⌝ }
     ensures { λ r. ⌜ now (lists .exit) ≡ stored (now (lists .entry)) seen c x ⌝ }
@@ -253,7 +253,7 @@ fn instruct(rd: Reader, lists: &[f64; 576], s: &[u8], at: usize, n: usize, x: Re
     }
 }
 
-// All small records from a place on, and the one behind them.
+// All small records from a place on, and the one after them.
 fn take_reading(rd: Reader, lists: &mut [f64; 576], s: &[u8], at: usize) -> Reading
     requires { ⌜ at ≤ length (now s) ⌝ }
     ensures { λ r. ⌜ TookReading (record { reader = rd; lists = now (lists .entry) }) (now (s .entry)) at r (now (lists .exit)) ⌝ }
@@ -282,7 +282,7 @@ fn take_reading(rd: Reader, lists: &mut [f64; 576], s: &[u8], at: usize) -> Read
     }
 }
 
-// Takes all records up to the next that instructs the fuse, that is turned away or that is not there whole, and says what comes there.
+// Takes all records up to the next that instructs the fuse, that is refused or that is not there whole, and says what comes there.
 pub fn read(rd: Reader, lists: &mut [f64; 576], s: &[u8]) -> Progress
     ensures { λ r. ⌜ (r ≡ readOf (record { reader = rd; lists = now (lists .entry) }) (now (s .entry))) × (now (lists .exit) ≡ listsRead (record { reader = rd; lists = now (lists .entry) }) (now (s .entry))) ⌝ }
 {

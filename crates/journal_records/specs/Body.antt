@@ -1,4 +1,4 @@
--- What the body of each kind of record holds, field by field in the order of 01-scope.md, Journal; settings and outcome stand in journal_records specs/Long. Each reader is there for any list of bytes (a byte
+-- What the body of each kind of record holds, field by field in the order of 01-scope.md, Journal; settings and outcome are in journal_records specs/Long. Each reader is there for any list of bytes (a byte
 -- past the end is 0).
 use mathlib.Core.Bool.{cond}
 use mathlib.Core.List.{List}

@@ -16,7 +16,7 @@ leAt s at (suc w) = byteAt s at + 256 * leAt s (suc at) w
 unfoldable pub floatAt : List ℕ → ℕ → Float
 floatAt s at = ofBits binary64 (leAt s at 8)
 
--- n floats, one behind the other
+-- n floats, one after the other
 unfoldable pub floatsAt : List ℕ → ℕ → ℕ → List Float
 floatsAt s at zero = []
 floatsAt s at (suc n) = floatAt s at ∷ floatsAt s (at + 8) n

@@ -24,7 +24,7 @@ pub struct TickNumbers {
     pub has_vel: bool,
 }
 
-// A decoded record. Settings and outcome hold arrays, and stand beside it: `read_settings`, `read_outcome` in the crate journal_records::long.
+// A decoded record. Settings and outcome hold arrays, and are beside it: `read_settings`, `read_outcome` in the crate journal_records::long.
 pub enum Record {
     Settings,
     Reset,

@@ -1,4 +1,4 @@
--- Exactly the causes of the table turn a record away, in its order; and what that says of framing.
+-- Exactly the causes of the table refuse a record, in its order; and what that says of framing.
 use mathlib.Core.Bool.{Bool, true, false, cond}
 use mathlib.Core.List.{List, [], _∷_}
 use mathlib.Core.Path.{_≡_, refl, sym, _∙_, subst}

@@ -35,7 +35,7 @@ module _ (seen : Seen) (k : ℕ) (b : List ℕ) where
   unfolding judgedOf refusalTable firstRow
   judged-cut kinds e f = rw (e, f) refl
 
-  -- of these rows every answer accepted the test
+  -- of these rows every answer passes the test
   answers : (Refusal → Bool) → List Row → Bool
   answers p [] = true
   answers p (w ∷ ws) = p (w .answer) && answers p ws

@@ -1,4 +1,4 @@
--- What the table says, row by row: a record is turned away for r exactly where the first row that applies answers r, and accepted exactly where none applies.
+-- What the table says, row by row: a record is refused for r exactly where the first row that applies answers r, and accepted exactly where none applies.
 -- (00-demands.md, Demand 1; 01-scope.md, Journal, the table and its order.) Proved in proofs/Exactly.
 use mathlib.Core.Bool.{true, false}
 use mathlib.Core.List.{List, [], _∷_}

@@ -1,4 +1,4 @@
-// Whether a record of a journal is turned away, and why: the ten causes in the order of the table. It is judged by its kind, its body and what has been seen before it;
+// Whether a record of a journal is refused, and why: the ten causes in the order of the table. It is judged by its kind, its body and what has been seen before it;
 // the run state has no part in it.
 ghost use mathlib.Core.Bool.{not, _&&_};
 ghost use mathlib.Core.Path.{_≡_};
@@ -21,7 +21,7 @@ pub struct Seen {
     pub counts: [usize; 5],
 }
 
-// Why a record is turned away, in the order in which the causes are looked for.
+// Why a record is refused, in the order in which the causes are looked for.
 pub enum Refusal {
     UnknownKind,
     CutBody,

@@ -1,4 +1,4 @@
--- The walk of a function that accepted a lent struct on, and copies of what lies behind three `&`, once for every such function. No field of any struct is named.
+-- The walk of a function that passes a lent struct on, and copies of what lies behind three `&`, once for every such function. No field of any struct is named.
 --     reading      fn f(rt: &mut S, g: &G, i: &I, o: &O, _5, .., _9) -> Z { core(rt, *g, *i, *o, _5, .., _9) }
 --     reads        its walk: each `&` is looked into for its value and shut again, and the reference is given up to the core
 -- The walk is told of the call alone: what it asks (`Asked`), and what its answer r gives: its value (`av r`), whatever else is wanted of it (`Good r`), and what comes back (`Back r`).

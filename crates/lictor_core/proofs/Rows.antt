@@ -1,4 +1,4 @@
--- Laws of `rowTo`: how a loop makes it place by place, and what stands at each place of it.
+-- Laws of `rowTo`: how a loop makes it place by place, and what is at each place of it.
 use mathlib.Core.Path.{_≡_, refl, sym, _∙_, ap}
 use mathlib.Core.List.{List}
 use Prim.Native.Nat.{ℕ, zero, suc, _+_, _<_, _≤_, min}

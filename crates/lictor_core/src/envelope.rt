@@ -69,7 +69,7 @@ pub fn rearm_of(n: u8) -> RearmPolicy
     }
 }
 
-// The limits of the state machine. (The Rust keeps the rearm policy here too; it stands beside, since its code is checked.)
+// The limits of the state machine. (The Rust keeps the rearm policy here too; it is beside, since its code is checked.)
 pub struct Hysteresis {
     pub k: u8,
     pub warn_margin: f64,

@@ -1,4 +1,4 @@
-// The run state of the fuse and the numbers of a tick (fuse.rs). Field names are the Rust's; the fields stand in groups,
+// The run state of the fuse and the numbers of a tick (fuse.rs). Field names are the Rust's; the fields are in groups,
 // so that a function takes the group it works on.
 use crate::ack::MaybeAck;
 use crate::chunk::MaybeChunk;
@@ -11,7 +11,7 @@ pub struct Window {
     pub bits: u64,
 }
 
-// What the state machine works on. The rows stand before the small fields, here and in Motion: with a gap in front of a row a copy of it is slow.
+// What the state machine works on. The rows are before the small fields, here and in Motion: with a gap in front of a row a copy of it is slow.
 pub struct Control {
     pub window: Window,
     // the highest nonce consumed from each operator slot

@@ -27,7 +27,7 @@ use Rattle.lictor_fuse.specs.declared.Ticked.{Ticked}
 abbrev pub isAccepted : SettingsCheck → Bool
 isAccepted c = eqb (checkNumber c) 0
 
--- what stands in the verdict's place on a refusal: no tick, so nothing in it
+-- what is in the verdict's place on a refusal: no tick, so nothing in it
 unfoldable pub noVerdict : SafetyVerdict
 noVerdict = record {
   seq = 0;

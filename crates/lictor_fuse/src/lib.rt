@@ -40,7 +40,7 @@ fn is_accepted(c: SettingsCheck) -> bool
     check_number(c) == 0
 }
 
-// What stands in the verdict's place where the settings are refused.
+// What is in the verdict's place where the settings are refused.
 pub fn no_verdict() -> SafetyVerdict
     ensures { λ r. ⌜ r ≡ noVerdict ⌝ }
 {

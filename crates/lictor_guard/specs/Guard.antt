@@ -1,5 +1,5 @@
 -- The guard (01-scope.md, One tick; fuse.rs, guard): NONFINITE, SCHEMA and WATCHDOG, all that apply. Each cause of a bit is an operand of one `||`;
--- those that lie in a chunk, or in that there is none, stand in lictor_guard specs/Delivery.
+-- those that lie in a chunk, or in that there is none, are in lictor_guard specs/Delivery.
 use mathlib.Core.Bool.{Bool, not, cond, _&&_, _||_}
 use mathlib.Core.List.{List}
 use Prim.Native.Nat.{ℕ, _+_}

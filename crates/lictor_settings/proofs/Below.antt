@@ -15,7 +15,7 @@ last : (n : ℕ) (p : ℕ → Bool) (i : ℕ) → i < suc n → p i ≡ true →
 last n p i h e ih (yes q) = rw (sym (ap p q) ∙ e) (or-true (anyBelow n p))
 last n p i h e ih (no q) = rw (ih (omega arith)) refl
 
--- an index that accepted
+-- an index that passes
 pub some-below : (n : ℕ) (p : ℕ → Bool) (i : ℕ) → i < n → p i ≡ true → anyBelow n p ≡ true
 unfolding anyBelow
 some-below zero p i h e = absurd (omega arith)

@@ -30,7 +30,7 @@ badFloat s =
     not (allFinite (s .dt ∷ s .«inv_dt» ∷ s .«a_max» ∷ s .hyst .«v_stop_eps» ∷ s .hyst .«warn_margin» ∷ []))
     || (isNan (s .calib .tau) || (not (allFinite (s .«box_lo»)) || not (allFinite (s .«box_hi»))))
 
--- some index below n accepted the test
+-- some index below n passes the test
 unfoldable pub anyBelow : ℕ → (ℕ → Bool) → Bool
 anyBelow zero p = false
 anyBelow (suc n) p = anyBelow n p || p n

@@ -1,5 +1,5 @@
 -- The transition table (01-scope.md, One tick, Transitions; bits, reasons and counters as in fsm.rs): a list of lines, of which the first that applies decides.
--- It stands at the end of this file; before it come the words that it is written with.
+-- It is at the end of this file; before it come the words that it is written with.
 use mathlib.Core.Bool.{Bool, true, false, cond, not, _&&_, _||_}
 use mathlib.Core.List.{List, [], _∷_}
 use Prim.Native.Nat.{ℕ, _+_}

@@ -18,7 +18,7 @@ use Rattle.lictor_tally.proofs.Places.{length-each, each-at, each-same}
 
 -- ---- counts
 
--- a count never accepted its ceiling
+-- a count never passes its ceiling
 pub count-fits : (moves : Bool) (n : ℕ) → n < 2 ^ 32 → count moves n < 2 ^ 32
 unfolding count
 count-fits true n h = sat-fits 32 n

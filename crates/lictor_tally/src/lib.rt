@@ -1,4 +1,4 @@
-// The counts of an episode (tally.rs): an empty tally, and what a chunk and a tick make of one. The types stand in lictor_core, the rules of the fields in lictor_tally::counts.
+// The counts of an episode (tally.rs): an empty tally, and what a chunk and a tick make of one. The types are in lictor_core, the rules of the fields in lictor_tally::counts.
 pub mod counts;
 
 ghost use mathlib.Core.Path.{_≡_};

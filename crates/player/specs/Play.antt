@@ -18,7 +18,7 @@ use Rattle.player.specs.declared.Played.{Played}
 
 -- ---- the text of its ticks
 
--- the text of its ticks, one behind the other
+-- the text of its ticks, one after the other
 unfoldable pub eventsText : ℕ → List Decided → List ℕ
 eventsText code [] = []
 eventsText code (d ∷ ds) = eventText code (d .verdict) (d .rt) ++ eventsText code ds
@@ -34,7 +34,7 @@ pub record Playing : Type 0 where
   pub journal : Whole
   pub n : ℕ
 
--- why no more records are taken, though more may be there: one is turned away, or there is no room for the text of one more tick
+-- why no more records are taken, though more may be there: one is refused, or there is no room for the text of one more tick
 pub data Stop : Type 0 where
   refuses : Refusal → Stop
   full : Stop
@@ -50,7 +50,7 @@ withText code n (tell w k d) = tell (record { journal = w; n = n + length (event
 unfoldable pub playOf : ℕ → ℕ → Playing → List ℕ → Next Playing Decided Stop
 playOf code room p s = cond (leb (p .n + tickRoom) room) (withText code (p .n) (replayOf (p .journal) s)) (halt full)
 
--- what the bytes s are played to, by the journal w, with so much room: one record after the other, up to one that is turned away or is not there whole, or until the room is full
+-- what the bytes s are played to, by the journal w, with so much room: one record after the other, up to one that is refused or is not there whole, or until the room is full
 unfoldable pub fedOf : ℕ → Whole → List ℕ → ℕ → Settled Playing Decided Stop
 fedOf code w s room = settled (playOf code room) (record { journal = w; n = 0 }) s
 
@@ -77,7 +77,7 @@ playedOf s a = record {
   refused = refusedBy (a .end);
 }
 
--- the answer, the lists afterwards, and memory: the text of the ticks at its front, and behind that what was there
+-- the answer, the lists afterwards, and memory: the text of the ticks at its front, and after that what was there
 pub record Fed (code : ℕ) (w : Whole) (s : List ℕ) (out : List ℕ) (r : Played) (l' : List Float) (out' : List ℕ) : Type 0 where
   pub turn : r ≡ playedOf s (fedOf code w s (length out))
   pub lists : l' ≡ fedOf code w s (length out) .state .journal .state .lists
@@ -109,7 +109,7 @@ pub record Stopped (code room : ℕ) (p : Playing) (s : List ℕ) (ticked : Bool
   pub ticked-is : ticked ≡ isFull end
   pub refused-is : refused ≡ refusedBy end
 
--- from place `at` of s some records were played: the ticks `told`, whose text stands behind n bytes. The last was a tick, or no more is to be had.
+-- from place `at` of s some records were played: the ticks `told`, whose text is after n bytes. The last was a tick, or no more is to be had.
 pub record Turned (code : ℕ) (w : Whole) (s : List ℕ) (at : ℕ) (out : List ℕ) (n : ℕ) (r : Played) (l' : List Float) (out' : List ℕ) : Type 0 where
   pub told : List Decided
   pub from : at ≤ r .at

@@ -24,7 +24,7 @@ pub struct Played {
     pub refused: u8,
 }
 
-// The tick whose record ends before place `at`, and its text behind n bytes.
+// The tick whose record ends before place `at`, and its text after n bytes.
 fn play_tick(
     code: u8,
     rd: Reader,

@@ -1,4 +1,4 @@
--- Text put behind text.
+-- Text put after text.
 use Prim.Native.Nat.{ℕ, _≤_, _<_, _+_, _*_, _-_, min}
 use mathlib.Core.Path.{_≡_, refl, sym, ap, ap₂, _∙_}
 use mathlib.Core.List.{List, [], _++_, append-assoc, append-nil}
@@ -35,7 +35,7 @@ put-part out n text k out' h e =
       memory = e ∙ rw l (ap (λ (s : List ℕ). take n out ++ s ++ drop (n + k) out) (sym (take-take k k text (omega arith))));
     }
 
--- s, and t behind it
+-- s, and t after it
 pub put-on : (out : List ℕ) (n : ℕ) (s : List ℕ) (r : ℕ) (out' : List ℕ) (t : List ℕ) (r' : ℕ) (out'' : List ℕ) → n ≤ length out
     → Put out n s r out' → Put out' r t r' out'' → Put out n (s ++ t) r' out''
 put-on out n s r out' t r' out'' h p q =

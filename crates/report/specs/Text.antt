@@ -16,7 +16,7 @@ unfoldable pub traceUpTo : ℕ → SafetyVerdict → FuseRt → List ℕ
 traceUpTo zero v rt = []
 traceUpTo (suc k) v rt = traceUpTo k v rt ++ take 256 (traceText k v rt)
 
--- code 1 is the trace: the tick's line, and its 74 lines behind it; any other code is the tick's line alone
+-- code 1 is the trace: the tick's line, and its 74 lines after it; any other code is the tick's line alone
 unfoldable pub eventText : ℕ → SafetyVerdict → FuseRt → List ℕ
 eventText code v rt = tickText v ++ cond (eqb code 1) (traceUpTo 74 v rt) []
 
@@ -25,7 +25,7 @@ pub record Put (out : List ℕ) (n : ℕ) (s : List ℕ) (r : ℕ) (out' : List 
   pub ends : r ≡ n + length s
   pub memory : out' ≡ paste out n s (length s)
 
--- the same, where the room for a tick is there behind place n; nothing, where it is not
+-- the same, where the room for a tick is there after place n; nothing, where it is not
 unfoldable pub placeAfter : ℕ → ℕ → List ℕ → ℕ
 placeAfter room n s = cond (leb (n + 19200) room) (n + length s) n
 

@@ -35,7 +35,7 @@ fn copy(out: &mut [u8], n: usize, text: &[u8], k: usize)
     }
 }
 
-// Puts a line behind the first n bytes.
+// Puts a line after the first n bytes.
 fn put_line(out: &mut [u8], n: usize, l: Line) -> usize
     requires { ⌜ (n + 256 ≤ length (now out)) × (l .n ≤ 256) ⌝ }
     ensures { λ r. ⌜ Put (now (out .entry)) n (take (l .n) (l .text)) r (now (out .exit)) ⌝ }
@@ -46,7 +46,7 @@ fn put_line(out: &mut [u8], n: usize, l: Line) -> usize
     n + k
 }
 
-// Puts a text behind the first n bytes.
+// Puts a text after the first n bytes.
 fn put(out: &mut [u8], n: usize, text: &[u8]) -> usize
     requires { ⌜ n + length (now text) ≤ length (now out) ⌝ }
     ensures { λ r. ⌜ Put (now (out .entry)) n (now (text .entry)) r (now (out .exit)) ⌝ }
@@ -119,7 +119,7 @@ fn put_event(code: u8, v: SafetyVerdict, rt: FuseRt, out: &mut [u8], n: usize) -
     m
 }
 
-// Puts the text of a tick behind the first n bytes, and answers where it ends. Where fewer than ROOM bytes are left behind n, it puts nothing.
+// Puts the text of a tick after the first n bytes, and answers where it ends. Where fewer than ROOM bytes are left after n, it puts nothing.
 pub fn tick_text(code: u8, v: SafetyVerdict, rt: FuseRt, out: &mut [u8], n: usize) -> usize
     ensures { λ r. ⌜ (r ≡ placeAfter (length (now (out .entry))) n (eventText code v rt)) × (now (out .exit) ≡ memoryAfter (now (out .entry)) n (eventText code v rt)) ⌝ }
 {

@@ -66,12 +66,12 @@ someBad (suc k) s = cond (isBad (take 17 s)) true (someBad k (drop 17 s))
 abbrev pub lineCount : List ℕ → ℕ
 lineCount s = (length s + 16) / 17
 
--- `text` was put at the place `at` of `old`, which gave `new`, and `next` is the place behind it
+-- `text` was put at the place `at` of `old`, which gave `new`, and `next` is the place after it
 pub record Put (old : List ℕ) (at : ℕ) (text new : List ℕ) (next : ℕ) : Type 0 where
   pub next-is : next ≡ at + length text
   pub text-is : take next new ≡ take at old ++ text
 
--- the answers to the bytes s stand at the start of `out`, n bytes of them
+-- the answers to the bytes s are at the start of `out`, n bytes of them
 pub record Answered (s out : List ℕ) (n : ℕ) (bad : Bool) : Type 0 where
   pub counts : Counts n out
   pub text-is : take n out ≡ answers (lineCount s) s

@@ -64,7 +64,7 @@ fn read_line(s: &[u8]) -> Read
 
 // ---- writing
 
-// The 16 hexadecimal digits of a pattern behind a line.
+// The 16 hexadecimal digits of a pattern after a line.
 fn push_hex(l: Line, b: u64) -> Line
     ensures { λ r. ⌜ r ≡ pushOf l (hexIn 16 b) ⌝ }
 {
@@ -82,7 +82,7 @@ fn root_line(b: u64) -> Line
     push(push_float(l, root), b"\n")
 }
 
-// Puts a text at a place of out, and answers the place behind it.
+// Puts a text at a place of out, and answers the place after it.
 fn put(out: &mut [u8], at: usize, text: &[u8]) -> usize
     requires { ⌜ at + length (now text) ≤ length (now out) ⌝ }
     ensures { λ r. ⌜ Put (now (out .entry)) at (now (text .entry)) (now (out .exit)) r ⌝ }

@@ -87,7 +87,7 @@ module _ {R E H : Type 0} (next : R → List ℕ → Next R E H) (there : (r : R
 -- ---- from bytes that come in parts
 
 module _ {R E H : Type 0} (next : R → List ℕ → Next R E H) (m : Machine next) where
-  -- a record alone gives the same, whatever stands behind it
+  -- a record alone gives the same, whatever is after it
   alone : (r : R) (s t : List ℕ) → takes (next r s) ≡ true → next r (take (size (next r s)) s ++ t) ≡ next r s
   alone r s t y =
       m .stands r (take (size (next r s)) s) t (λ w. not-wait (next r s) y (sym (m .enough r s y) ∙ w)) ∙ m .enough r s y
@@ -95,7 +95,7 @@ module _ {R E H : Type 0} (next : R → List ℕ → Next R E H) (m : Machine ne
       not-wait : (x : Next R E H) → takes x ≡ true → x ≡ wait → ⊥
       not-wait x p q = let z : _≡_ {A = Bool} true false = sym p ∙ ap takes q in let f : _≡_ {A = ℕ} 0 1 = cc in omega arith
 
-  -- to take in s and then t, behind what s left over, is to take in s ++ t
+  -- to take in s and then t, after what s left over, is to take in s ++ t
   abbrev Joined : ℕ → R → List ℕ → List ℕ → Type 0
   Joined f r s t =
       settle next f r (s ++ t) ≡ telling (settle next f r s .told) (settle next f (settle next f r s .state) (settle next f r s .rest ++ t))
@@ -184,7 +184,7 @@ module _ {R E H : Type 0} (next : R → List ℕ → Next R E H) (m : Machine ne
 
   -- ---- the bytes that were taken
 
-  -- the rest is what stands behind some place, and the bytes before that place alone give the same, and leave nothing
+  -- the rest is what is after some place, and the bytes before that place alone give the same, and leave nothing
   pub record Front (r : R) (s : List ℕ) (a : Settled R E H) : Type 0 where
     pub place : ℕ
     pub within : place ≤ length s
@@ -356,7 +356,7 @@ module _ {R E H : Type 0} (next : R → List ℕ → Next R E H) (m : Machine ne
             ∙ ap (λ (v : List ℕ). past (at' - at) (advanced next r' v)) (rw d at (drop-drop (at' - at) at s));
       }
 
-  -- two ways, one behind the other
+  -- two ways, one after the other
   pub reached-on : {r r' r'' : R} {s : List ℕ} {at at' at'' : ℕ} → Reached next r s at r' at' → Reached next r' s at' r'' at'' → Reached next r s at r'' at''
   reached-on {r'' = r''} {s = s} {at = at} {at' = at'} {at'' = at''} p q = record {
     from = omega (arith, p .from, q .from);

@@ -94,7 +94,7 @@ size (go r n) = n
 size (tell r n e) = n
 
 -- What is asked of a machine: with no bytes it waits; what it takes is at least one byte, is there, and is all that it looks at; and what it does with the bytes at hand, unless it
--- waits, it does with more behind them.
+-- waits, it does with more after them.
 pub record Machine {R E H : Type 0} (next : R → List ℕ → Next R E H) : Type 0 where
   pub idle : (r : R) → next r [] ≡ wait
   pub there : (r : R) (s : List ℕ) → takes (next r s) ≡ true → (0 < size (next r s)) × (size (next r s) ≤ length s)

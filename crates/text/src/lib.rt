@@ -1,4 +1,4 @@
-// Lines of text, built by value: every function takes a line and returns the line with more behind it. A line holds 256 bytes; what comes after is dropped.
+// Lines of text, built by value: every function takes a line and returns the line with more after it. A line holds 256 bytes; what comes after is dropped.
 ghost use mathlib.Core.Path.{_≡_};
 ghost use mathlib.Core.List.{[]};
 ghost use lib.IntN.{natAbs};
@@ -19,7 +19,7 @@ pub fn empty() -> Line
     Line { text, n: 0 }
 }
 
-// The bytes b behind the line; a full line stays as it is.
+// The bytes b after the line; a full line stays as it is.
 pub fn push(mut l: Line, b: &[u8]) -> Line
     ensures { λ r. ⌜ r ≡ pushOf l (now (b .entry)) ⌝ }
 {

@@ -14,7 +14,7 @@ use Rattle.lictor_core.specs.declared.fuse.Clock.{Clock}
 use Rattle.lictor_core.specs.declared.fuse.FuseRt.{FuseRt}
 use Rattle.trace_text.specs.Trace.{verdictLines, runLines, tallyLines, traceLines, traceText}
 
--- lines of the first part, which has n, and of the part behind it
+-- lines of the first part, which has n, and of the part after it
 in-front : (xs ys : List (List ℕ)) (n k : ℕ) (l : Line) → length xs ≡ n → k < n → l ≡ lineOf (getD xs k []) → l ≡ lineOf (getD (xs ++ ys) k [])
 in-front xs ys n k l e h q = q ∙ ap lineOf (sym (List·getD-append xs ys [] k (omega arith)))
 

@@ -1,4 +1,4 @@
--- What is left of a number's range behind a `match`; a value and a list behind a name.
+-- What is left of a number's range after a `match`; a value and a list after a name.
 use Prim.Native.Nat.{ℕ, zero, suc, _≤_, _<_}
 use mathlib.Core.Path.{_≡_, refl, ap, _∙_}
 use mathlib.Core.Bool.{Bool, true, false, cond}
@@ -53,10 +53,10 @@ rest-is k a (suc m) ns p g h t =
     let s = split (cond (ltb m a) true (isIn m ns)) (allFrom a m ns) t in
     rest-by k a m ns p g (s .0) (λ l. rest-is k a m ns p g l (s .1)) h (ℕ-discrete k (suc m))
 
--- a value behind a name
+-- a value after a name
 pub valued : (name : List ℕ) {x y : Value} → x ≡ y → row name (valueText x) ≡ row name (valueText y)
 valued name e = ap (λ (z : Value). row name (valueText z)) e
 
--- a list behind the name of line k, where k is n
+-- a list after the name of line k, where k is n
 pub list-row : (name : ℕ → List ℕ) (k n : ℕ) (l r : Line) (s : List ℕ) → k ≡ n → l ≡ lineOf (name k) → r ≡ pushOf l (ended s) → r ≡ lineOf (row (name n) s)
 list-row name k n l r s e p q = is-row l r (name n) s (p ∙ ap (λ (j : ℕ). lineOf (name j)) e) q

@@ -11,7 +11,7 @@ use Rattle.trace_text.specs.Row.{ended, row}
 pub then-newline : (l m r : Line) (s : List ℕ) → m ≡ pushOf l s → r ≡ pushOf m (10 ∷ []) → r ≡ pushOf l (ended s)
 then-newline l m r s p q = q ∙ ap (λ (x : Line). pushOf x (10 ∷ [])) p ∙ sym (push-append l s (10 ∷ []))
 
--- a value behind a name
+-- a value after a name
 pub is-row : (l r : Line) (name s : List ℕ) → l ≡ lineOf name → r ≡ pushOf l (ended s) → r ≡ lineOf (row name s)
 unfolding row
 is-row l r name s p q = q ∙ ap (λ (x : Line). pushOf x (ended s)) p ∙ push-line name (ended s)

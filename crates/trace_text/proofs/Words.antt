@@ -50,7 +50,7 @@ sought-end s k left at h p =
     let d : drop at s ≡ [] = ap (λ (n : ℕ). drop n s) e ∙ drop-length s in
     (p .within, d ∙ sym (none-left left) ∙ ap (behindBlanks left) (sym d) ∙ p .same)
 
--- ---- the end: the bytes that are passed, and what is before the first blank behind them
+-- ---- the end: the bytes that are passed, and what is before the first blank after them
 
 pub record Spelt (s : List ℕ) (at e : ℕ) : Type 0 where
   pub from : at ≤ e

@@ -4,13 +4,13 @@ use mathlib.Core.Bool.{cond}
 use mathlib.Core.List.{List, [], _∷_}
 use lib.Dec.{eqb}
 
--- what stands behind the first k blanks
+-- what is after the first k blanks
 unfoldable pub behindBlanks : ℕ → List ℕ → List ℕ
 behindBlanks zero s = s
 behindBlanks (suc k) [] = []
 behindBlanks (suc k) (c ∷ s) = cond (eqb c 32) (behindBlanks k s) (behindBlanks (suc k) s)
 
--- what stands before the first blank
+-- what is before the first blank
 unfoldable pub upToBlank : List ℕ → List ℕ
 upToBlank [] = []
 upToBlank (c ∷ s) = cond (eqb c 32) [] (c ∷ upToBlank s)

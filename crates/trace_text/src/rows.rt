@@ -32,7 +32,7 @@ use text::push_numbers;
 
 // ---- the name
 
-// How many blanks are left to pass behind the byte c.
+// How many blanks are left to pass after the byte c.
 fn left_after(left: usize, c: u8) -> usize
     requires { ⌜ 0 < left ⌝ }
     ensures { λ r. ⌜ r ≡ cond (eqb c 32) (left - 1) left ⌝ }
@@ -40,7 +40,7 @@ fn left_after(left: usize, c: u8) -> usize
     if c == b' ' { left - 1 } else { left }
 }
 
-// The place behind the first k blanks; the end, where there are fewer.
+// The place after the first k blanks; the end, where there are fewer.
 fn word_start(words: &[u8], k: usize) -> usize
     ensures { λ r. ⌜ (r ≤ length (now (words .entry))) × (drop r (now (words .entry)) ≡ behindBlanks k (now (words .entry))) ⌝ }
 {
@@ -176,7 +176,7 @@ pub fn reason_mark(m: ReasonMark) -> Value
     }
 }
 
-// ---- the line: a value behind a name, and a newline
+// ---- the line: a value after a name, and a newline
 
 fn push_value(l: Line, v: Value) -> Line
     ensures { λ r. ⌜ r ≡ pushOf l (valueText v) ⌝ }

@@ -30,7 +30,7 @@ at-step t l = wholeOf (t .reader) (t .run) l
 abbrev first : Reader → Run → Step
 first rd run = record { reader = rd; run = run; at = 0; how = Waits; more = true }
 
--- what was taken so far, and what stands there where nothing more is taken
+-- what was taken so far, and what is there where nothing more is taken
 record Kept (l₀ : List Float) (s : List ℕ) (t₀ : Step) (l : List Float) (t : Step) : Type 0 where
   pub reached : Reached replayOf (at-step t₀ l₀) s (t₀ .at) (at-step t l) (t .at)
   pub stops : t .more ≡ false → goesOn (replayOf (at-step t l) (drop (t .at) s)) ≡ false

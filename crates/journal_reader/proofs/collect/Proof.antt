@@ -23,7 +23,7 @@ use Rattle.journal_reader.proofs.collect.Tie as tie
 abbrev first : Waiting → ℕ → Took
 first w at = record { waiting = w; at = at; look = L.Waits; more = true }
 
--- what was taken so far, and what stands there where nothing more is taken
+-- what was taken so far, and what is there where nothing more is taken
 record Kept (l₀ : List Float) (s : List ℕ) (t₀ : Took) (l : List Float) (t : Took) : Type 0 where
   pub reached : (o : Outcome) → Reached onBytes (stateWith (t₀ .waiting) o l₀) s (t₀ .at) (stateWith (t .waiting) o l) (t .at)
   pub within : t .at ≤ length s

@@ -28,7 +28,7 @@ at-turn t l = record { reader = t .reader; lists = l }
 abbrev first : Reader → Reading
 first rd = record { reader = rd; at = 0; what = Waits; more = true }
 
--- what was taken so far, and what stands there where nothing more is taken
+-- what was taken so far, and what is there where nothing more is taken
 record Kept (l₀ : List Float) (s : List ℕ) (t₀ : Reading) (l : List Float) (t : Reading) : Type 0 where
   pub reached : Reached onBytes (at-turn t₀ l₀) s (t₀ .at) (at-turn t l) (t .at)
   pub stops : t .more ≡ false → goesOn (onBytes (at-turn t l) (drop (t .at) s)) ≡ false
