@@ -11,7 +11,7 @@ is-clean-requires c κs = search needs
 count-run-requires : tie.Need-count-run-requires
 count-run-requires c κs = search needs
 
-accepted-ack-requires : tie.Need-accepted-by-ack-requires
+accepted-ack-requires : tie.Need-accepted-ack-requires
 accepted-ack-requires c κs = search needs
 
 transition-requires : tie.Need-transition-requires

@@ -29,7 +29,7 @@ f64-at-requires c κs = search needs
 
 returns : tie.Need-returns
 unfolding outcomeOf
-returns c = rw (c .f64-at .ensures, c .before .set .ensures, c .before .before .byte .ensures, c .before .before .before .le322 .ensures, c .before .before .before .before .le32 .ensures, c .before .before .before .before .before .eight2 .ensures, c .before .before .before .before .before .before .eight-floats .ensures, c .before .before .before .before .before .before .before .read-scores .ensures)
+returns c = rw (c .f64-at .ensures, c .before .set .ensures, c .before .before .byte .ensures, c .before .before .before .le322 .ensures, c .before .before .before .before .le32 .ensures, c .before .before .before .before .before .eight-floats2 .ensures, c .before .before .before .before .before .before .eight-floats .ensures, c .before .before .before .before .before .before .before .read-scores .ensures)
 
 pub read-outcome-spec : {M : Type 1} → statement M
 read-outcome-spec =
