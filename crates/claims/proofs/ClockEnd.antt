@@ -25,7 +25,7 @@ use Rattle.lictor_fuse.specs.declared.decide.Decided.{Decided}
 use Rattle.lictor_fuse.specs.declared.Ticked.{Ticked}
 use Rattle.lictor_fuse.specs.Decide.{closedOf, closeFault, faultTick}
 use Rattle.lictor_fuse.specs.Tick.{givenOf}
-use Rattle.claims.specs.Calls.{Call, passes, tickAnswer, guardBits}
+use Rattle.claims.specs.Calls.{Call, settingsPass, tickAnswer, guardBits}
 use Rattle.claims.specs.ClockEnd.{lastTime, PastTheEnd, ClockEnds}
 use Rattle.claims.proofs.Tick.{by-call, by-guard, decided, faultTurn, guard-faults}
 
@@ -82,7 +82,7 @@ unfolding givenOf
 past-the-end r c a p h k =
     let f = faults r c p h k in
     let d : (T (anyOf (tickAnswer r c .verdict .trips) schema)) × (tickAnswer r c .verdict .state ≡ Fault) =
-    by-call (λ (x : Ticked). T (anyOf (x .verdict .trips) schema) × (x .verdict .state ≡ Fault)) r c (λ z. f) (λ z. absurd (T-not (passes c) z a)) in
+    by-call (λ (x : Ticked). T (anyOf (x .verdict .trips) schema) × (x .verdict .state ≡ Fault)) r c (λ z. f) (λ z. absurd (T-not (settingsPass c) z a)) in
     record { guard = finds r c p h k; trips = d .0; state = d .1 }
 
 pub clock-ends : ClockEnds

@@ -40,7 +40,7 @@ use Rattle.lictor_fuse.specs.declared.decide.Decided.{Decided}
 use Rattle.lictor_fuse.specs.declared.Ticked.{Ticked}
 use Rattle.lictor_fuse.specs.Decide.{readyOf, nextChunk, cleanClock, faultClock, closedOf, closeClean, cleanTick, closeFault, faultTick}
 use Rattle.lictor_fuse.specs.Tick.{givenOf}
-use Rattle.claims.specs.Calls.{Call, passes, tickAnswer, guardBits}
+use Rattle.claims.specs.Calls.{Call, settingsPass, tickAnswer, guardBits}
 use Rattle.claims.specs.Tallies.{turnSeen, itemOf}
 use Rattle.claims.specs.Counters.{Rises, stays, rises, Counts, kept, counted, cleared, Numbers, same, next, MachineCounts, ClockCounts, CountersTold}
 use Rattle.claims.proofs.Tick.{by-call, by-guard, decided, foundOf, cleanTurn}
@@ -189,7 +189,7 @@ module _ (r : FuseRt) (c : Call) where
 pub counters-go : CountersTold
 unfolding givenOf
 counters-go r c a =
-    let t = by-call (λ (x : Ticked). Told r c (x .rt)) r c (λ h. tick-counts r c) (λ h. absurd (T-not (passes c) h a)) in
+    let t = by-call (λ (x : Ticked). Told r c (x .rt)) r c (λ h. tick-counts r c) (λ h. absurd (T-not (settingsPass c) h a)) in
     record { machine = t .0; clock = t .1 }
 
 -- ---- what follows at an end, for any width
@@ -229,7 +229,7 @@ wraps k = let e : 2 ^ k - 1 + 1 ≡ 2 ^ k = omega (arith, pow-pos k) in rw e (mo
 
 -- ---- what the tally counts of a full counter: nothing, though the fuse arms by a Resume or clamps
 
-module _ (r : FuseRt) (c : Call) (a : T (passes c)) where
+module _ (r : FuseRt) (c : Call) (a : T (settingsPass c)) where
   -- an event is one of a clean tick or none
   by-events : (P : TickEvents → Type 0) → P (eventsOf (c .settings .calib) (c .outcome .scores) (r .control) (turnSeen (tickAnswer r c .rt) (tickAnswer r c .verdict))) → P noEvents
       → P (itemOf r c (tickAnswer r c) .events)

@@ -33,7 +33,7 @@ use Rattle.lictor_fuse.specs.declared.decide.Decided.{Decided}
 use Rattle.lictor_fuse.specs.declared.Ticked.{Ticked}
 use Rattle.lictor_fuse.specs.Decide.{readyOf, closedOf, closeClean, cleanTick, closeFault, faultTick}
 use Rattle.lictor_fuse.specs.Tick.{givenOf}
-use Rattle.claims.specs.Calls.{Call, passes, tripsOf, bitsOf, ackAccepted, tookOf}
+use Rattle.claims.specs.Calls.{Call, settingsPass, tripsOf, bitsOf, ackAccepted, tookOf}
 use Rattle.claims.specs.Demand3.{none?}
 use Rattle.claims.specs.Flag.{FlagTells}
 use Rattle.claims.proofs.Tick.{by-call, by-guard, decided, foundOf, cleanTurn}
@@ -183,4 +183,4 @@ module _ (r : FuseRt) (c : Call) where
 
 pub flag-tells : FlagTells
 unfolding givenOf
-flag-tells r c a = by-call (λ (x : Ticked). x .verdict .«ack_consumed» ≡ not (none? (tookOf r c))) r c (λ h. tick-tells r c) (λ h. absurd (T-not (passes c) h a))
+flag-tells r c a = by-call (λ (x : Ticked). x .verdict .«ack_consumed» ≡ not (none? (tookOf r c))) r c (λ h. tick-tells r c) (λ h. absurd (T-not (settingsPass c) h a))

@@ -42,7 +42,7 @@ use Rattle.lictor_fuse.specs.Decide.{readyOf, cleanClock, closedOf, closeClean,
 use Rattle.lictor_fuse.specs.Tick.{isAccepted, givenOf}
 use Rattle.claims.specs.Runs.{All, Some, here, later, First, Where, at, past, series, Step, silent, event, andThen, trace}
 use Rattle.claims.specs.Demand3.{begins, closes, limit, StopsWithin}
-use Rattle.claims.specs.Calls.{Seen, Call, passes, guardBits, stepOf, seenOf, ticksFrom}
+use Rattle.claims.specs.Calls.{Seen, Call, settingsPass, guardBits, stepOf, seenOf, ticksFrom}
 use Rattle.claims.specs.ClockEnd.{lastTime}
 use Rattle.claims.specs.Limit.{oneFloat, slowSettings, callAt, trips, moves, stands, slowest, Met, LimitMet}
 use Rattle.claims.proofs.Demand3.{settled}
@@ -454,7 +454,7 @@ module _ (b h e : ℕ) (least : 1 ≤ b) (small : b ≤ 65535) (short : h ≤ 65
     met =
         record {
           sized = record { brake = small; hold = short; handoff = long; rearms = omega arith };
-          under = every-call (λ c. T (passes c) × (c .settings ≡ slow)) (passes b h e, refl) (λ t k. (passes b h e, refl)) (λ t k. (passes b h e, refl));
+          under = every-call (λ c. T (settingsPass c) × (c .settings ≡ slow)) (passes b h e, refl) (λ t k. (passes b h e, refl)) (λ t k. (passes b h e, refl));
           times = every-call (λ c. c .input .t ≤ lastTime) (omega arith) (λ t k. k) (λ t k. k);
           exact = exact;
           tight = tight exact;

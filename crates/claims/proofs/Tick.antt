@@ -19,7 +19,7 @@ use Rattle.lictor_fuse.specs.declared.Ticked.{Ticked}
 use Rattle.lictor_fuse.specs.Decide.{readyOf, cleanTick, faultTick, decideBy, decideOf}
 use Rattle.lictor_fuse.specs.Tick.{givenOf, acceptedTick, refusedTick, tickBy, tickOf}
 use Rattle.claims.specs.Runs.{Step, silent, event}
-use Rattle.claims.specs.Calls.{Call, tickAnswer, passes, guardBits, stepBy, stepOf}
+use Rattle.claims.specs.Calls.{Call, tickAnswer, settingsPass, guardBits, stepBy, stepOf}
 
 -- ---- a call
 
@@ -29,24 +29,24 @@ decided r c = decideOf (configOf (c .settings)) r (c .input) (c .outcome) (c .po
 
 -- what holds of a tick and of a refusal holds of the call
 pub by-call : (P : Ticked → Type 0) (r : FuseRt) (c : Call)
-    → (T (passes c) → P (givenOf (decided r c))) → (T (not (passes c)) → P (refusedTick (checkOf (c .settings)) r)) → P (tickAnswer r c)
+    → (T (settingsPass c) → P (givenOf (decided r c))) → (T (not (settingsPass c)) → P (refusedTick (checkOf (c .settings)) r)) → P (tickAnswer r c)
 unfolding tickOf tickBy acceptedTick
-by-call P r c f g = by-test P (passes c) _ _ f g
+by-call P r c f g = by-test P (settingsPass c) _ _ f g
 
 -- a refused call leaves the run state as it was
-pub refused-keeps : (r : FuseRt) (c : Call) → T (not (passes c)) → tickAnswer r c .rt ≡ r
+pub refused-keeps : (r : FuseRt) (c : Call) → T (not (settingsPass c)) → tickAnswer r c .rt ≡ r
 unfolding refusedTick
-refused-keeps r c h = by-call (λ (a : Ticked). a .rt ≡ r) r c (λ f. absurd (T-not (passes c) h f)) (λ g. refl)
+refused-keeps r c h = by-call (λ (a : Ticked). a .rt ≡ r) r c (λ f. absurd (T-not (settingsPass c) h f)) (λ g. refl)
 
 module _ {A : Type 0} (see : FuseRt → Call → Ticked → A) where
   -- what holds of the event of a tick and the run state that it leaves, and of silence that leaves the run state as it was, holds of the step
   pub by-step : (P : FuseRt → Step FuseRt A → Type 0) (r : FuseRt) (c : Call)
-      → (T (passes c) → P (decided r c .rt) (event (see r c (givenOf (decided r c))) (decided r c .rt))) → (T (not (passes c)) → P r (silent r))
+      → (T (settingsPass c) → P (decided r c .rt) (event (see r c (givenOf (decided r c))) (decided r c .rt))) → (T (not (settingsPass c)) → P r (silent r))
       → P (tickAnswer r c .rt) (stepOf see r c)
   unfolding givenOf refusedTick
   by-step P r c f g =
       by-call (λ (a : Ticked). P (a .rt) (stepBy see r c a)) r c f
-      (λ h. by-test (P r) (passes c) _ (silent r) (λ k. absurd (T-not (passes c) h k)) (λ k. g h))
+      (λ h. by-test (P r) (settingsPass c) _ (silent r) (λ k. absurd (T-not (settingsPass c) h k)) (λ k. g h))
 
 -- ---- a tick
 

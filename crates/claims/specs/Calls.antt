@@ -40,12 +40,12 @@ abbrev pub tickAnswer : FuseRt → Call → Ticked
 tickAnswer r c = tickOf (c .settings) r (c .input) (c .outcome) (c .pos) (c .vel) (c .aux) (c .ext) (c .chunk)
 
 -- the settings pass the check
-abbrev pub passes : Call → Bool
-passes c = isAccepted (checkOf (c .settings))
+abbrev pub settingsPass : Call → Bool
+settingsPass c = isAccepted (checkOf (c .settings))
 
 -- the call's settings are s, if they pass the check
 abbrev pub Under : Settings → Call → Type 0
-Under s c = T (passes c) → c .settings ≡ s
+Under s c = T (settingsPass c) → c .settings ≡ s
 
 -- ---- what a tick brings, and what it does with it
 

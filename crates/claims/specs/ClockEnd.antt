@@ -6,7 +6,7 @@ use lib.Dec.{T}
 use Rattle.lictor_core.specs.declared.fuse.FuseRt.{FuseRt}
 use Rattle.lictor_core.specs.declared.state.FuseState.the-variants.{Fault}
 use Rattle.lictor_core.specs.Masks.{anyOf, schema}
-use Rattle.claims.specs.Calls.{Call, passes, tickAnswer, guardBits}
+use Rattle.claims.specs.Calls.{Call, settingsPass, tickAnswer, guardBits}
 
 -- the last t that the clock's type can hold
 abbrev pub lastTime : ℕ
@@ -21,9 +21,9 @@ pub record SchemaFault (r : FuseRt) (c : Call) : Type 0 where
 -- a tick that is not the first, whose t would have to lie past the clock's end: whatever its t, and whatever else it brings
 abbrev pub PastTheEnd : Type 0
 PastTheEnd =
-    (r : FuseRt) (c : Call) → T (passes c) → 0 < r .clock .seq → c .input .t ≤ lastTime
+    (r : FuseRt) (c : Call) → T (settingsPass c) → 0 < r .clock .seq → c .input .t ≤ lastTime
     → lastTime < r .clock .«last_t» + 1 + c .input .«missed_ticks» → SchemaFault r c
 
 -- so every tick after the last t, however many it says were missed
 abbrev pub ClockEnds : Type 0
-ClockEnds = (r : FuseRt) (c : Call) → T (passes c) → 0 < r .clock .seq → c .input .t ≤ lastTime → r .clock .«last_t» ≡ lastTime → SchemaFault r c
+ClockEnds = (r : FuseRt) (c : Call) → T (settingsPass c) → 0 < r .clock .seq → c .input .t ≤ lastTime → r .clock .«last_t» ≡ lastTime → SchemaFault r c

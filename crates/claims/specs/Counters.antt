@@ -7,7 +7,7 @@ use Rattle.lictor_core.specs.declared.fuse.Clock.{Clock}
 use Rattle.lictor_core.specs.declared.fuse.Control.{Control}
 use Rattle.lictor_core.specs.declared.fuse.FuseRt.{FuseRt}
 use Rattle.lictor_core.specs.Num.{satUp, wrapUp}
-use Rattle.claims.specs.Calls.{Call, passes, tickAnswer}
+use Rattle.claims.specs.Calls.{Call, settingsPass, tickAnswer}
 
 -- a count x of k bits after a tick: the same, or one more up to its end; nothing but a reset takes it back
 pub data Rises (k x : ℕ) : ℕ → Type 0 where
@@ -50,4 +50,4 @@ pub record CountersGo (r : FuseRt) (c : Call) : Type 0 where
 
 -- of every tick
 abbrev pub CountersTold : Type 0
-CountersTold = (r : FuseRt) (c : Call) → T (passes c) → CountersGo r c
+CountersTold = (r : FuseRt) (c : Call) → T (settingsPass c) → CountersGo r c

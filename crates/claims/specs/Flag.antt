@@ -5,8 +5,8 @@ use mathlib.Core.Path.{_≡_}
 use mathlib.Core.Bool.{not}
 use lib.Dec.{T}
 use Rattle.lictor_core.specs.declared.fuse.FuseRt.{FuseRt}
-use Rattle.claims.specs.Calls.{Call, passes, tickAnswer, tookOf}
+use Rattle.claims.specs.Calls.{Call, settingsPass, tickAnswer, tookOf}
 use Rattle.claims.specs.Demand3.{none?}
 
 abbrev pub FlagTells : Type 0
-FlagTells = (r : FuseRt) (c : Call) → T (passes c) → tickAnswer r c .verdict .«ack_consumed» ≡ not (none? (tookOf r c))
+FlagTells = (r : FuseRt) (c : Call) → T (settingsPass c) → tickAnswer r c .verdict .«ack_consumed» ≡ not (none? (tookOf r c))

@@ -16,7 +16,7 @@ use Rattle.lictor_core.specs.declared.envelope.Settings.{Settings}
 use Rattle.lictor_core.specs.declared.fuse.FuseRt.{FuseRt}
 use Rattle.lictor_core.specs.Initial.{zeroFloat, zeros, resetOf}
 use Rattle.claims.specs.Runs.{All, First, Where, series}
-use Rattle.claims.specs.Calls.{Call, passes, ticksFrom}
+use Rattle.claims.specs.Calls.{Call, settingsPass, ticksFrom}
 use Rattle.claims.specs.ClockEnd.{lastTime}
 use Rattle.claims.specs.Demand3.{Sized, begins, closes, limit, StopsWithin}
 
@@ -115,7 +115,7 @@ slowest b h e =
 pub record Met (r : FuseRt) (s : Settings) (cs : List Call) : Type 0 where
   -- the list is one of those that demand 3 speaks of, of ticks all, and its times are within the clock
   pub sized : Sized s
-  pub under : All (λ c. T (passes c) × (c .settings ≡ s)) cs
+  pub under : All (λ c. T (settingsPass c) × (c .settings ≡ s)) cs
   pub times : All (λ c. c .input .t ≤ lastTime) cs
   -- braking begins, and the first tick after it that closes the stop is the one with the number of the limit
   pub exact : Where (λ x after. T (begins x) × First (λ y. T (closes y)) (limit s) after) (ticksFrom (resetOf r) cs)

@@ -38,14 +38,14 @@ use Rattle.journal_reader.specs.declared.waiting.Reader.{Reader}
 use Rattle.journal_reader.specs.declared.What.{What}
 use Rattle.journal_reader.specs.declared.What.the-variants as W
 use Rattle.journal_reader.specs.declared.Took.{Took}
-use Rattle.journal_reader.specs.declared.Reading.{Reading}
+use Rattle.journal_reader.specs.declared.Stretch.{Stretch}
 use Rattle.journal_reader.specs.State.{State, bases, ackWaits, headWaits, valueWaits, stored, outcomeWaits, inputOf}
 use Rattle.stream.specs.Stream.{go, goesOn, Reached}
 use Rattle.journal_reader.specs.Reading.{Instruction, lookAs, lookOf, broughtOf, onRecord, onLook, onBytes, whatOf, bodyOf}
-use Rattle.journal_reader.specs.Steps.{stateWith, Room, isSmall, looksSmall, Added, TookOne, Collected, Instructs, TookReading}
+use Rattle.journal_reader.specs.Steps.{stateWith, Room, isSmall, looksSmall, Added, TookOne, Collected, Instructs, TookStretch}
 use Rattle.stream.proofs.Stream.{goes, reached-none, reached-one, reached-on}
 use Rattle.journal_reader.proofs.Look as K
-use Rattle.journal_reader.proofs.Reading.{machine}
+use Rattle.journal_reader.proofs.Stretch.{machine}
 
 -- ---- the arms that kinds share, by the numbers of the cases
 
@@ -334,17 +334,17 @@ module _ (w : Waiting) (o : O.Outcome) (l : List Float) (s : List ℕ) (at : ℕ
 
   -- nothing is there, or it is refused
   turned-here : (v : What) → goesOn (onBytes came (drop (t .at) s)) ≡ false → v ≡ whatOf (onBytes came (drop (t .at) s))
-      → TookReading (stateWith w o l) s at (record { reader = came .reader; at = t .at; what = v; more = false }) l'
+      → TookStretch (stateWith w o l) s at (record { reader = came .reader; at = t .at; what = v; more = false }) l'
   turned-here v e f = record { reached = k .reached o; further = λ y. absurd (no y); stops = λ y. e; what = λ y. f }
     where
       no : false ≡ true → ⊥
       no y = let f : _≡_ {A = ℕ} 0 1 = cc in omega arith
 
-  pub turned-waits : t .look ≡ L.Waits → TookReading (stateWith w o l) s at (record { reader = came .reader; at = t .at; what = W.Waits; more = false }) l'
+  pub turned-waits : t .look ≡ L.Waits → TookStretch (stateWith w o l) s at (record { reader = came .reader; at = t .at; what = W.Waits; more = false }) l'
   unfolding onLook
   turned-waits e = let q = then-is L.Waits e in turned-here W.Waits (rw q refl) (rw q refl)
 
-  pub turned-refuses : (r : Refusal) → t .look ≡ L.Refuses r → TookReading (stateWith w o l) s at (record { reader = came .reader; at = t .at; what = W.Refuses r; more = false }) l'
+  pub turned-refuses : (r : Refusal) → t .look ≡ L.Refuses r → TookStretch (stateWith w o l) s at (record { reader = came .reader; at = t .at; what = W.Refuses r; more = false }) l'
   unfolding onLook
   turned-refuses r e = let q = then-is (L.Refuses r) e in turned-here (W.Refuses r) (rw q refl) (rw q refl)
 
@@ -356,7 +356,7 @@ module _ (w : Waiting) (o : O.Outcome) (l : List Float) (s : List ℕ) (at : ℕ
     pub found-big : isSmall x ≡ false
     found-big = rw e at (k .other)
 
-    found-by-turn : (r : Reading) → Instructs (came .reader) l' s (t .at) n x r → (m : Bool) → r .more ≡ m → TookReading (stateWith w o l) s at r l'
+    found-by-turn : (r : Stretch) → Instructs (came .reader) l' s (t .at) n x r → (m : Bool) → r .more ≡ m → TookStretch (stateWith w o l) s at r l'
     unfolding onLook
     found-by-turn r i true y =
         let d : r .at - t .at ≡ suc n = omega (arith, i .past y) in
@@ -383,16 +383,16 @@ module _ (w : Waiting) (o : O.Outcome) (l : List Float) (s : List ℕ) (at : ℕ
         no : false ≡ true → ⊥
         no z = let f : _≡_ {A = ℕ} 0 1 = cc in omega arith
 
-    pub turned-found : (r : Reading) → Instructs (came .reader) l' s (t .at) n x r → TookReading (stateWith w o l) s at r l'
+    pub turned-found : (r : Stretch) → Instructs (came .reader) l' s (t .at) n x r → TookStretch (stateWith w o l) s at r l'
     turned-found r i = found-by-turn r i (r .more) refl
 
 -- ---- the reader
 
 -- there are fewer bytes left, or no more turns
-turn-less-by : (st : State) (s : List ℕ) (at : ℕ) (r : Reading) (l' : List Float) → TookReading st s at r l' → (m : Bool) → r .more ≡ m
+turn-less-by : (st : State) (s : List ℕ) (at : ℕ) (r : Stretch) (l' : List Float) → TookStretch st s at r l' → (m : Bool) → r .more ≡ m
     → length s - r .at + cond (r .more) 1 0 < length s - at + 1
 turn-less-by st s at r l' t true y = rw y (omega (arith, t .further y, t .reached .within))
 turn-less-by st s at r l' t false y = rw y (omega (arith, t .reached .from))
 
-pub turn-less : (st : State) (s : List ℕ) (at : ℕ) (r : Reading) (l' : List Float) → TookReading st s at r l' → length s - r .at + cond (r .more) 1 0 < length s - at + 1
+pub turn-less : (st : State) (s : List ℕ) (at : ℕ) (r : Stretch) (l' : List Float) → TookStretch st s at r l' → length s - r .at + cond (r .more) 1 0 < length s - at + 1
 turn-less st s at r l' t = turn-less-by st s at r l' t (r .more) refl

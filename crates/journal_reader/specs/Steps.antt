@@ -17,7 +17,7 @@ use Rattle.journal_reader.specs.declared.waiting.Reader.{Reader}
 use Rattle.journal_reader.specs.declared.Look.{Look}
 use Rattle.journal_reader.specs.declared.Look.the-variants as L
 use Rattle.journal_reader.specs.declared.Took.{Took}
-use Rattle.journal_reader.specs.declared.Reading.{Reading}
+use Rattle.journal_reader.specs.declared.Stretch.{Stretch}
 use Rattle.stream.specs.Stream.{go, goesOn, Reached}
 use Rattle.journal_reader.specs.State.{State}
 use Rattle.journal_reader.specs.Reading.{Instruction, lookOf, bodyOf, onRecord, onBytes, whatOf}
@@ -77,7 +77,7 @@ pub record Collected (w : Waiting) (l : List Float) (s : List ℕ) (at : ℕ) (r
   pub look : r .look ≡ lookOf (r .waiting .seen) (drop (r .at) s)
 
 -- a record that is not small: an outcome waits, and the others instruct
-pub record Instructs (rd : Reader) (l : List Float) (s : List ℕ) (at n : ℕ) (x : Record) (r : Reading) : Type 0 where
+pub record Instructs (rd : Reader) (l : List Float) (s : List ℕ) (at n : ℕ) (x : Record) (r : Stretch) : Type 0 where
   pub waits : r .more ≡ true → onRecord (record { reader = rd; lists = l }) (bodyOf n (drop at s)) (suc n) x ≡ go (record { reader = r .reader; lists = l }) (suc n)
   pub past : r .more ≡ true → r .at ≡ at + suc n
   pub stops : r .more ≡ false → goesOn (onRecord (record { reader = rd; lists = l }) (bodyOf n (drop at s)) (suc n) x) ≡ false
@@ -86,7 +86,7 @@ pub record Instructs (rd : Reader) (l : List Float) (s : List ℕ) (at n : ℕ) 
   pub same-place : r .more ≡ false → r .at ≡ at
 
 -- one turn of the reader: it went on, or it came to something else, and says what
-pub record TookReading (st : State) (s : List ℕ) (at : ℕ) (r : Reading) (l' : List Float) : Type 0 where
+pub record TookStretch (st : State) (s : List ℕ) (at : ℕ) (r : Stretch) (l' : List Float) : Type 0 where
   pub reached : Reached onBytes st s at (record { reader = r .reader; lists = l' }) (r .at)
   pub further : r .more ≡ true → at < r .at
   pub stops : r .more ≡ false → goesOn (onBytes (record { reader = r .reader; lists = l' }) (drop (r .at) s)) ≡ false

@@ -11,7 +11,7 @@ ghost use Rattle.journal_refusals.specs.Causes.{capacities, countOf};
 ghost use Rattle.journal_refusals.specs.Table.{isCutBody};
 ghost use Rattle.journal_reader.specs.State.{valueWaits, stored};
 ghost use Rattle.journal_reader.specs.Reading.{lookAs, lookOf, readOf, listsRead};
-ghost use Rattle.journal_reader.specs.Steps.{Room, isSmall, Added, TookOne, Collected, Instructs, TookReading};
+ghost use Rattle.journal_reader.specs.Steps.{Room, isSmall, Added, TookOne, Collected, Instructs, TookStretch};
 use crate::waiting::Reader;
 use crate::waiting::Waiting;
 use journal_records::Record;
@@ -200,7 +200,7 @@ fn collect(w: Waiting, lists: &mut [f64; 576], s: &[u8], at: usize) -> Took
 
 // ---- records that instruct
 
-struct Reading {
+struct Stretch {
     reader: Reader,
     at: usize,
     what: What,
@@ -208,7 +208,7 @@ struct Reading {
 }
 
 // A record that is not small.
-fn instruct(rd: Reader, lists: &[f64; 576], s: &[u8], at: usize, n: usize, x: Record) -> Reading
+fn instruct(rd: Reader, lists: &[f64; 576], s: &[u8], at: usize, n: usize, x: Record) -> Stretch
     requires { ⌜ at + n < length (now s) ⌝ }
     requires { ⌜ isSmall x ≡ false ⌝ }
     ensures { λ r. ⌜ Instructs rd (now (lists .entry)) (now (s .entry)) at n x r ⌝ }
@@ -219,32 +219,32 @@ fn instruct(rd: Reader, lists: &[f64; 576], s: &[u8], at: usize, n: usize, x: Re
             let a = at + 1;
             let e = a + n;
             let o = journal_records::long::read_outcome(&s[a..e]);
-            Reading {
+            Stretch {
                 reader: crate::waiting::with_outcome(rd, o),
                 at: e,
                 what: What::Waits,
                 more: true,
             }
         }
-        Record::Settings => Reading {
+        Record::Settings => Stretch {
             reader: rd,
             at,
             what: What::Begins,
             more: false,
         },
-        Record::Reset => Reading {
+        Record::Reset => Stretch {
             reader: rd,
             at,
             what: What::Resets,
             more: false,
         },
-        Record::Tick(t) => Reading {
+        Record::Tick(t) => Stretch {
             reader: rd,
             at,
             what: What::Ticks(crate::waiting::input_of(w, t)),
             more: false,
         },
-        Record::Ack(_) | Record::Head(_) | Record::Value(_, _) => Reading {
+        Record::Ack(_) | Record::Head(_) | Record::Value(_, _) => Stretch {
             reader: rd,
             at,
             what: What::Waits,
@@ -254,9 +254,9 @@ fn instruct(rd: Reader, lists: &[f64; 576], s: &[u8], at: usize, n: usize, x: Re
 }
 
 // All small records from a place on, and the one after them.
-fn take_reading(rd: Reader, lists: &mut [f64; 576], s: &[u8], at: usize) -> Reading
+fn take_stretch(rd: Reader, lists: &mut [f64; 576], s: &[u8], at: usize) -> Stretch
     requires { ⌜ at ≤ length (now s) ⌝ }
-    ensures { λ r. ⌜ TookReading (record { reader = rd; lists = now (lists .entry) }) (now (s .entry)) at r (now (lists .exit)) ⌝ }
+    ensures { λ r. ⌜ TookStretch (record { reader = rd; lists = now (lists .entry) }) (now (s .entry)) at r (now (lists .exit)) ⌝ }
 {
     let w = rd.waiting;
     let outcome = rd.outcome;
@@ -267,13 +267,13 @@ fn take_reading(rd: Reader, lists: &mut [f64; 576], s: &[u8], at: usize) -> Read
     let reader = Reader { waiting, outcome };
     match look {
         Look::Found(x, n) => instruct(reader, lists, s, i, n, x),
-        Look::Waits => Reading {
+        Look::Waits => Stretch {
             reader,
             at: i,
             what: What::Waits,
             more: false,
         },
-        Look::Refuses(r) => Reading {
+        Look::Refuses(r) => Stretch {
             reader,
             at: i,
             what: What::Refuses(r),
@@ -286,7 +286,7 @@ fn take_reading(rd: Reader, lists: &mut [f64; 576], s: &[u8], at: usize) -> Read
 pub fn read(rd: Reader, lists: &mut [f64; 576], s: &[u8]) -> Progress
     ensures { λ r. ⌜ (r ≡ readOf (record { reader = rd; lists = now (lists .entry) }) (now (s .entry))) × (now (lists .exit) ≡ listsRead (record { reader = rd; lists = now (lists .entry) }) (now (s .entry))) ⌝ }
 {
-    let mut t = Reading {
+    let mut t = Stretch {
         reader: rd,
         at: 0,
         what: What::Waits,
@@ -295,7 +295,7 @@ pub fn read(rd: Reader, lists: &mut [f64; 576], s: &[u8]) -> Progress
     while t.more {
         let next = t.reader;
         let i = t.at;
-        t = take_reading(next, lists, s, i);
+        t = take_stretch(next, lists, s, i);
     }
     let reader = t.reader;
     let what = t.what;

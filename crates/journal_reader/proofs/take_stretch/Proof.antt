@@ -1,7 +1,7 @@
 use borrow.Author.Needs.{needs}
 use Rattle.journal_reader.proofs.Steps.{found-here, found-big, turned-found, turned-waits, turned-refuses}
-use Rattle.journal_reader.proofs.take_reading.Statement.{statement}
-use Rattle.journal_reader.proofs.take_reading.Tie as tie
+use Rattle.journal_reader.proofs.take_stretch.Statement.{statement}
+use Rattle.journal_reader.proofs.take_stretch.Tie as tie
 
 collect-requires : tie.Need-collect-requires
 collect-requires c κs = search needs
@@ -30,8 +30,8 @@ returns-2 c = turned-waits _ _ _ _ _ _ _ (c .before .before .before .collect .en
 returns-3 : tie.Need-returns-3
 returns-3 c = turned-refuses _ _ _ _ _ _ _ (c .before .before .before .before .collect .ensures) _ (c .before .look2 .given .1)
 
-pub take-reading-spec : {M : Type 1} → statement M
-take-reading-spec =
+pub take-stretch-spec : {M : Type 1} → statement M
+take-stretch-spec =
     tie.close
     (tie.spec
     collect-requires
