@@ -13,7 +13,7 @@ use Rattle.journal_refusals.proofs.Exactly.{numbers}
 use Rattle.stream.specs.Stream.{wait, End, awaits, halted, telling, settled}
 use Rattle.journal_reader.specs.Reading.{onBytes}
 use Rattle.stream.proofs.Stream.{joined, settled-still, telling-telling}
-use Rattle.journal_reader.proofs.Stretch.{waits-short}
+use Rattle.journal_reader.proofs.Reading.{waits-short}
 use Rattle.journal.specs.Tick.{Whole, wholeOf}
 use Rattle.journal.specs.Journal.{replayOf}
 use Rattle.journal.proofs.Replay.{replay}

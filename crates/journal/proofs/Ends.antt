@@ -19,7 +19,7 @@ use Rattle.stream.specs.Stream.{Next, wait, halt, go, tell, End, awaits, halted
 use Rattle.journal_reader.specs.State.{State}
 use Rattle.journal_reader.specs.Reading.{Instruction, begin, restart, tick, onBytes}
 use Rattle.stream.proofs.Stream.{joined, settled-wait, settled-halt, settled-still, Front, front}
-use Rattle.journal_reader.proofs.Stretch.{next-refused, halted-judged, waiting-judged}
+use Rattle.journal_reader.proofs.Reading.{next-refused, halted-judged, waiting-judged}
 use Rattle.journal.specs.Tick.{Whole}
 use Rattle.journal.specs.Journal.{obey, obeyed, replayOf, startWhole, Ending, ended, refused, Meaning, endingOf, journalOf}
 use Rattle.journal.specs.Ends.{judgedAt, TurnedAway, LeftAsBefore, Ends, with-end, with-refusal}

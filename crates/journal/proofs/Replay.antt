@@ -11,7 +11,7 @@ use Rattle.journal_refusals.specs.declared.Refusal.{Refusal}
 use Rattle.stream.specs.Stream.{Next, wait, halt, go, tell, Advanced, past, advance, advanced, takes, size, Machine}
 use Rattle.journal_reader.specs.State.{State}
 use Rattle.journal_reader.specs.Reading.{Instruction, begin, restart, tick, onBytes}
-use Rattle.journal_reader.proofs.Stretch.{machine}
+use Rattle.journal_reader.proofs.Reading.{machine}
 use Rattle.journal.specs.Tick.{Whole}
 use Rattle.journal.specs.Journal.{obey, obeyed, replayOf}
 

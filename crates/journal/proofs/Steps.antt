@@ -24,7 +24,7 @@ use Rattle.stream.specs.Stream.{Next, wait, halt, go, tell, Advanced, past, adv
 use Rattle.journal_reader.specs.State.{State}
 use Rattle.journal_reader.specs.Reading.{Instruction, begin, restart, tick, bodyOf, onBytes, whatOf, readOf, listsRead}
 use Rattle.stream.proofs.Stream.{goes, tells-on, advanced-go, advanced-wait, advanced-halt, advanced-tell, Ahead, ahead, past-none, past-past, reached-one, reached-on}
-use Rattle.journal_reader.proofs.Stretch.{machine, begins-is, resets-is}
+use Rattle.journal_reader.proofs.Reading.{machine, begins-is, resets-is}
 use Rattle.journal.specs.declared.tick.Run.{Run}
 use Rattle.journal.specs.declared.How.{How}
 use Rattle.journal.specs.declared.How.the-variants.{Waits, Refuses, Ticks}

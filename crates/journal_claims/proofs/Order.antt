@@ -28,7 +28,7 @@ use Rattle.journal_refusals.proofs.Exactly.{accepted-so}
 use Rattle.stream.specs.Stream.{Next, wait, halt, go, tell, after, settle, settled}
 use Rattle.journal_reader.specs.State.{State, ackWaits, headWaits, valueWaits, outcomeWaits, settingsCame, emptied, startReader}
 use Rattle.journal_reader.specs.Reading.{Instruction, begin, restart, tick, onRecord, onBytes}
-use Rattle.journal_reader.proofs.Stretch.{machine, next-refused, next-accepted}
+use Rattle.journal_reader.proofs.Reading.{machine, next-refused, next-accepted}
 use Rattle.journal.specs.Journal.{startWhole}
 use Rattle.journal_claims.specs.Instructions.{instructionsOf}
 use Rattle.journal_claims.specs.JournalStops.{Bytes, NoSettings, SettledBy}

@@ -45,7 +45,7 @@ use Rattle.journal_reader.specs.Reading.{Instruction, lookAs, lookOf, br
 use Rattle.journal_reader.specs.Steps.{stateWith, Room, isSmall, looksSmall, Added, TookOne, Collected, Instructs, TookStretch}
 use Rattle.stream.proofs.Stream.{goes, reached-none, reached-one, reached-on}
 use Rattle.journal_reader.proofs.Look as K
-use Rattle.journal_reader.proofs.Stretch.{machine}
+use Rattle.journal_reader.proofs.Reading.{machine}
 
 -- ---- the arms that kinds share, by the numbers of the cases
 

@@ -20,7 +20,7 @@ use Rattle.stream.specs.Stream.{Next, wait, halt, go, tell, awaits, halted, Set
 use Rattle.journal_reader.specs.State.{State, emptied}
 use Rattle.journal_reader.specs.Reading.{Instruction, begin, restart, tick, broughtOf, withReader, onBytes, whatOf}
 use Rattle.stream.proofs.Stream.{Ahead, ahead, settled-wait, settled-halt, settled-tell, tells-on, telling-telling}
-use Rattle.journal_reader.proofs.Stretch.{ticks-is}
+use Rattle.journal_reader.proofs.Reading.{ticks-is}
 use Rattle.journal.specs.declared.How.the-variants.{Waits, Refuses, Ticks}
 use Rattle.journal.specs.declared.Advanced as J
 use Rattle.journal.specs.Tick.{Whole, wholeOf, decidedOf, tickedOf as after, journalTick}

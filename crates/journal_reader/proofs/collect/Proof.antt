@@ -14,7 +14,7 @@ use Rattle.stream.specs.Stream.{Reached}
 use Rattle.journal_reader.specs.Reading.{lookOf, onBytes}
 use Rattle.journal_reader.specs.Steps.{stateWith, looksSmall, TookOne, Collected}
 use Rattle.stream.proofs.Stream.{reached-none, reached-on}
-use Rattle.journal_reader.proofs.Stretch.{machine}
+use Rattle.journal_reader.proofs.Reading.{machine}
 use Rattle.journal_reader.proofs.Steps.{took-reached, took-within, took-look, took-less}
 use Rattle.journal_reader.proofs.collect.Statement.{statement}
 use Rattle.journal_reader.proofs.collect.Tie as tie

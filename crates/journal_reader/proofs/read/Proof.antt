@@ -16,7 +16,7 @@ use Rattle.stream.specs.Stream.{Advanced, Reached, goesOn}
 use Rattle.journal_reader.specs.Reading.{Instruction, onBytes, whatOf, readOf, listsRead}
 use Rattle.journal_reader.specs.Steps.{TookStretch}
 use Rattle.stream.proofs.Stream.{reached-none, reached-on, reached-end}
-use Rattle.journal_reader.proofs.Stretch.{machine}
+use Rattle.journal_reader.proofs.Reading.{machine}
 use Rattle.journal_reader.proofs.Steps.{turn-less}
 use Rattle.journal_reader.proofs.read.Statement.{statement}
 use Rattle.journal_reader.proofs.read.Tie as tie
