@@ -67,8 +67,8 @@ configured (j ∷ is) i js r w rest e n =
 -- ---- the ticks of an episode as calls of `tick`
 
 module _ (w : Settings) (k : checkOf w ≡ Accepted) where
-  settingsPass : (c : Brought) → T (settingsPass (callUnder w c))
-  settingsPass c = rw k tt
+  passes : (c : Brought) → T (settingsPass (callUnder w c))
+  passes c = rw k tt
 
   abbrev runOf : FuseRt → Run
   runOf r = record { config = configOf w; rt = r }
@@ -81,7 +81,7 @@ module _ (w : Settings) (k : checkOf w ≡ Accepted) where
       by-step answerIn
       (λ r′ (x : Step FuseRt Decided). played (runOf r) (map tick (c ∷ cs)) ≡ andThen x (λ (r″ : FuseRt). answersFrom r″ (map (callUnder w) cs))) r (callUnder w c)
       (λ h. ap (λ (l : List Decided). d ∷ l) (ticks-answered cs (d .rt)))
-      (λ h. absurd (T-not (settingsPass (callUnder w c)) h (settingsPass c)))
+      (λ h. absurd (T-not (settingsPass (callUnder w c)) h (passes c)))
 
   all-under : (cs : List Brought) → All (Under w) (map (callUnder w) cs)
   all-under [] = tt
