@@ -68,7 +68,7 @@ fn layout_is_the_stored_one() {
     assert_eq!(layout(), include_str!("../../layout.txt"));
 }
 
-/// The structs of crates/host_layout, crates/host_layout and crates/host_c that are in the layout of C, field by field.
+/// The structs of crates/host_layout and crates/host_c that are in the layout of C, field by field.
 #[test]
 fn types_are_those_of_the_library() {
     let source = [
