@@ -118,7 +118,7 @@ typedef struct {
     uint32_t fired;        /* by bit, the features whose z is above tau; counted, and nothing else */
     double z[12];          /* the features' scores, standardised; the fuse decides by s alone */
     double policy[8];      /* the policy's row for this tick, the first dim components; passed on as it is */
-    double clamped[8];     /* the same row as the clamp leaves it; passed on as it is */
+    double clamped[8];     /* the same row as the clamp leaves it, equal to policy where it leaves all; passed on as it is, in Clamped at ticks without a trip too */
 } disklorva_outcome;
 
 /* ---- the run state: read it, and change nothing in it */
