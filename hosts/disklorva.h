@@ -69,7 +69,7 @@ typedef struct {
     double inv_dt;                      /* 1 / dt, per second; in the velocity from positions. Not compared with dt */
     double a_max;                       /* deceleration of the brake action, unit / s^2; of kinds EeDelta and JointVelocity. Its sign is not checked */
     double v_stop_eps;                  /* a velocity with a norm of at most this is standstill, unit / s; negative: never */
-    double warn_margin;                 /* a score above tau - warn_margin is a warning; unit of the score */
+    double warn_margin;                 /* a score above tau - warn_margin that is no hit is a warning; unit of the score */
     double tau;                         /* a score above tau is a hit; unit of the score; any but a NaN; +infinity: never */
     double box_lo[8];                   /* the box, unit: bounds the hold and the brake position, and no other row; all 8 pairs are checked */
     double box_hi[8];                   /* with its safety distance taken off already */
