@@ -185,7 +185,7 @@ fn what_is_given_is_only_read() {
     }
 }
 
-/// A flag that is neither 0 nor 1 is read to the safe side.
+/// A flag that is neither 0 nor 1 gives the safe choice.
 #[test]
 fn odd_flags_are_safe() {
     let input = Input {
