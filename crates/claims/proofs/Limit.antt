@@ -21,7 +21,7 @@ use Rattle.lictor_core.specs.declared.fuse.FuseRt.{FuseRt}
 use Rattle.lictor_core.specs.declared.state.FuseState.{FuseState}
 use Rattle.lictor_core.specs.declared.state.FuseState.the-variants.{Idle, Armed, Watching, Clamped, Braking, Held, Escalated, Fault, Terminated}
 use Rattle.lictor_core.specs.Codes.{stateCode, isState, modeOf, rearmOf}
-use Rattle.lictor_core.specs.Initial.{zeroFloat, zeros, freshControl, freshMotion, freshClock, resetOf}
+use Rattle.lictor_core.specs.Initial.{zeroFloat, oneFloat, zeros, freshControl, freshMotion, freshClock, resetOf}
 use Rattle.lictor_core.specs.Masks.{anyOf, faultBits}
 use Rattle.lictor_core.specs.Rows.{rowTo}
 use Rattle.lictor_settings.specs.Settings.{badCode, badSize, badFloat, anyBelow, crossedOf, badBox, settingsTable, firstRow, checkOf, configOf}
@@ -44,7 +44,7 @@ use Rattle.claims.specs.Runs.{All, Some, here, later, First, Where, at, 
 use Rattle.claims.specs.Demand3.{begins, closes, limit, StopsWithin}
 use Rattle.claims.specs.Calls.{Seen, Call, settingsPass, guardBits, stepOf, seenOf, ticksFrom}
 use Rattle.claims.specs.ClockEnd.{lastTime}
-use Rattle.claims.specs.Limit.{oneFloat, slowSettings, callAt, trips, moves, stands, slowest, Met, LimitMet}
+use Rattle.claims.specs.Limit.{slowSettings, callAt, trips, moves, stands, slowest, Met, LimitMet}
 use Rattle.claims.proofs.Demand3.{settled}
 use Rattle.claims.proofs.Tick.{by-step, by-guard, decided, foundOf, cleanTurn}
 

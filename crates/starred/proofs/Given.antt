@@ -29,8 +29,8 @@ use Rattle.margin.specs.Margin.{nearestWhole, marginOf}
 use Rattle.text.specs.Number.{decimalIn, signedOf}
 use lib.Ieee.{add, sub, mul, div, lt, le, eq, ofBits, toBits, round, isNan}
 use lib.Count.{ones}
-use Rattle.starred.specs.Starred.{starred, one, limits, settings, started, outcome, input, ackOf, tick, bit, ending, answered, clamping, acceptance, afterClamp}
+use Rattle.starred.specs.Starred.{starred, rowLimits, started, rowAck, rowTickAt, rowTick, bit, ending, endingNonce, clamping, acceptance, usualLimits, afterClamp}
 
 pub given : map (λ c. c .gives) starred ≡ map (λ c. c .wanted) starred
-unfolding minOf maxOf clampOf allFinite addSquares normOf rootIn wholeRoot rootOf modeOf kindOf clampModeOf rearmOf decisionOf zeros emptyTally freshControl freshMotion freshClock newOf resetOf anyOf rowTo badCode badSize badFloat anyBelow crossedOf badBox settingsTable firstRow checkOf configOf component boxedComponent boxedRow scaledComponent scaledRow boxedAction scaledAction eps brakeFactor brakeAction holdAction hitBit pushHit hitsOf tripOf deliveredOf nonFinite lengthsOf shapeBad sizesBad placeBad headBad deliveryBad clockBad schemaBad bitIf guardOf consumedOf faultReason clampReason armedReason acceptedBy acceptedAck consumeNonce latchedOf latchHold countIf upIf isClean countRun settledOf faultRow rearmAck resumeRow terminateRow timeoutRow waitRow unansweredOf escalatedOf mayRearm rearmRow escalateRow holdRow holdingOf heldOf confirmedOf standstillRow stoppingRow brakingOf enterBraking brakeRow unclampableOf overBudget clampRow clearedOf clearRow watchedOf quietOf runningOf byFrom transitionOf nextByRows firstOf table nextFrom nextOf recorded count bitOf countBit eachFrom countBits first firstReason mostAt mostLive recordOf recordChunk statusOf sourceOf cutRow passedOf insteadOf enforcedOf byMode actOf takenRow stepRate ratesRow stillRow velocityOf ingestOf isFit withPos faultMotion withBrake maskedOf warnOf slowOf standstillOf chunkOk scoredOf findingsOf machineInput faultInput liveValid scoresOf disarmedScores actionDim enteredOf handoffOf hasAck consumedFlag verdictOf faultVerdict eventsOf noEvents rejectedOf closedOf nextChunk cleanClock readyOf chunkTally closeClean cleanTick faultClock closeFault faultTick decideBy decideOf noVerdict refusedTick givenOf acceptedTick tickBy tickOf marginText tickText stoppedOf endText refusedText nearestWhole marginOf decimalIn signedOf add sub mul div lt le eq ofBits toBits round isNan ones one limits settings started outcome input ackOf tick bit ending answered clamping acceptance afterClamp starred
+unfolding minOf maxOf clampOf allFinite addSquares normOf rootIn wholeRoot rootOf modeOf kindOf clampModeOf rearmOf decisionOf zeros emptyTally freshControl freshMotion freshClock newOf resetOf anyOf rowTo badCode badSize badFloat anyBelow crossedOf badBox settingsTable firstRow checkOf configOf component boxedComponent boxedRow scaledComponent scaledRow boxedAction scaledAction eps brakeFactor brakeAction holdAction hitBit pushHit hitsOf tripOf deliveredOf nonFinite lengthsOf shapeBad sizesBad placeBad headBad deliveryBad clockBad schemaBad bitIf guardOf consumedOf faultReason clampReason armedReason acceptedBy acceptedAck consumeNonce latchedOf latchHold countIf upIf isClean countRun settledOf faultRow rearmAck resumeRow terminateRow timeoutRow waitRow unansweredOf escalatedOf mayRearm rearmRow escalateRow holdRow holdingOf heldOf confirmedOf standstillRow stoppingRow brakingOf enterBraking brakeRow unclampableOf overBudget clampRow clearedOf clearRow watchedOf quietOf runningOf byFrom transitionOf nextByRows firstOf table nextFrom nextOf recorded count bitOf countBit eachFrom countBits first firstReason mostAt mostLive recordOf recordChunk statusOf sourceOf cutRow passedOf insteadOf enforcedOf byMode actOf takenRow stepRate ratesRow stillRow velocityOf ingestOf isFit withPos faultMotion withBrake maskedOf warnOf slowOf standstillOf chunkOk scoredOf findingsOf machineInput faultInput liveValid scoresOf disarmedScores actionDim enteredOf handoffOf hasAck consumedFlag verdictOf faultVerdict eventsOf noEvents rejectedOf closedOf nextChunk cleanClock readyOf chunkTally closeClean cleanTick faultClock closeFault faultTick decideBy decideOf noVerdict refusedTick givenOf acceptedTick tickBy tickOf marginText tickText stoppedOf endText refusedText nearestWhole marginOf decimalIn signedOf add sub mul div lt le eq ofBits toBits round isNan ones rowLimits started rowAck rowTickAt rowTick bit ending endingNonce clamping acceptance usualLimits afterClamp starred
 given = refl
