@@ -1,5 +1,7 @@
-// The run state as numbers in the layout of C, to and from the fuse's. Field names are the fuse's, and their order is that of fuse.rs in each group.
-// A host has no need to look inside: it lends what `disklorva_new` gave it. Any bytes are a run state: an unlisted code of a state is Fault, one of a reason EpisodeEnd.
+// The run state as numbers in the layout of C, to and from the fuse's.
+// Field names are the fuse's, and their order is that of fuse.rs in each group.
+// A host has no need to look inside: it lends what `disklorva_new` gave it.
+// Any bytes are a run state: an unlisted code of a state is Fault, one of a reason EpisodeEnd.
 ghost use mathlib.Core.Path.{_≡_};
 ghost use Rattle.host_layout.specs.State.{stateOf, reasonOf, markIn, markOut, reasonMarkIn, reasonSet, reasonMarkOut, controlIn, controlOut, motionIn, motionOut, clockIn, clockOut, tallyIn, tallyOut, stateIn, stateOut};
 use crate::input::flag;

@@ -1,4 +1,5 @@
-// What a tick gives, as numbers in the layout of C. Codes are those of lictor_core specs/Codes, and a flag is 0 or 1.
+// What a tick gives, as numbers in the layout of C.
+// Codes are those of lictor_core, specs/Codes, and a flag is 0 or 1.
 ghost use mathlib.Core.Path.{_≡_};
 ghost use Rattle.host_layout.specs.Flags.{flagCode};
 ghost use Rattle.host_layout.specs.Verdict.{handoffSet, handoffNumber, verdictOut};
