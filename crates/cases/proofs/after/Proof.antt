@@ -3,10 +3,6 @@ use lib.Ieee.{ofBits}
 use borrow.Author.Needs.{needs}
 use Rattle.cases.proofs.after.Statement.{statement}
 use Rattle.cases.proofs.after.Tie as tie
-use Rattle.cases.proofs.after.Reads as reads
-use Rattle.cases.proofs.after.Lts as lts
-use Rattle.cases.proofs.clock_tick.Reads as clock-tick-reads
-use Rattle.cases.proofs.first.Reads as first-reads
 
 first-requires : tie.Need-first-requires
 first-requires c κs = search needs

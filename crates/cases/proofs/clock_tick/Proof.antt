@@ -1,15 +1,8 @@
-use mathlib.Core.Path.{refl}
 use Rattle.cases.specs.Cases.{clockTick}
 use lib.Ieee.{ofBits}
 use borrow.Author.Needs.{needs}
 use Rattle.cases.proofs.clock_tick.Statement.{statement}
 use Rattle.cases.proofs.clock_tick.Tie as tie
-use Rattle.cases.proofs.clock_tick.Reads as reads
-use Rattle.cases.proofs.clock_tick.Lts as lts
-use Rattle.cases.proofs.input.Reads as input-reads
-use Rattle.cases.proofs.outcome.Reads as outcome-reads
-use Rattle.cases.proofs.settings.Reads as settings-reads
-use Rattle.lictor_fuse.proofs.tick.Reads as tick-reads
 
 input-requires : tie.Need-input-requires
 input-requires c κs = search needs
@@ -39,7 +32,7 @@ returns : tie.Need-returns
 unfolding clockTick ofBits
 returns c =
     let calls = c .before .before .before .before .before in
-    rw (c .tick .ensures, calls .outcome .ensures, calls .before .settings .ensures, calls .before .before .input .ensures) refl
+    rw (c .tick .ensures, calls .outcome .ensures, calls .before .settings .ensures, calls .before .before .input .ensures)
 
 pub clock-tick-spec : {M : Type 1} → statement M
 clock-tick-spec =

@@ -2,11 +2,6 @@ use Rattle.cases.specs.Cases.{clockAt}
 use borrow.Author.Needs.{needs}
 use Rattle.cases.proofs.first.Statement.{statement}
 use Rattle.cases.proofs.first.Tie as tie
-use Rattle.cases.proofs.first.Reads as reads
-use Rattle.cases.proofs.first.Lts as lts
-use Rattle.cases.proofs.clock_tick.Reads as clock-tick-reads
-use Rattle.lictor_fuse.proofs.episode.new.Reads as new-reads
-use Rattle.lictor_fuse.proofs.episode.reset.Reads as reset-reads
 
 new-requires : tie.Need-new-requires
 new-requires c κs = search needs
