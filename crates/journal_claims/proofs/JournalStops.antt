@@ -73,14 +73,14 @@ module _ (w : Settings) (k : checkOf w ≡ Accepted) where
   abbrev runOf : FuseRt → Run
   runOf r = record { config = configOf w; rt = r }
 
-  ticks-answered : (cs : List Brought) (r : FuseRt) → verdictsAll (runOf r) (map tick cs) ≡ decidedFrom r (map (callUnder w) cs)
+  ticks-decided : (cs : List Brought) (r : FuseRt) → verdictsAll (runOf r) (map tick cs) ≡ decidedFrom r (map (callUnder w) cs)
   unfolding decidedOf tickedOf givenOf
-  ticks-answered [] r = refl
-  ticks-answered (c ∷ cs) r =
+  ticks-decided [] r = refl
+  ticks-decided (c ∷ cs) r =
       let d = decidedOf (runOf r) c in
       by-step decidedIn
       (λ r′ (x : Step FuseRt Decided). verdictsAll (runOf r) (map tick (c ∷ cs)) ≡ andThen x (λ (r″ : FuseRt). decidedFrom r″ (map (callUnder w) cs))) r (callUnder w c)
-      (λ h. ap (λ (l : List Decided). d ∷ l) (ticks-answered cs (d .rt)))
+      (λ h. ap (λ (l : List Decided). d ∷ l) (ticks-decided cs (d .rt)))
       (λ h. absurd (T-not (settingsPass (callUnder w c)) h (passes c)))
 
   all-under : (cs : List Brought) → All (Under w) (map (callUnder w) cs)
@@ -104,16 +104,16 @@ opened-stops w z r (tick c) o cs u = absurd o
 -- ---- the claim
 
 module _ (s : List ℕ) (w : Settings) (b : SettledBy w (instructionsOf s)) (e : Episode) (n : In (instructionsOf s) e) where
-  abbrev behind : List Instruction
-  behind = map tick (e .ticks) ++ e .later
+  abbrev following : List Instruction
+  following = map tick (e .ticks) ++ e .later
 
   config-is : opened e .config ≡ configOf w
-  config-is = configured (e .before) (e .opening) behind startRun w (b .rest) (sym (n .cut) ∙ b .first) (b .once)
+  config-is = configured (e .before) (e .opening) following startRun w (b .rest) (sym (n .cut) ∙ b .first) (b .once)
 
-  answered : verdictsAll (opened e) (map tick (e .ticks)) ≡ decidedFrom (opened e .rt) (callsOf w e)
-  answered =
+  episode-decided : verdictsAll (opened e) (map tick (e .ticks)) ≡ decidedFrom (opened e .rt) (callsOf w e)
+  episode-decided =
       ap (λ (k : FuseConfig). verdictsAll (record { config = k; rt = opened e .rt }) (map tick (e .ticks))) config-is
-      ∙ ticks-answered w (b .check) (e .ticks) (opened e .rt)
+      ∙ ticks-decided w (b .check) (e .ticks) (opened e .rt)
 
   episode-stops : EpisodeStops s w e
   episode-stops =
@@ -121,11 +121,11 @@ module _ (s : List ℕ) (w : Settings) (b : SettledBy w (instructionsOf s)) (e :
         verdicts =
             events-played s
             ∙ ap (verdictsAll startRun) (n .cut)
-            ∙ played-on startRun (e .before) (e .opening ∷ behind)
+            ∙ played-on startRun (e .before) (e .opening ∷ following)
             ∙ ap (λ (l : List Decided). verdictsAll startRun (e .before) ++ l)
-            (opens-silent (leavesAll startRun (e .before)) (e .opening) behind (n .opens)
+            (opens-silent (leavesAll startRun (e .before)) (e .opening) following (n .opens)
             ∙ played-on (opened e) (map tick (e .ticks)) (e .later)
-            ∙ ap (λ (l : List Decided). l ++ verdictsAll (leavesAll (opened e) (map tick (e .ticks))) (e .later)) answered);
+            ∙ ap (λ (l : List Decided). l ++ verdictsAll (leavesAll (opened e) (map tick (e .ticks))) (e .later)) episode-decided);
         closes = opened-stops w (b .sized) (leavesAll startRun (e .before)) (e .opening) (n .opens) (callsOf w e) (all-under w (b .check) (e .ticks));
       }
 
