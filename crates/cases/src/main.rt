@@ -180,6 +180,7 @@ fn after(last: u32, missed: u8, t: u32) -> Ticked
 
 // ---- what is written
 
+// The name of a case, with which its line begins.
 fn named(last: u32, missed: u8, t: u32) -> Line
     ensures { λ r. ⌜ r ≡ lineOf (nameText last missed t) ⌝ }
 {
@@ -189,6 +190,7 @@ fn named(last: u32, missed: u8, t: u32) -> Line
     text::push(c, b": ")
 }
 
+// Writes the first n bytes.
 fn write_part(text: &[u8], n: usize) {
     if n <= text.len() {
         io::write_all(STDOUT_FILENO, &text[..n]);
@@ -214,6 +216,7 @@ fn run(out: &mut [u8], last: u32, missed: u8, t: u32) {
 // Times to try after the last one: the next ones if the clock wrapped, the middle, its end.
 const TIMES: [u32; 8] = [0, 1, 2, 255, 2147483647, 2147483648, 4294967294, 4294967295];
 
+// The ticks after the last t that there is.
 fn at_end(out: &mut [u8], missed: u8) {
     let mut i: usize = 0;
     while i < 8 {

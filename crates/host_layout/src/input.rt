@@ -95,12 +95,14 @@ pub struct Outcome {
     pub clamped: [f64; 8],
 }
 
+// Any value but 0 is a yes.
 pub fn flag(n: u8) -> bool
     ensures { λ r. ⌜ r ≡ flagOf n ⌝ }
 {
     n != 0
 }
 
+// 1 alone is a yes.
 fn sure(n: u8) -> bool
     ensures { λ r. ⌜ r ≡ sureOf n ⌝ }
 {

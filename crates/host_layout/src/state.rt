@@ -306,14 +306,14 @@ fn tally_in(c: Tally) -> lictor_core::tally::Tally
 fn control_out(c: lictor_core::fuse::Control) -> Control
     ensures { λ r. ⌜ r ≡ controlOut c ⌝ }
 {
-    let w = c.window;
-    let s = c.state;
+    let window = c.window;
+    let now = c.state;
     let hold = c.hold;
     let last_nonce = c.last_nonce;
-    let state = state_code(s);
+    let state = state_code(now);
     let handoff_pending = code(c.handoff_pending);
     Control {
-        window: w.bits,
+        window: window.bits,
         state,
         hold,
         clean_run: c.clean_run,
@@ -372,12 +372,12 @@ fn tally_out(c: lictor_core::tally::Tally) -> Tally
     let stop_at = c.first_stop_tick;
     let handoff_at = c.handoff_tick;
     let max_z = c.max_z;
-    let s = c.terminal_state;
+    let ended = c.terminal_state;
     let first_trip_tick = mark_out(trip_at);
     let first_trip_reason = reason_mark_out(trip_why);
     let first_stop_tick = mark_out(stop_at);
     let handoff_tick = mark_out(handoff_at);
-    let terminal_state = state_code(s);
+    let terminal_state = state_code(ended);
     Tally {
         ticks: c.ticks,
         nominal: c.nominal,

@@ -1,4 +1,4 @@
--- `host::tick` meets its contract: it is `answered` over the by-value `tick`.
+-- `host::tick` meets its contract: it is `answering` over the by-value `tick`.
 -- Assumes nothing.
 use mathlib.Core.Path.{refl}
 use contract.Running.{givenOf, tables, tablesOf}
@@ -13,7 +13,7 @@ use Rattle.lictor_fuse.proofs.tick.Symbol as core-def
 use Rattle.lictor_fuse.proofs.tick.Symbol.{name as #core}
 use Rattle.lictor_fuse.proofs.tick.Met as core-thm
 use Rattle.host.specs.Host.{hostAnswerOf}
-use Rattle.lent.proofs.Call.{Fs, answered-meets}
+use Rattle.lent.proofs.Call.{Fs, answering-meets}
 use Rattle.host.proofs.Refused.{refused-call}
 use Rattle.host.proofs.Says.{fuseGives, FuseSays}
 use Rattle.host.proofs.Types.{fuseRun, fuseSettings, fuseInput, fuseOutcome, fuseResult, fuseAnswer, fuseParts}
@@ -30,5 +30,5 @@ unfolding code.routine tablesOf
 tick-spec 𝓤 H 𝓜 𝓖 𝓡 =
     entered 𝓤 H (tripleOf 𝓤 H (𝓖 .A) this.signature (this.spec 𝓤 H (𝓖 .A) (𝓜 .mem) (𝓡 .run)))
     (tables 𝓤 H 𝓜 𝓡 code.env .C) (tables 𝓤 H 𝓜 𝓡 code.env .Λ) #this code.function (code.unfolded 𝓤 H 𝓜 𝓡)
-    (answered-meets fuseRun fuseSettings fuseInput fuseOutcome fuseResult fuseAnswer fuseParts fuseGives FuseSays #core 𝓤 H (𝓖 .A) (givenOf 𝓤 H 𝓜 𝓖) said (tablesOf 𝓤 H 𝓜 (tables 𝓤 H 𝓜 𝓡 code.env))
+    (answering-meets fuseRun fuseSettings fuseInput fuseOutcome fuseResult fuseAnswer fuseParts fuseGives FuseSays #core 𝓤 H (𝓖 .A) (givenOf 𝓤 H 𝓜 𝓖) said (tablesOf 𝓤 H 𝓜 (tables 𝓤 H 𝓜 𝓡 code.env))
     (cited 𝓤 H (tripleOf 𝓤 H (𝓖 .A) core.signature (core.spec 𝓤 H (𝓖 .A) (𝓜 .mem) (𝓡 .run))) 𝓜 𝓡 code.env #core core-def.routine code.calls-lictor-fuse·tick (core-thm.met 𝓤 H 𝓜 𝓖 𝓡)))
