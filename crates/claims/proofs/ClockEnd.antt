@@ -34,10 +34,10 @@ no-time : (seq last t missed : ℕ) → 0 < seq → t ≤ lastTime → lastTime 
 unfolding clockBad
 no-time seq last t missed p h k = rw (ne-eqb seq 0 (λ e. omega arith), ne-eqb (last + 1 + missed) t (λ e. omega arith)) refl
 
-or-true : (a b : Bool) → a || (b || true) ≡ true
-or-true true b = refl
-or-true false true = refl
-or-true false false = refl
+last-on : (a b : Bool) → a || (b || true) ≡ true
+last-on true b = refl
+last-on false true = refl
+last-on false false = refl
 
 -- SCHEMA stays, whatever comes beside it
 schema-stays : (a d : Bool) → T (anyOf (bitOr (bitOr (bitIf a nonfinite) (bitIf true schema)) (bitIf d watchdog)) schema)
@@ -56,7 +56,7 @@ row-one cfg rt pos inp e = rw e (refl, refl)
 module _ (r : FuseRt) (c : Call) (p : 0 < r .clock .seq) (h : c .input .t ≤ lastTime) (k : lastTime < r .clock .«last_t» + 1 + c .input .«missed_ticks») where
   finds : T (anyOf (guardBits r c) schema)
   unfolding guardBits guardOf schemaBad
-  finds = rw (no-time (r .clock .seq) (r .clock .«last_t») (c .input .t) (c .input .«missed_ticks») p h k, or-true) (schema-stays _ _)
+  finds = rw (no-time (r .clock .seq) (r .clock .«last_t») (c .input .t) (c .input .«missed_ticks») p h k, last-on) (schema-stays _ _)
 
   abbrev Faulted : Decided → Type 0
   Faulted d = T (anyOf (d .verdict .trips) schema) × (d .verdict .state ≡ Fault)

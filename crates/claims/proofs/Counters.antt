@@ -62,14 +62,14 @@ if-up k false x = kept
 record Goes (r : Control) (t : Turn) : Type 0 where
   counts : MachineCounts r (t .rt)
 
-row : (r : Control) (t : Turn) → MachineCounts r (t .rt) → Goes r t
-row r t m = record { counts = m }
+row-goes : (r : Control) (t : Turn) → MachineCounts r (t .rt) → Goes r t
+row-goes r t m = record { counts = m }
 
-either : (r : Control) (b : Bool) (s t : Turn) → Goes r s → Goes r t → Goes r (cond b s t)
-either r true s t f g = f
-either r false s t f g = g
+either-goes : (r : Control) (b : Bool) (s t : Turn) → Goes r s → Goes r t → Goes r (cond b s t)
+either-goes r true s t f g = f
+either-goes r false s t f g = g
 
-ruleset rows = (either, row, if-counted, if-up, kept, counted, cleared, stays, rises, same, next)
+ruleset rows = (either-goes, row-goes, if-counted, if-up, kept, counted, cleared, stays, rises, same, next)
 
 module _ (cfg : FuseConfig) (r : Control) (pos : List Float) (clean : Bool) (inp : FsmInput) where
   -- the run state that the rows start from
@@ -131,7 +131,7 @@ module _ (cfg : FuseConfig) (r : Control) (pos : List Float) (clean : Bool) (inp
 
   all-rows : (q : FuseState) (ack : MaybeAck) → Goes r (transitionOf cfg now pos q clean ack inp)
   unfolding transitionOf
-  all-rows q ack = either r (anyOf (inp .trips) faultBits) _ _ (fault-row q (inp .trips)) (from-rows q ack)
+  all-rows q ack = either-goes r (anyOf (inp .trips) faultBits) _ _ (fault-row q (inp .trips)) (from-rows q ack)
 
 -- so a turn of the machine
 turn-counts : (cfg : FuseConfig) (r : Control) (pos : List Float) (inp : FsmInput) → MachineCounts r (nextOf cfg r pos inp .rt)
@@ -208,10 +208,10 @@ pub rise-fits : {k x y : ℕ} → x < 2 ^ k → Rises k x y → y < 2 ^ k
 rise-fits h stays = h
 rise-fits h rises = omega arith
 
-pub count-fits : {k x y : ℕ} → x < 2 ^ k → Counts k x y → y < 2 ^ k
-count-fits h kept = h
-count-fits h counted = omega arith
-count-fits h cleared = omega arith
+pub counts-fit : {k x y : ℕ} → x < 2 ^ k → Counts k x y → y < 2 ^ k
+counts-fit h kept = h
+counts-fit h counted = omega arith
+counts-fit h cleared = omega arith
 
 -- at its end a count stays or starts anew
 pub full-or-anew : {k x y : ℕ} → x ≡ 2 ^ k - 1 → Counts k x y → (y ≡ x) ⊎ (y ≡ 0)
@@ -245,14 +245,14 @@ module _ (r : FuseRt) (c : Call) (a : T (settingsPass c)) where
 
 -- ---- the stored nonces
 
-and-off : (a b c : Bool) → c ≡ false → (a && (b && c)) ≡ false
-and-off true true c e = e
-and-off true false c e = refl
-and-off false b c e = refl
+last-off : (a b c : Bool) → c ≡ false → (a && (b && c)) ≡ false
+last-off true true c e = e
+last-off true false c e = refl
+last-off false b c e = refl
 
 -- a slot that stored the largest number of 64 bits accepts nothing more until a reset
 pub slot-ends : (handoff : ℕ) (nonces : List ℕ) (a : VerifiedAck) → getD nonces (a .«operator_slot») 0 ≡ 2 ^ 64 - 1 → a .nonce < 2 ^ 64
     → acceptedAck handoff nonces (Given a) ≡ NoAck
 unfolding acceptedAck acceptedBy
 slot-ends handoff nonces a e h =
-    rw (and-off (ltb (a .«operator_slot») 8) (eqb (a .«handoff_seq») handoff) (ltb (getD nonces (a .«operator_slot») 0) (a .nonce)) (le-ltb (getD nonces (a .«operator_slot») 0) (a .nonce) (omega arith))) refl
+    rw (last-off (ltb (a .«operator_slot») 8) (eqb (a .«handoff_seq») handoff) (ltb (getD nonces (a .«operator_slot») 0) (a .nonce)) (le-ltb (getD nonces (a .«operator_slot») 0) (a .nonce) (omega arith))) refl

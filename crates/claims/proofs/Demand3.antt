@@ -36,9 +36,9 @@ use Rattle.claims.proofs.Rows.{armIn, arm-law, floorIn, stored-law, sti
 use Rattle.claims.proofs.Tick.{by-step, by-guard, guard-faults, decided, foundOf, cleanTurn, faultTurn}
 
 -- the state that the machine answers is the one that it stores
-pub settled : (cfg : FuseConfig) (rt : Control) (pos : List Float) (inp : FsmInput) → nextOf cfg rt pos inp .rt .state ≡ nextOf cfg rt pos inp .state
+pub state-agrees : (cfg : FuseConfig) (rt : Control) (pos : List Float) (inp : FsmInput) → nextOf cfg rt pos inp .rt .state ≡ nextOf cfg rt pos inp .state
 unfolding nextOf nextFrom settledOf
-settled cfg rt pos inp = refl
+state-agrees cfg rt pos inp = refl
 
 -- ---- the arm
 
@@ -55,7 +55,7 @@ module _ (s : Settings) (z : Sized s) where
       let t = nextOf (configOf s) start pos inp in
       let ack = acceptedAck (start .«handoff_seq») (start .«last_nonce») (inp .ack) in
       let l : StopLaw (configOf s) (start .state) bits ack start t = rw e at (stop-law (configOf s) start pos inp) in
-      rw (settled (configOf s) start pos inp) (arm-law s z bits ack start (t .rt) (t .extra) (t .reason) (start .state) (t .state) took shown u l)
+      rw (state-agrees (configOf s) start pos inp) (arm-law s z bits ack start (t .rt) (t .extra) (t .reason) (start .state) (t .state) took shown u l)
 
 true-of : (b : Bool) → T b → b ≡ true
 true-of true h = refl

@@ -53,9 +53,9 @@ record Elsewhere (t : Turn) : Type 0 where
 said : (w : ReasonCode) → acked w ≡ false → Other w
 said w e = record { told = e }
 
-either : (b : Bool) (v w : ReasonCode) → Other v → Other w → Other (cond b v w)
-either true v w f g = f
-either false v w f g = g
+either-other : (b : Bool) (v w : ReasonCode) → Other v → Other w → Other (cond b v w)
+either-other true v w f g = f
+either-other false v w f g = g
 
 by-reason : (t : Turn) → Other (t .reason) → Elsewhere t
 by-reason t o = record { told = o .told }
@@ -66,15 +66,15 @@ either-turn false s t f g = g
 
 fault-reasons : (trips : ℕ) → Other (faultReason trips)
 unfolding faultReason
-fault-reasons trips = search (either, said)
+fault-reasons trips = search (either-other, said)
 
 clamp-reasons : (soft : ℕ) → Other (clampReason soft)
 unfolding clampReason
-clamp-reasons soft = search (either, said) depth 12
+clamp-reasons soft = search (either-other, said) depth 12
 
 armed-reasons : (mode : FuseMode) → Other (armedReason mode)
 unfolding armedReason
-armed-reasons mode = search (either, said)
+armed-reasons mode = search (either-other, said)
 
 ruleset rows = (either-turn, by-reason, said, fault-reasons, clamp-reasons, armed-reasons)
 

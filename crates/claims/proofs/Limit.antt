@@ -21,7 +21,7 @@ use Rattle.lictor_core.specs.declared.fuse.FuseRt.{FuseRt}
 use Rattle.lictor_core.specs.declared.state.FuseState.{FuseState}
 use Rattle.lictor_core.specs.declared.state.FuseState.the-variants.{Idle, Armed, Watching, Clamped, Braking, Held, Escalated, Fault, Terminated}
 use Rattle.lictor_core.specs.Codes.{stateCode, isState, modeOf, rearmOf}
-use Rattle.lictor_core.specs.Initial.{zeroFloat, zeros, freshControl, freshMotion, freshClock, resetOf}
+use Rattle.lictor_core.specs.Initial.{zeroFloat, oneFloat, zeros, freshControl, freshMotion, freshClock, resetOf}
 use Rattle.lictor_core.specs.Masks.{anyOf, faultBits}
 use Rattle.lictor_core.specs.Rows.{rowTo}
 use Rattle.lictor_settings.specs.Settings.{badCode, badSize, badFloat, anyBelow, crossedOf, badBox, settingsTable, firstRow, checkOf, configOf}
@@ -44,8 +44,8 @@ use Rattle.claims.specs.Runs.{All, Some, here, later, First, Where, at, 
 use Rattle.claims.specs.Demand3.{begins, closes, limit, StopsWithin}
 use Rattle.claims.specs.Calls.{Seen, Call, settingsPass, guardBits, stepOf, seenOf, ticksFrom}
 use Rattle.claims.specs.ClockEnd.{lastTime}
-use Rattle.claims.specs.Limit.{oneFloat, slowSettings, callAt, trips, moves, stands, slowest, Met, LimitMet}
-use Rattle.claims.proofs.Demand3.{settled}
+use Rattle.claims.specs.Limit.{slowSettings, callAt, trips, moves, stands, slowest, Met, LimitMet}
+use Rattle.claims.proofs.Demand3.{state-agrees}
 use Rattle.claims.proofs.Tick.{by-step, by-guard, decided, foundOf, cleanTurn}
 
 -- ---- the n-th of a list, and none before it
@@ -219,7 +219,7 @@ module _ (b h e i : ℕ) (v : Float) (fine : finite v ≡ true) (r : FuseRt) (o 
   next-at : (q : FuseState) (count : Control → ℕ) (n : ℕ) → T (isState q (cleanTurn r tick .state)) → count (cleanTurn r tick .rt) ≡ n → At q count n (suc i) (decided r tick .rt)
   next-at q count n p k =
       record {
-        state = rw (ended .1) (rw (settled cfg (readyOf (r .control) (foundOf r tick)) _ (machineInput cfg (tick .input) (foundOf r tick))) p);
+        state = rw (ended .1) (rw (state-agrees cfg (readyOf (r .control) (foundOf r tick)) _ (machineInput cfg (tick .input) (foundOf r tick))) p);
         counted = rw (ended .1) k;
         running = runs-on;
       }
@@ -408,7 +408,7 @@ module _ (b h e : ℕ) (least : 1 ≤ b) (small : b ≤ 65535) (short : h ≤ 65
         (λ z. (
           begun-turn,
           record {
-            state = rw (settled (configOf slow) (readyOf (start .control) (foundOf start (trips slow))) _ (machineInput (configOf slow) (trips slow .input) (foundOf start (trips slow)))) t;
+            state = rw (state-agrees (configOf slow) (readyOf (start .control) (foundOf start (trips slow))) _ (machineInput (configOf slow) (trips slow .input) (foundOf start (trips slow)))) t;
             counted = begun-law .brakeBegins t tt;
             running = record { filled = refl; begun = omega arith; time = refl; room = rw row-length (omega arith) };
           },

@@ -61,13 +61,15 @@ tripsOf c = maskedOf (c .outcome .trips) (c .outcome .feasible) (c .settings .«
 unfoldable pub bitsOf : FuseRt → Call → Bool
 bitsOf r c = not (eqb (guardBits r c) 0) || anyOf (tripsOf c) faultBits
 
--- the acknowledgement that comes, if it is accepted (01-scope.md, Transitions; lictor_table, specs/Helpers, acceptedBy)
+-- the acknowledgement that comes, if it is accepted
+-- (01-scope.md, Transitions; lictor_table, specs/Helpers, acceptedBy)
 unfoldable pub ackAccepted : FuseRt → Call → MaybeAck
 ackAccepted r c = acceptedAck (r .control .«handoff_seq») (r .control .«last_nonce») (c .input .ack)
 
--- The one that the tick consumes (01-scope.md, The list in demand 3), from what the tick brings and the state that it starts from. A fault bit decides the tick
--- before the lines for Held and Escalated; where none comes, these decide the ticks from those two states, and takenIn says what they consume. That the
--- verdict's flag says the same is proved too (Flag).
+-- The one that the tick consumes (01-scope.md, The list in demand 3), from what the tick brings and
+-- the state that it starts from. A fault bit decides the tick before the lines for Held and
+-- Escalated; where none comes, these decide the ticks from those two states, and takenIn says what
+-- they consume. That the verdict's flag says the same is proved too (Flag).
 unfoldable pub tookOf : FuseRt → Call → MaybeAck
 tookOf r c = cond (bitsOf r c) NoAck (takenIn (r .control .state) (ackAccepted r c))
 
@@ -86,13 +88,19 @@ pub record Seen : Type 0 where
 
 -- of the call c on the run state r, which was answered a
 abbrev pub seenOf : FuseRt → Call → Ticked → Seen
-seenOf r c a = record { from = r .control .state; to = a .verdict .state; took = tookOf r c; bits = bitsOf r c; ack = ackAccepted r c }
+seenOf r c a = record {
+  from = r .control .state;
+  to = a .verdict .state;
+  took = tookOf r c;
+  bits = bitsOf r c;
+  ack = ackAccepted r c;
+}
 
 -- ---- the list
 
 module _ {A : Type 0} (see : FuseRt → Call → Ticked → A) where
-  -- A call and its answer. The next call gets the run state that this one returns, refused or not: a refused one returns what it got (proofs/Tick,
-  -- refused-keeps). It is no tick.
+  -- A call and its answer. The next call gets the run state that this one returns, refused or not:
+  -- a refused one returns what it got (proofs/Tick, refused-keeps). It is no tick.
   abbrev pub stepBy : FuseRt → Call → Ticked → Step FuseRt A
   stepBy r c a = cond (isAccepted (a .check)) (event (see r c a) (a .rt)) (silent (a .rt))
 

@@ -1,4 +1,5 @@
--- What one tick makes of each counter of the run state, and so what the counters do at their ends (fsm.rs, fuse.rs; docs/COUNTERS.md tells it in words).
+-- What one tick makes of each counter of the run state, and so what the counters do at their ends
+-- (fsm.rs, fuse.rs; docs/COUNTERS.md tells it in words).
 -- Proved in proofs/Counters, `counters-go`.
 use mathlib.Core.Path.{_≡_}
 use Prim.Native.Nat.{ℕ}
@@ -9,7 +10,7 @@ use Rattle.lictor_core.specs.declared.fuse.FuseRt.{FuseRt}
 use Rattle.lictor_core.specs.Num.{satUp, wrapUp}
 use Rattle.claims.specs.Calls.{Call, settingsPass, tickAnswer}
 
--- a count x of k bits after a tick: the same, or one more up to its end; nothing but a reset takes it back
+-- a count x of k bits after a tick: the same, or one more up to its end; only a reset takes it back
 pub data Rises (k x : ℕ) : ℕ → Type 0 where
   stays : Rises k x x
   rises : Rises k x (satUp k x)

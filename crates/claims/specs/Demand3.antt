@@ -1,6 +1,9 @@
--- Demand 3, stops close: one claim about every list of calls from a reset on (00-demands.md, Demand 3; 01-scope.md, The list in demand 3). It is at the end
--- of this file, and is proved in proofs/Demand3, `stops-close`. Of other files it names: what is said of a list (Runs); a call, its settings, what is seen of
--- its tick, the ticks of a list (Calls); the state that `reset` leaves, by the definition that it promises (lictor_core, specs/Initial, resetOf).
+-- Demand 3, stops close: one claim about every list of calls from a reset on
+-- (00-demands.md, Demand 3; 01-scope.md, The list in demand 3).
+-- It is at the end of this file, and is proved in proofs/Demand3, `stops-close`.
+-- Of other files it names: what is said of a list (Runs); a call, its settings, what is seen of its
+-- tick, the ticks of a list (Calls); the state that `reset` leaves (lictor_core, specs/Initial,
+-- resetOf).
 use mathlib.Core.Bool.{Bool, true, false, cond, not, _&&_, _||_}
 use mathlib.Core.List.{List}
 use mathlib.Core.Path.{_≡_}
@@ -34,8 +37,9 @@ E s = s .hyst .«handoff_timeout_ticks»
 abbrev pub maxRearms : Settings → ℕ
 maxRearms s = s .hyst .«max_rearms»
 
--- Each limit is a number that its field can hold: a u16, a u16, a u32 and a u8 in the code (crates/lictor_core/src/envelope.rt, Hysteresis). A definition has
--- whole numbers without bounds, so it is said here; every record that the code holds meets it, as `sized` promises (src/lib.rt).
+-- Each limit is a number that its field can hold: a u16, a u16, a u32 and a u8 in the code
+-- (crates/lictor_core/src/envelope.rt, Hysteresis). A definition has whole numbers without bounds,
+-- so it is said here; every record that the code holds meets it, as `sized` promises (src/lib.rt).
 pub record Sized (s : Settings) : Type 0 where
   pub brake : B s ≤ 65535
   pub hold : H s ≤ 65535
@@ -82,7 +86,7 @@ limit s = B s + H s + E s + 2
 
 -- ---- the four parts, in the order of 00-demands.md
 
--- of every tick with which a stop begins: of the n after it, where there are as many, one closes the stop
+-- of every tick that begins a stop: of the n after it, where there are as many, one closes the stop
 abbrev pub StopsWithin : ℕ → List Seen → Type 0
 StopsWithin n l = Each (λ x after. T (begins x) → n ≤ length after → Some (λ y. T (closes y)) (take n after)) l
 
@@ -94,7 +98,8 @@ Stops s l = StopsWithin (limit s) l
 abbrev pub Faults : List Seen → Type 0
 Faults l = Each (λ x after. T (endsIn Fault x) → All (λ y. T (endsIn Fault y)) after) l
 
--- rearms: by itself the fuse rearms no more often than the settings say. Counted from the reset, since a Resume adds to the rearm count and does not clear it.
+-- rearms: by itself the fuse rearms no more often than the settings say.
+-- Counted from the reset, since a Resume adds to the rearm count and does not clear it.
 abbrev pub Rearms : Settings → List Seen → Type 0
 Rearms s l = total rearms l ≤ maxRearms s
 
@@ -110,7 +115,10 @@ pub record Demand3 (s : Settings) (l : List Seen) : Type 0 where
   pub rearms : Rearms s l
   pub acks : Acks l
 
--- For every settings record s, of every list of calls that are under s or refused, from what a reset of any run state leaves. (Where s itself does not pass
--- the check, every call is refused, and the list has no tick.)
+-- For every settings record s, of every list of calls that are under s or refused, from what a
+-- reset of any run state leaves. (Where s itself does not pass the check, every call is refused: no
+-- tick.)
 abbrev pub StopsClose : Type 0
-StopsClose = (s : Settings) → Sized s → (r : FuseRt) (cs : List Call) → All (Under s) cs → Demand3 s (ticksFrom (resetOf r) cs)
+StopsClose =
+    (s : Settings) → Sized s → (r : FuseRt) (cs : List Call) → All (Under s) cs
+    → Demand3 s (ticksFrom (resetOf r) cs)

@@ -1,4 +1,5 @@
--- The tally and its ticks: what the run state's tally holds after any list of calls from a reset on, or from the settings on (01-scope.md, Modules 4).
+-- The tally and its ticks: what the run state's tally holds after any list of calls from a reset
+-- on, or from the settings on (01-scope.md, Modules 4).
 -- Proved in proofs/Tallies, `tally-told`.
 use mathlib.Core.Path.{_≡_}
 use mathlib.Core.Bool.{Bool, cond, _&&_}
@@ -28,7 +29,8 @@ use Rattle.claims.specs.Calls.{Call, guardBits, tripsOf, stepOf, leftBy}
 abbrev pub turnSeen : FuseRt → SafetyVerdict → Turn
 turnSeen r v = record { rt = r .control; state = v .state; extra = 0; reason = v .reason }
 
--- a call on r, clean or not, that leaves r′ and gives v: its verdict; of a clean tick its chunk, if it brings one, and the events, which a fault tick has not
+-- of a call on r, clean or not, that leaves r′ and gives v: its verdict;
+-- of a clean tick also its chunk, if it brings one, and its events
 abbrev pub itemBy : Bool → FuseRt → Call → FuseRt → SafetyVerdict → Item
 itemBy clean r c r′ v =
     record {
@@ -69,7 +71,8 @@ endedNominal v = isNominal (v .state)
 -- every tick is counted, by its verdict's state
 pub record StateCounts (t : Tally) (l : List SafetyVerdict) : Type 0 where
   pub ticks : t .ticks ≡ length l
-  pub sum : t .nominal + t .watching + t .clamped + t .braking + t .held + t .escalated + t .fault + t .terminated ≡ t .ticks
+  pub sum : t .nominal + t .watching + t .clamped + t .braking
+      + t .held + t .escalated + t .fault + t .terminated ≡ t .ticks
   pub nominal : t .nominal ≡ howMany endedNominal l
   pub watching : t .watching ≡ howMany (endedIn S.Watching) l
   pub clamped : t .clamped ≡ howMany (endedIn S.Clamped) l
@@ -80,7 +83,8 @@ pub record StateCounts (t : Tally) (l : List SafetyVerdict) : Type 0 where
   pub terminated : t .terminated ≡ howMany (endedIn S.Terminated) l
 
 pub record TallyTold (r : FuseRt) (cs : List Call) : Type 0 where
-  -- of whatever length: the tally is that of the history, every field (lictor_tally, specs/History, says of each what it holds, at its ceiling too)
+  -- of whatever length: the tally is that of the history, every field
+  -- (lictor_tally, specs/History, says of each what it holds, at its ceiling too)
   pub whole : leftBy r cs .tally ≡ tallyOf (historyFrom r cs)
   -- below 2^32 ticks
   pub states : length (verdictsFrom r cs) < 2 ^ 32 → StateCounts (leftBy r cs .tally) (verdictsFrom r cs)

@@ -9,6 +9,6 @@ use Rattle.host.specs.declared.HostAnswer.{HostAnswer}
 abbrev pub hostAnswerOf : Ticked → HostAnswer
 hostAnswerOf t = record { check = t .check; verdict = t .verdict }
 
--- the number of an answer in the refusal table (01-scope.md, Journal): 1 to 4, or 0 for a tick that was done
+-- the number of an answer in the refusal table (01-scope.md, Journal): 1 to 4, or 0 for a tick
 abbrev pub hostNumber : HostAnswer → ℕ
 hostNumber a = checkNumber (a .check)

@@ -1,4 +1,5 @@
-// The fuse for a host that lends its run state: each call changes it where it lies (fuse.rs, reset and decide).
+// The fuse for a host that lends its run state: each call changes it where it lies
+// (fuse.rs, reset and decide).
 ghost use mathlib.Core.Path.{_≡_};
 ghost use mathlib.Core.Bool.{false};
 ghost use Rattle.lictor_core.specs.Initial.{resetOf};
@@ -25,8 +26,10 @@ pub fn reset(rt: &mut FuseRt)
     *rt = lictor_fuse::episode::reset(*rt);
 }
 
-// One tick of the lent run state. Where the settings are refused, the answer has the number of the cause and no verdict, and the run state is as it was.
-// All NaNs are one value in this promise: which pattern a NaN has is left open, and nothing else depends on it.
+// One tick of the lent run state. Where the settings are refused, the answer has the number of the
+// cause and no verdict, and the run state is as it was.
+// All NaNs are one value in this promise: which pattern a NaN has is left open, and nothing depends
+// on it.
 pub fn tick(
     rt: &mut FuseRt,
     s: Settings,

@@ -1,4 +1,4 @@
--- A host that lends what it was given has the fuse's own run of states, though it never sees one: such a run state means what it was made of (`stored-back`, the crate `host_layout::state`).
+-- A host that lends what it was given has the fuse's own run of states, though it never sees one: such a run state means what it was made of (`stored-back`, host_layout, proofs/Stored).
 --     reset-on-stored, tick-on-stored      a call on such a run state gives what the fuse's reset or tick gives, as numbers
 -- Assumes nothing.
 use mathlib.Core.Path.{_≡_, refl, sym, _∙_, ap, subst}

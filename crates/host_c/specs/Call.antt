@@ -1,5 +1,6 @@
 -- One call of the library.
--- It joins numbers in the layout of C to the one tick of 01-scope.md (lictor_fuse, specs/Tick, tickOf) and to fuse.rs's reset.
+-- It joins numbers in the layout of C to the one tick of 01-scope.md (lictor_fuse, specs/Tick,
+-- tickOf) and to fuse.rs's reset.
 use mathlib.Core.Bool.{cond}
 use mathlib.Core.List.{List}
 use Prim.Native.Nat.{ℕ}
@@ -34,11 +35,16 @@ keptOf number before after = cond (eqb number 0) after before
 
 -- what a call on the run state `before` gives, of what the fuse gives
 unfoldable pub callOf : RunState → Ticked → Called
-callOf before t = record { number = checkNumber (t .check); rt = keptOf (checkNumber (t .check)) before (stateOut (t .rt)); verdict = verdictOut (t .verdict) }
+callOf before t = record {
+  number = checkNumber (t .check);
+  rt = keptOf (checkNumber (t .check)) before (stateOut (t .rt));
+  verdict = verdictOut (t .verdict);
+}
 
 -- what a call gives, of all that the host lends: one tick of 01-scope.md on what the numbers mean
 abbrev pub calledOf : RunState → Settings → Input → Outcome → (pos vel aux ext chunk : List Float) → Called
-calledOf rt s inp out pos vel aux ext chunk = callOf rt (tickOf (settingsIn s) (stateIn rt) (inputIn inp) (outcomeIn out) pos vel aux ext chunk)
+calledOf rt s inp out pos vel aux ext chunk =
+    callOf rt (tickOf (settingsIn s) (stateIn rt) (inputIn inp) (outcomeIn out) pos vel aux ext chunk)
 
 -- all of it but the run state, which is stored where the host lent it
 abbrev pub answerOf : Called → Answer

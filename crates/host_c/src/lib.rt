@@ -1,5 +1,8 @@
-// The fuse as a static library: what a controller in C or Rust calls. The host lends its run state, which each call changes where it lies, and all that a tick is given, which is only read.
-// Every type here is numbers in the layout of C, and every pattern of their bytes has a meaning, so that a call asks nothing of its caller but memory.
+// The fuse as a static library: what a controller in C or Rust calls.
+// The host lends its run state, which each call changes where it lies,
+// and all that a tick is given, which is only read.
+// Every type here is numbers in the layout of C, and every pattern of their bytes has a meaning,
+// so that a call asks nothing of its caller but memory.
 ghost use mathlib.Core.Path.{_≡_};
 ghost use mathlib.Core.Bool.{false};
 ghost use Rattle.fmath.specs.Root.{rootOf};
@@ -42,7 +45,7 @@ pub struct Called {
     pub verdict: Verdict,
 }
 
-// What a call with these settings answers where they are refused, and the number 0 where they are accepted.
+// What a call with these settings answers where they are refused; number 0 where they are accepted.
 fn refusal(s: Settings) -> Answer
     ensures { λ r. ⌜ r ≡ refusalOf (checkOf (settingsIn s)) ⌝ }
 {
@@ -54,6 +57,7 @@ fn refusal(s: Settings) -> Answer
     Answer { number, verdict }
 }
 
+// What a tick gives, as numbers.
 fn packed(d: Decided) -> Called
     ensures { λ r. ⌜ r ≡ tickedOut (givenOf d) ⌝ }
 {
@@ -91,6 +95,7 @@ fn ticked_out(
     packed(d)
 }
 
+// The run state at the start of an episode.
 fn restarted(rt: RunState) -> RunState
     ensures { λ r. ⌜ r ≡ resetRun rt ⌝ }
 {
@@ -138,7 +143,8 @@ pub extern "C" fn disklorva_new() -> RunState
     state_out(z)
 }
 
-// Starts an episode in the lent run state. Every field is promised; the bytes between the fields, and which pattern a NaN has, are the program's choice.
+// Starts an episode in the lent run state. Every field is promised;
+// the bytes between the fields, and which pattern a NaN has, are the program's choice.
 #[no_mangle]
 pub extern "C" fn disklorva_reset(rt: &mut RunState)
     ensures { λ _. ⌜ now (rt .exit) ≡ resetRun (now (rt .entry)) ⌝ }
@@ -146,8 +152,10 @@ pub extern "C" fn disklorva_reset(rt: &mut RunState)
     *rt = restarted(*rt);
 }
 
-// One tick of the lent run state. Where the settings are refused, the answer has the number of the cause and no verdict, and nothing is written: not even the bytes between the fields change.
-// Where they are accepted every field of state and answer is promised; the bytes between the fields, and which pattern a NaN has, are the program's choice, and nothing depends on them.
+// One tick of the lent run state. Where the settings are refused, the answer has the number of the
+// cause and no verdict, and nothing is written: not even the bytes between the fields change.
+// Where they are accepted, every field of state and answer is promised; the bytes between the
+// fields, and which pattern a NaN has, are the program's choice, and nothing depends on them.
 // Settings, input, outcome and lists are only read.
 #[no_mangle]
 pub extern "C" fn disklorva_tick(
@@ -168,7 +176,8 @@ pub extern "C" fn disklorva_tick(
     ticked(rt, *s, *inp, *out, pos, vel, aux, ext, chunk)
 }
 
-// The square root that the tick uses, the double nearest the exact root: for those who measure or compare it alone. Which pattern a NaN has is the program's choice.
+// The square root that the tick uses, the double nearest the exact root, to be measured or compared
+// alone. Which pattern a NaN has is the program's choice.
 #[no_mangle]
 pub extern "C" fn disklorva_sqrt(x: f64) -> f64
     ensures { λ r. ⌜ r ≡ rootOf x ⌝ }

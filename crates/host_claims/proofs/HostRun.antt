@@ -26,9 +26,9 @@ pub host-run : HostRun
 unfolding resetRun
 host-run rt hs = stored-run (resetOf (stateIn rt)) hs
 
-all-under : (s : Settings) (hs : List HostCall) → All (λ h. Under s (meant h)) hs → All (Under s) (map meant hs)
-all-under s [] u = tt
-all-under s (h ∷ hs) u = (u .0, all-under s hs (u .1))
+all-meant-under : (s : Settings) (hs : List HostCall) → All (λ h. Under s (meant h)) hs → All (Under s) (map meant hs)
+all-meant-under s [] u = tt
+all-meant-under s (h ∷ hs) u = (u .0, all-meant-under s hs (u .1))
 
 pub host-stops : HostsStop
-host-stops s z rt hs u = record { answers = host-run rt hs; stops = stops-close (settingsIn s) z (stateIn rt) (map meant hs) (all-under (settingsIn s) hs u) }
+host-stops s z rt hs u = record { answers = host-run rt hs; stops = stops-close (settingsIn s) z (stateIn rt) (map meant hs) (all-meant-under (settingsIn s) hs u) }

@@ -1,5 +1,7 @@
-// Two callers of `tick`, as an example and no part of the product: they show that the lent tick can be used and proved like any function by value.
-// `once` lends a local run state for one tick, and gives what the tick by value gives; `three` calls it three times, and its proof needs nothing more.
+// Two callers of the lent tick, as an example and no part of the product:
+// it can be used and proved like any function by value.
+// `once` lends a local run state for one tick, and gives what the tick by value gives;
+// `three` calls `once` three times, and its proof needs nothing more.
 ghost use mathlib.Core.Path.{_≡_};
 ghost use Rattle.lictor_fuse.specs.Tick.{tickOf};
 ghost use Rattle.host_example.specs.Example.{threeOf};

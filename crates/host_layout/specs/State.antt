@@ -1,5 +1,7 @@
--- The run state of the library and that of the fuse: field by field the same, but that the library's has a number for each code, mark and flag.
--- It joins the layout of C to `FuseRt` of lictor_core (fuse.rs, FuseRt; tally.rs, Tally), with the codes of 01-scope.md, Modules 1.
+-- The run state of the library and that of the fuse: field by field the same,
+-- but that the library's has a number for each code, mark and flag. It joins the layout of C to
+-- `FuseRt` of lictor_core (fuse.rs, FuseRt; tally.rs, Tally), with the codes of 01-scope.md,
+-- Modules 1.
 use mathlib.Core.Bool.{cond}
 use mathlib.Core.List.{List, [], _∷_}
 use Prim.Native.Nat.{ℕ}
@@ -29,21 +31,30 @@ use Rattle.host_layout.specs.declared.state.Tally.{Tally}
 use Rattle.host_layout.specs.declared.state.RunState.{RunState}
 use Rattle.host_layout.specs.Flags.{flagOf, flagCode}
 
--- ---- codes: the states and the reasons in the order of the source. A number that is none of theirs is a Fault, and an EpisodeEnd.
-unfoldable pub states : List FuseState
-states = S.Idle ∷ S.Armed ∷ S.Watching ∷ S.Clamped ∷ S.Braking ∷ S.Held ∷ S.Escalated ∷ S.Fault ∷ S.Terminated ∷ []
+-- ---- codes: the states and the reasons in the order of the source
 
+unfoldable pub states : List FuseState
+states =
+    S.Idle ∷ S.Armed ∷ S.Watching ∷ S.Clamped ∷ S.Braking ∷ S.Held ∷ S.Escalated ∷ S.Fault ∷ S.Terminated ∷ []
+
+-- a number that is none of theirs is a Fault
 abbrev pub stateOf : ℕ → FuseState
 stateOf n = getD states n S.Fault
 
 unfoldable pub reasons : List ReasonCode
 reasons =
-    W.Ok ∷ W.ObserveOnly ∷ W.WatchBand ∷ W.ClampWorkspace ∷ W.ClampSpeed ∷ W.ClampAccel ∷ W.ClampJerk ∷ W.ClampReach ∷ W.ClampContact ∷ W.BrakeInfeasible ∷ W.BrakeTier1Cp ∷ W.BrakeClampBudget ∷ W.Stopping ∷ W.HeldStandstill ∷ W.EscalateHoldTimeout ∷ W.EscalateRearmBudget ∷ W.EscalateTier1Persistent ∷ W.FaultNonFinite ∷ W.FaultSchema ∷ W.FaultWatchdog ∷ W.FaultBrakeTimeout ∷ W.FaultInternal ∷ W.RearmedAuto ∷ W.RearmedAck ∷ W.TerminatedAbort ∷ W.TerminatedTimeout ∷ W.TerminatedRetune ∷ W.EpisodeEnd ∷ []
+    W.Ok ∷ W.ObserveOnly ∷ W.WatchBand ∷ W.ClampWorkspace ∷ W.ClampSpeed ∷ W.ClampAccel ∷ W.ClampJerk ∷ W.ClampReach
+    ∷ W.ClampContact ∷ W.BrakeInfeasible ∷ W.BrakeTier1Cp ∷ W.BrakeClampBudget ∷ W.Stopping ∷ W.HeldStandstill
+    ∷ W.EscalateHoldTimeout ∷ W.EscalateRearmBudget ∷ W.EscalateTier1Persistent ∷ W.FaultNonFinite ∷ W.FaultSchema
+    ∷ W.FaultWatchdog ∷ W.FaultBrakeTimeout ∷ W.FaultInternal ∷ W.RearmedAuto ∷ W.RearmedAck ∷ W.TerminatedAbort
+    ∷ W.TerminatedTimeout ∷ W.TerminatedRetune ∷ W.EpisodeEnd ∷ []
 
+-- a number that is none of theirs is an EpisodeEnd
 abbrev pub reasonOf : ℕ → ReasonCode
 reasonOf n = getD reasons n W.EpisodeEnd
 
 -- ---- marks
+
 unfoldable pub markIn : Mark → FuseMark
 markIn m = cond (eqb (m .set) 0) Never (At (m .at))
 
@@ -60,6 +71,7 @@ unfoldable pub reasonMarkOut : FuseReasonMark → ReasonMark
 reasonMarkOut m = byReasonMark m (record { set = 0; reason = 0 }) reasonSet
 
 -- ---- what a lent run state means
+
 unfoldable pub controlIn : Control → FuseControl
 controlIn c = record {
   window = record { bits = c .window };
@@ -128,9 +140,15 @@ tallyIn c = record {
 }
 
 unfoldable pub stateIn : RunState → FuseRt
-stateIn r = record { control = controlIn (r .control); motion = motionIn (r .motion); clock = clockIn (r .clock); tally = tallyIn (r .tally) }
+stateIn r = record {
+  control = controlIn (r .control);
+  motion = motionIn (r .motion);
+  clock = clockIn (r .clock);
+  tally = tallyIn (r .tally);
+}
 
 -- ---- how a run state of the fuse is lent
+
 unfoldable pub controlOut : FuseControl → Control
 controlOut c = record {
   window = c .window .bits;
@@ -199,4 +217,9 @@ tallyOut c = record {
 }
 
 unfoldable pub stateOut : FuseRt → RunState
-stateOut r = record { control = controlOut (r .control); motion = motionOut (r .motion); clock = clockOut (r .clock); tally = tallyOut (r .tally) }
+stateOut r = record {
+  control = controlOut (r .control);
+  motion = motionOut (r .motion);
+  clock = clockOut (r .clock);
+  tally = tallyOut (r .tally);
+}

@@ -1,5 +1,7 @@
-// The run state as numbers in the layout of C, to and from the fuse's. Field names are the fuse's, and their order is that of fuse.rs in each group.
-// A host has no need to look inside: it lends what `disklorva_new` gave it. Any bytes are a run state: an unlisted code of a state is Fault, one of a reason EpisodeEnd.
+// The run state as numbers in the layout of C, to and from the fuse's.
+// Field names are the fuse's, and their order is that of fuse.rs in each group.
+// A host has no need to look inside: it lends what `disklorva_new` gave it.
+// Any bytes are a run state: an unlisted code of a state is Fault, one of a reason EpisodeEnd.
 ghost use mathlib.Core.Path.{_≡_};
 ghost use Rattle.host_layout.specs.State.{stateOf, reasonOf, markIn, markOut, reasonMarkIn, reasonSet, reasonMarkOut, controlIn, controlOut, motionIn, motionOut, clockIn, clockOut, tallyIn, tallyOut, stateIn, stateOut};
 use crate::input::flag;
@@ -304,14 +306,14 @@ fn tally_in(c: Tally) -> lictor_core::tally::Tally
 fn control_out(c: lictor_core::fuse::Control) -> Control
     ensures { λ r. ⌜ r ≡ controlOut c ⌝ }
 {
-    let w = c.window;
-    let s = c.state;
+    let window = c.window;
+    let now = c.state;
     let hold = c.hold;
     let last_nonce = c.last_nonce;
-    let state = state_code(s);
+    let state = state_code(now);
     let handoff_pending = code(c.handoff_pending);
     Control {
-        window: w.bits,
+        window: window.bits,
         state,
         hold,
         clean_run: c.clean_run,
@@ -370,12 +372,12 @@ fn tally_out(c: lictor_core::tally::Tally) -> Tally
     let stop_at = c.first_stop_tick;
     let handoff_at = c.handoff_tick;
     let max_z = c.max_z;
-    let s = c.terminal_state;
+    let ended = c.terminal_state;
     let first_trip_tick = mark_out(trip_at);
     let first_trip_reason = reason_mark_out(trip_why);
     let first_stop_tick = mark_out(stop_at);
     let handoff_tick = mark_out(handoff_at);
-    let terminal_state = state_code(s);
+    let terminal_state = state_code(ended);
     Tally {
         ticks: c.ticks,
         nominal: c.nominal,

@@ -11,11 +11,11 @@ use Rattle.journal_reader.specs.Reading.{Instruction, begin, restart, tick, onB
 use Rattle.journal.specs.declared.tick.Run.{Run}
 use Rattle.journal.specs.Tick.{decidedOf, tickedOf, Whole}
 use Rattle.journal.specs.Journal.{begunOf, restartedOf, obey, obeyed, replayOf, startRun, startWhole, journalOf}
-use Rattle.journal_claims.specs.Instructions.{instructionsOf, leftBy, played}
+use Rattle.journal_claims.specs.Instructions.{instructionsOf, leavesAll, verdictsAll}
 
 -- where the reader and the journal settle, from the fuse r on
 abbrev Beside : Run → Settled State Instruction Refusal → Settled Whole Decided Refusal → Type 0
-Beside r a b = (b .told ≡ played r (a .told)) × (b .state .run ≡ leftBy r (a .told))
+Beside r a b = (b .told ≡ verdictsAll r (a .told)) × (b .state .run ≡ leavesAll r (a .told))
 
 module _ (f : ℕ) (ih : (w : Whole) (s : List ℕ) → Beside (w .run) (settle onBytes f (w .state) s) (settle replayOf f w s)) where
   one-more : (w : Whole) (s : List ℕ) (x : Next State Instruction Refusal)
@@ -36,10 +36,10 @@ beside zero w s = (refl, refl)
 beside (suc f) w s = one-more f (λ v u. beside f v u) w s (onBytes (w .state) s)
 
 -- its verdicts, and the fuse that it leaves
-pub events-played : (s : List ℕ) → journalOf s .events ≡ played startRun (instructionsOf s)
+pub events-played : (s : List ℕ) → journalOf s .events ≡ verdictsAll startRun (instructionsOf s)
 unfolding journalOf instructionsOf settled startWhole
 events-played s = beside _ startWhole s .0
 
-pub run-played : (s : List ℕ) → journalOf s .left .run ≡ leftBy startRun (instructionsOf s)
+pub run-played : (s : List ℕ) → journalOf s .left .run ≡ leavesAll startRun (instructionsOf s)
 unfolding journalOf instructionsOf settled startWhole
 run-played s = beside _ startWhole s .1

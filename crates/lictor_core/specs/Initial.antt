@@ -22,6 +22,10 @@ use Rattle.lictor_core.specs.declared.fuse.FuseRt.{FuseRt}
 abbrev pub zeroFloat : Float
 zeroFloat = fin false 0 (pos 0)
 
+-- 1.0
+abbrev pub oneFloat : Float
+oneFloat = fin false 1 (pos 0)
+
 -- n components, all +0.0
 unfoldable pub zeros : ℕ → List Float
 zeros n = replicate n zeroFloat

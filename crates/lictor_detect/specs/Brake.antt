@@ -5,12 +5,11 @@ use mathlib.Core.List.{List}
 use Prim.Native.Nat.{ℕ, min, _^_}
 use lib.Dec.{ltb}
 use lib.ListN.{getD}
-use lib.IntN.{pos}
-use lib.Ieee.{Float, nan, fin, binary64, round, add, sub, mul, div}
+use lib.Ieee.{Float, nan, binary64, round, add, sub, mul, div}
 use Rattle.fmath.specs.Float.{maxOf, clampOf, normOf}
 use Rattle.lictor_core.specs.declared.envelope.FuseConfig.{FuseConfig}
 use Rattle.lictor_core.specs.Cases.{byKind}
-use Rattle.lictor_core.specs.Initial.{zeroFloat, zeros}
+use Rattle.lictor_core.specs.Initial.{zeroFloat, oneFloat, zeros}
 use Rattle.lictor_core.specs.Rows.{rowTo}
 
 -- component c of a row of which the first `live` count; 0 past them
@@ -41,9 +40,6 @@ boxedAction cfg row = boxedRow row (cfg .«box_lo») (cfg .«box_hi») (cfg .«p
 unfoldable pub scaledAction : FuseConfig → List Float → Float → List Float
 scaledAction cfg vel k = scaledRow vel k (cfg .«pos_dim») (min (cfg .dim) 8)
 
-abbrev pub one : Float
-one = fin false 1 (pos 0)
-
 -- 1e-9, rounded to the nearest double
 unfoldable pub eps : Float
 eps = round binary64 false 1 (10 ^ 9)
@@ -52,7 +48,7 @@ eps = round binary64 false 1 (10 ^ 9)
 unfoldable pub brakeFactor : FuseConfig → List Float → Float
 brakeFactor cfg vel =
     maxOf zeroFloat
-    (sub binary64 one (div binary64 (mul binary64 (cfg .«a_max») (cfg .dt)) (add binary64 (normOf vel (min (min (cfg .dim) 8) (cfg .«pos_dim»))) eps)))
+    (sub binary64 oneFloat (div binary64 (mul binary64 (cfg .«a_max») (cfg .dt)) (add binary64 (normOf vel (min (min (cfg .dim) 8) (cfg .«pos_dim»))) eps)))
 
 -- brake_action: EePosition, JointPosition and Other stay at the position; JointVelocity ramps the velocity down; EeDelta too, as a step of dt
 unfoldable pub brakeAction : FuseConfig → List Float → List Float → List Float

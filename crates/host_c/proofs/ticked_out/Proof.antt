@@ -27,7 +27,17 @@ packed-requires c κs = search needs
 returns : tie.Need-returns
 unfolding acceptedTick
 returns c =
-    rw (c .packed .ensures, c .before .decide .ensures, c .before .before .outcome-in .ensures, c .before .before .before .input-in .ensures, c .before .before .before .before .state-in .ensures, c .before .before .before .before .before .config .ensures, c .before .before .before .before .before .before .settings-in .ensures)
+    let reads = c .before .before in
+    let state = reads .before .before in
+    rw (
+      c .packed .ensures,
+      c .before .decide .ensures,
+      reads .outcome-in .ensures,
+      reads .before .input-in .ensures,
+      state .state-in .ensures,
+      state .before .config .ensures,
+      state .before .before .settings-in .ensures,
+    )
 
 pub ticked-out-spec : {M : Type 1} → statement M
 ticked-out-spec =

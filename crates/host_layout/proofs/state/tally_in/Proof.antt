@@ -20,7 +20,15 @@ state-of-requires c κs = search needs
 
 returns : tie.Need-returns
 unfolding tallyIn
-returns c = rw (c .state-of .ensures, c .before .mark-in3 .ensures, c .before .before .mark-in2 .ensures, c .before .before .before .reason-mark-in .ensures, c .before .before .before .before .mark-in .ensures)
+returns c =
+    let marks = c .before .before in
+    rw (
+      c .state-of .ensures,
+      c .before .mark-in3 .ensures,
+      marks .mark-in2 .ensures,
+      marks .before .reason-mark-in .ensures,
+      marks .before .before .mark-in .ensures,
+    )
 
 pub tally-in-spec : {M : Type 1} → statement M
 tally-in-spec =

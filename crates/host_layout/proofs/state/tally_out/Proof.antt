@@ -20,7 +20,15 @@ state-code-requires c κs = search needs
 
 returns : tie.Need-returns
 unfolding tallyOut
-returns c = rw (c .state-code .ensures, c .before .mark-out3 .ensures, c .before .before .mark-out2 .ensures, c .before .before .before .reason-mark-out .ensures, c .before .before .before .before .mark-out .ensures)
+returns c =
+    let marks = c .before .before in
+    rw (
+      c .state-code .ensures,
+      c .before .mark-out3 .ensures,
+      marks .mark-out2 .ensures,
+      marks .before .reason-mark-out .ensures,
+      marks .before .before .mark-out .ensures,
+    )
 
 pub tally-out-spec : {M : Type 1} → statement M
 tally-out-spec =
