@@ -12,14 +12,16 @@ use Rattle.lictor_core.specs.declared.fuse.Control.{Control}
 use Rattle.lictor_core.specs.declared.fuse.TickInput.{TickInput}
 use Rattle.lictor_core.specs.declared.outcome.Outcome.{Outcome}
 use Rattle.lictor_core.specs.declared.reason.ReasonCode.{ReasonCode}
+use Rattle.lictor_core.specs.declared.reason.ReasonCode.the-variants.{RearmedAck, TerminatedAbort, TerminatedRetune}
 use Rattle.lictor_core.specs.declared.scores.Scores.{Scores}
 use Rattle.lictor_core.specs.declared.state.FuseState.{FuseState}
+use Rattle.lictor_core.specs.declared.state.FuseState.the-variants.{Held, Escalated}
 use Rattle.lictor_core.specs.declared.verdict.ActionSource.the-variants.{Hold}
 use Rattle.lictor_core.specs.declared.verdict.MaybeHandoff.{MaybeHandoff}
 use Rattle.lictor_core.specs.declared.verdict.MaybeHandoff.the-variants.{NoHandoff, Begun}
 use Rattle.lictor_core.specs.declared.verdict.SafetyVerdict.{SafetyVerdict}
 use Rattle.lictor_core.specs.Cases.{byAck}
-use Rattle.lictor_core.specs.Codes.{stateCode, reasonCode}
+use Rattle.lictor_core.specs.Codes.{isState, isReason}
 use Rattle.lictor_core.specs.Initial.{zeros}
 use Rattle.lictor_core.specs.Masks as M
 use Rattle.lictor_detect.specs.Window.{hitsOf}
@@ -45,9 +47,9 @@ disarmedScores = record { z = zeros 12; s = inf true; valid = 0; fired = 0 }
 unfoldable pub actionDim : FuseConfig → ℕ
 actionDim cfg = min (cfg .dim) 8
 
--- the state with code k, which the tick did not start from
-unfoldable pub enteredOf : ℕ → FuseState → FuseState → Bool
-enteredOf k from s = not (eqb k (stateCode from)) && eqb k (stateCode s)
+-- state q, which the tick did not start from
+unfoldable pub enteredOf : FuseState → FuseState → FuseState → Bool
+enteredOf q from s = not (isState q from) && isState q s
 
 -- the handoff's number, on the tick that begins it
 unfoldable pub handoffOf : Bool → ℕ → MaybeHandoff
@@ -56,9 +58,9 @@ handoffOf begun n = cond begun (Begun n) NoHandoff
 unfoldable pub hasAck : MaybeAck → Bool
 hasAck a = byAck a false (λ v. true)
 
--- ack_consumed: an acknowledgement came, and the reason is 23, 24 or 26
+-- ack_consumed: an acknowledgement came, and the reason is one of its three answers
 unfoldable pub consumedFlag : MaybeAck → ReasonCode → Bool
-consumedFlag a w = hasAck a && (eqb 23 (reasonCode w) || (eqb 24 (reasonCode w) || eqb 26 (reasonCode w)))
+consumedFlag a w = hasAck a && (isReason RearmedAck w || (isReason TerminatedAbort w || isReason TerminatedRetune w))
 
 -- a clean tick's verdict: the window as the machine leaves it, the hits as they were before
 unfoldable pub verdictOf : FuseConfig → ℕ → FuseState → TickInput → Outcome → Findings → Turn → Acted → SafetyVerdict
@@ -80,7 +82,7 @@ verdictOf cfg seq from inp out f turn a = record {
   «window_hits» = f .scored .hits;
   «brake_margin» = out .margin;
   reason = turn .reason;
-  «handoff_seq» = handoffOf (enteredOf 6 from (turn .state)) (turn .rt .«handoff_seq»);
+  «handoff_seq» = handoffOf (enteredOf Escalated from (turn .state)) (turn .rt .«handoff_seq»);
   «ack_consumed» = consumedFlag (inp .ack) (turn .reason);
   «violation_reached_env» = a .violation;
 }
@@ -113,8 +115,8 @@ faultVerdict cfg seq from inp bits turn action = record {
 -- the events of a clean tick; a rearm and a clamp count where the run state's own counter moved
 unfoldable pub eventsOf : Calibration → Scores → Control → Turn → TickEvents
 eventsOf cal sc before turn = record {
-  «entered_hold» = enteredOf 5 (before .state) (turn .state);
-  «entered_escalated» = enteredOf 6 (before .state) (turn .state);
+  «entered_hold» = enteredOf Held (before .state) (turn .state);
+  «entered_escalated» = enteredOf Escalated (before .state) (turn .state);
   rearmed = not (eqb (turn .rt .rearms) (before .rearms));
   clamped = not (eqb (turn .rt .clamps) (before .clamps));
   «live_z» = bitAnd (cal .mask) (liveValid (cal .mask) (sc .valid));

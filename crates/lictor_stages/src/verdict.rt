@@ -1,7 +1,5 @@
 // The verdict of a tick, and what the tally is told beside it.
 ghost use mathlib.Core.Path.{_≡_};
-ghost use lib.Dec.{eqb};
-ghost use Rattle.lictor_core.specs.Codes.{stateCode, reasonCode};
 ghost use Rattle.lictor_core.specs.Initial.{zeros};
 ghost use Rattle.lictor_stages.specs.Verdict.{liveValid, scoresOf, disarmedScores, actionDim, enteredOf, handoffOf, hasAck, consumedFlag, verdictOf, faultVerdict, eventsOf, noEvents, rejectedOf};
 use crate::act::Acted;
@@ -16,10 +14,10 @@ use lictor_core::fuse::TickInput;
 use lictor_core::num::least;
 use lictor_core::outcome::Outcome;
 use lictor_core::reason::ReasonCode;
-use lictor_core::reason::reason_code;
+use lictor_core::reason::is_reason;
 use lictor_core::scores::Scores;
 use lictor_core::state::FuseState;
-use lictor_core::state::state_code;
+use lictor_core::state::is_state;
 use lictor_core::verdict::ActionSource;
 use lictor_core::verdict::MaybeHandoff;
 use lictor_core::verdict::SafetyVerdict;
@@ -76,20 +74,14 @@ fn action_dim(cfg: FuseConfig) -> u16
     n as u16
 }
 
-fn is_code(s: FuseState, k: u8) -> bool
-    ensures { λ r. ⌜ r ≡ eqb k (stateCode s) ⌝ }
+// Whether state q was entered in this tick.
+fn entered(q: FuseState, from: FuseState, s: FuseState) -> bool
+    ensures { λ r. ⌜ r ≡ enteredOf q from s ⌝ }
 {
-    k == state_code(s)
-}
-
-// Whether the state with code k was entered in this tick.
-fn entered(k: u8, from: FuseState, s: FuseState) -> bool
-    ensures { λ r. ⌜ r ≡ enteredOf k from s ⌝ }
-{
-    if is_code(from, k) {
+    if is_state(q, from) {
         return false;
     }
-    is_code(s, k)
+    is_state(q, s)
 }
 
 fn handoff_of(begun: bool, seq: u32) -> MaybeHandoff
@@ -111,24 +103,18 @@ fn has_ack(a: MaybeAck) -> bool
     }
 }
 
-fn is_reason(w: ReasonCode, k: u8) -> bool
-    ensures { λ r. ⌜ r ≡ eqb k (reasonCode w) ⌝ }
-{
-    k == reason_code(w)
-}
-
 // An acknowledgement came, and the reason is RearmedAck, TerminatedAbort or TerminatedRetune.
 fn consumed(a: MaybeAck, w: ReasonCode) -> bool
     ensures { λ r. ⌜ r ≡ consumedFlag a w ⌝ }
 {
     if has_ack(a) {
-        if is_reason(w, 23) {
+        if is_reason(ReasonCode::RearmedAck, w) {
             return true;
         }
-        if is_reason(w, 24) {
+        if is_reason(ReasonCode::TerminatedAbort, w) {
             return true;
         }
-        return is_reason(w, 26);
+        return is_reason(ReasonCode::TerminatedRetune, w);
     }
     false
 }
@@ -159,7 +145,7 @@ pub fn verdict_of(
     let status = status_of(state);
     let dim = action_dim(cfg);
     let scores = scores_of(cal, sc);
-    let begun = entered(6, from, state);
+    let begun = entered(FuseState::Escalated, from, state);
     let handoff = handoff_of(begun, rt.handoff_seq);
     let taken = consumed(ack, reason);
     SafetyVerdict {
@@ -239,8 +225,8 @@ pub fn events_of(cal: Calibration, sc: Scores, before: Control, turn: Turn) -> T
     let from = before.state;
     let state = turn.state;
     let after = turn.rt;
-    let hold = entered(5, from, state);
-    let escalated = entered(6, from, state);
+    let hold = entered(FuseState::Held, from, state);
+    let escalated = entered(FuseState::Escalated, from, state);
     let valid = live_valid(cal.mask, sc.valid);
     TickEvents {
         entered_hold: hold,
