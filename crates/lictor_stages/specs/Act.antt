@@ -1,5 +1,5 @@
 -- Stage 7 (01-scope.md, One tick; fuse.rs, status_of, source_of, ACTION).
-use mathlib.Core.Bool.{Bool, true, false, not, cond}
+use mathlib.Core.Bool.{true, false, not, cond}
 use mathlib.Core.List.{List}
 use lib.Ieee.{Float}
 use Rattle.lictor_core.specs.declared.envelope.FuseConfig.{FuseConfig}

@@ -1,10 +1,9 @@
--- The verdict and the events of a tick (01-scope.md, One tick; fuse.rs, fault_tick and the end of decide).
+-- The verdict and the events of a clean tick (01-scope.md, One tick; fuse.rs, the end of decide).
 use mathlib.Core.Bool.{Bool, true, false, not, cond, _&&_, _||_}
-use mathlib.Core.List.{List}
 use Prim.Native.Nat.{ℕ, min}
 use lib.Dec.{eqb}
 use lib.Bits.{bitAnd, bitOr}
-use lib.Ieee.{Float, nan, inf}
+use lib.Ieee.{inf}
 use Rattle.lictor_core.specs.declared.ack.MaybeAck.{MaybeAck}
 use Rattle.lictor_core.specs.declared.envelope.Calibration.{Calibration}
 use Rattle.lictor_core.specs.declared.envelope.FuseConfig.{FuseConfig}
@@ -16,7 +15,6 @@ use Rattle.lictor_core.specs.declared.reason.ReasonCode.the-variants.{RearmedAc
 use Rattle.lictor_core.specs.declared.scores.Scores.{Scores}
 use Rattle.lictor_core.specs.declared.state.FuseState.{FuseState}
 use Rattle.lictor_core.specs.declared.state.FuseState.the-variants.{Held, Escalated}
-use Rattle.lictor_core.specs.declared.verdict.ActionSource.the-variants.{Hold}
 use Rattle.lictor_core.specs.declared.verdict.MaybeHandoff.{MaybeHandoff}
 use Rattle.lictor_core.specs.declared.verdict.MaybeHandoff.the-variants.{NoHandoff, Begun}
 use Rattle.lictor_core.specs.declared.verdict.SafetyVerdict.{SafetyVerdict}
@@ -24,7 +22,6 @@ use Rattle.lictor_core.specs.Cases.{byAck}
 use Rattle.lictor_core.specs.Codes.{isState, isReason}
 use Rattle.lictor_core.specs.Initial.{zeros}
 use Rattle.lictor_core.specs.Masks as M
-use Rattle.lictor_detect.specs.Window.{hitsOf}
 use Rattle.lictor_table.specs.declared.Turn.{Turn}
 use Rattle.lictor_tally.specs.declared.TickEvents.{TickEvents}
 use Rattle.lictor_stages.specs.Act.{statusOf}
@@ -87,31 +84,6 @@ verdictOf cfg seq from inp out f turn a = record {
   «violation_reached_env» = a .violation;
 }
 
--- a fault tick's verdict: nothing of the outcome, the hold action in both modes
-unfoldable pub faultVerdict : FuseConfig → ℕ → FuseState → TickInput → ℕ → Turn → List Float → SafetyVerdict
-faultVerdict cfg seq from inp bits turn action = record {
-  seq = seq;
-  t = inp .t;
-  status = statusOf (turn .state);
-  state = turn .state;
-  «prev_state» = from;
-  trips = bitOr bits (turn .extra);
-  action = action;
-  «action_dim» = actionDim cfg;
-  «action_src» = Hold;
-  substituted = true;
-  «clamped_dims» = 0;
-  scores = disarmedScores;
-  tau = cfg .calib .tau;
-  window = turn .rt .window .bits;
-  «window_hits» = hitsOf (turn .rt .window);
-  «brake_margin» = nan;
-  reason = turn .reason;
-  «handoff_seq» = NoHandoff;
-  «ack_consumed» = false;
-  «violation_reached_env» = false;
-}
-
 -- the events of a clean tick; a rearm and a clamp count where the run state's own counter moved
 unfoldable pub eventsOf : Calibration → Scores → Control → Turn → TickEvents
 eventsOf cal sc before turn = record {
@@ -121,10 +93,6 @@ eventsOf cal sc before turn = record {
   clamped = not (eqb (turn .rt .clamps) (before .clamps));
   «live_z» = bitAnd (cal .mask) (liveValid (cal .mask) (sc .valid));
 }
-
--- a fault tick has none
-unfoldable pub noEvents : TickEvents
-noEvents = record { «entered_hold» = false; «entered_escalated» = false; rearmed = false; clamped = false; «live_z» = 0 }
 
 -- a chunk is rejected where a hard trip is left
 unfoldable pub rejectedOf : ℕ → Bool

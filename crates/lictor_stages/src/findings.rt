@@ -1,7 +1,6 @@
 // Stages 2 to 6, up to the state machine: what the outcome and the motion mean under the settings.
 ghost use mathlib.Core.Path.{_≡_};
-ghost use Rattle.lictor_stages.specs.Findings.{withBrake, maskedOf, warnOf, slowOf, standstillOf, chunkOk, scoredOf, findingsOf, machineInput, faultInput};
-use lictor_core::ack::MaybeAck;
+ghost use Rattle.lictor_stages.specs.Findings.{withBrake, maskedOf, warnOf, slowOf, standstillOf, chunkOk, scoredOf, findingsOf, machineInput};
 use lictor_core::envelope::FuseConfig;
 use lictor_core::envelope::is_project;
 use lictor_core::fuse::TickInput;
@@ -138,25 +137,5 @@ pub fn machine_input(cfg: FuseConfig, inp: TickInput, f: Findings) -> FsmInput
         chunk_boundary: boundary,
         chunk_ok: f.chunk_ok,
         ack,
-    }
-}
-
-// And in a fault tick: the guard's bits, and no acknowledgement.
-pub fn fault_input(cfg: FuseConfig, inp: TickInput, bits: u32) -> FsmInput
-    ensures { λ r. ⌜ r ≡ faultInput cfg inp bits ⌝ }
-{
-    let clamp = cfg.clamp;
-    let can = is_project(clamp);
-    let c = inp.chunk;
-    let boundary = delivered(c);
-    FsmInput {
-        trips: bits,
-        predictive: false,
-        warn: false,
-        soft_clampable: can,
-        stopped: false,
-        chunk_boundary: boundary,
-        chunk_ok: false,
-        ack: MaybeAck::NoAck,
     }
 }
