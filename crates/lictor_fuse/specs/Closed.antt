@@ -1,4 +1,4 @@
--- The end of every tick (01-scope.md, One tick; fuse.rs, the last lines of fault_tick and of decide).
+-- The end of every tick (01-scope.md, One tick; fuse.rs, the end of fault_tick and of decide).
 use Rattle.lictor_core.specs.declared.fuse.Clock.{Clock}
 use Rattle.lictor_core.specs.declared.fuse.Control.{Control}
 use Rattle.lictor_core.specs.declared.fuse.Motion.{Motion}

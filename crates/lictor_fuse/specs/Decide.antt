@@ -1,4 +1,5 @@
--- One tick (01-scope.md, One tick; fuse.rs, decide): a fault tick where the guard finds any bit, else a clean one.
+-- One tick (01-scope.md, One tick; fuse.rs, decide):
+-- a fault tick where the guard finds any bit, else a clean one.
 use mathlib.Core.Bool.{cond}
 use mathlib.Core.List.{List}
 use Prim.Native.Nat.{ℕ}

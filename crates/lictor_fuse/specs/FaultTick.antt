@@ -1,5 +1,5 @@
--- A fault tick (01-scope.md, One tick; fuse.rs, fault_tick): it takes t and, if it is fit, the position;
--- nothing of the outcome, the acknowledgement, the chunk or the velocity.
+-- A fault tick (01-scope.md, One tick; fuse.rs, fault_tick): it takes t and, if it is fit,
+-- the position; nothing of the outcome, the acknowledgement, the chunk or the velocity.
 use mathlib.Core.Bool.{Bool, true, false, cond, _&&_}
 use mathlib.Core.List.{List}
 use Prim.Native.Nat.{ℕ}
@@ -52,8 +52,9 @@ withPos cfg m pos = record {
 unfoldable pub faultMotion : FuseConfig → Motion → List Float → Motion
 faultMotion cfg m pos = cond (isFit cfg pos) (withPos cfg m pos) m
 
--- ---- what the machine is asked: the guard's bits, whether a chunk came, and nothing else that the tick brings
+-- ---- what the machine is asked
 
+-- the guard's bits, whether a chunk came, and nothing else that the tick brings
 unfoldable pub faultInput : FuseConfig → TickInput → ℕ → FsmInput
 faultInput cfg inp bits = record {
   trips = bits;
@@ -66,8 +67,9 @@ faultInput cfg inp bits = record {
   ack = NoAck;
 }
 
--- ---- the verdict: nothing of the outcome, the hold action in both modes
+-- ---- the verdict
 
+-- nothing of the outcome, the hold action in both modes
 unfoldable pub faultVerdict : FuseConfig → ℕ → FuseState → TickInput → ℕ → Turn → List Float → SafetyVerdict
 faultVerdict cfg seq from inp bits turn action = record {
   seq = seq;
@@ -92,8 +94,9 @@ faultVerdict cfg seq from inp bits turn action = record {
   «violation_reached_env» = false;
 }
 
--- ---- the clock: t alone is taken
+-- ---- the clock
 
+-- t alone is taken
 unfoldable pub faultClock : Clock → ℕ → Clock
 faultClock k t = record {
   filled = k .filled;

@@ -37,13 +37,13 @@ fn fresh_control(s: FuseState) -> Control
 fn fresh_motion() -> Motion
     ensures { λ r. ⌜ r ≡ freshMotion ⌝ }
 {
-    let z = no_row();
+    let zeros = no_row();
     Motion {
-        pos: z,
-        prev_pos: z,
-        vel: z,
+        pos: zeros,
+        prev_pos: zeros,
+        vel: zeros,
         have_prev_pos: false,
-        last_cmd: z,
+        last_cmd: zeros,
     }
 }
 

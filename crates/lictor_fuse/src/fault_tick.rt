@@ -172,8 +172,9 @@ fn fault_verdict(
     }
 }
 
-// ---- the clock: t alone is taken
+// ---- the clock
 
+// t alone is taken: the chunk number and the tick's own count stay.
 fn fault_clock(before: Clock, t: Time) -> Clock
     ensures { λ r. ⌜ r ≡ faultClock before t ⌝ }
 {

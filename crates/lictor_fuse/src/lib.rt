@@ -132,7 +132,8 @@ fn tick_by(
     refused_tick(c, rt)
 }
 
-// One call: settings that fail the check answer that, and nothing changes; else one tick under them.
+// One call: settings that fail the check answer that, and nothing changes;
+// else one tick under them.
 // All NaNs are one value in this promise: which pattern a NaN has is left open,
 // and nothing else depends on it.
 pub fn tick(

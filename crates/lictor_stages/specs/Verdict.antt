@@ -28,7 +28,8 @@ use Rattle.lictor_stages.specs.Act.{statusOf}
 use Rattle.lictor_stages.specs.declared.act.Acted.{Acted}
 use Rattle.lictor_stages.specs.declared.findings.Findings.{Findings}
 
--- which features were computed: none without a calibration mask (docs/DECISIONS.md), else the outcome's
+-- which features were computed: none without a calibration mask, else the outcome's
+-- (docs/DECISIONS.md)
 unfoldable pub liveValid : ℕ → ℕ → ℕ
 liveValid mask valid = cond (eqb mask 0) 0 valid
 

@@ -112,17 +112,17 @@ fn has_ack(a: MaybeAck) -> bool
 }
 
 // An acknowledgement came, and the reason is RearmedAck, TerminatedAbort or TerminatedRetune.
-fn consumed(a: MaybeAck, w: ReasonCode) -> bool
-    ensures { λ r. ⌜ r ≡ consumedFlag a w ⌝ }
+fn consumed(ack: MaybeAck, reason: ReasonCode) -> bool
+    ensures { λ r. ⌜ r ≡ consumedFlag ack reason ⌝ }
 {
-    if has_ack(a) {
-        if is_reason(ReasonCode::RearmedAck, w) {
+    if has_ack(ack) {
+        if is_reason(ReasonCode::RearmedAck, reason) {
             return true;
         }
-        if is_reason(ReasonCode::TerminatedAbort, w) {
+        if is_reason(ReasonCode::TerminatedAbort, reason) {
             return true;
         }
-        return is_reason(ReasonCode::TerminatedRetune, w);
+        return is_reason(ReasonCode::TerminatedRetune, reason);
     }
     false
 }
