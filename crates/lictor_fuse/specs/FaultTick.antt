@@ -108,13 +108,15 @@ faultClock k t = record {
 
 -- ---- the tick
 
--- no event is recorded
+-- TickEvents::default
 unfoldable pub noEvents : TickEvents
 noEvents = record { «entered_hold» = false; «entered_escalated» = false; rearmed = false; clamped = false; «live_z» = 0 }
 
+-- its end: t alone moves the clock, and no event is recorded
 unfoldable pub closeFault : FuseRt → TickInput → Motion → Turn → SafetyVerdict → Decided
 closeFault rt inp m turn v = closedOf (turn .rt) m (faultClock (rt .clock) (inp .t)) (rt .tally) v noEvents
 
+-- the position, the state machine, the hold action and the verdict, in the order of fuse.rs
 unfoldable pub faultTick : FuseConfig → FuseRt → TickInput → ℕ → List Float → Decided
 faultTick cfg rt inp bits pos =
     let m = faultMotion cfg (rt .motion) pos in
