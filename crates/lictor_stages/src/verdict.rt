@@ -141,12 +141,10 @@ pub fn verdict_of(
     let before = rt.control;
     let from = before.state;
     let found = done.findings;
-    let scored = found.scored;
     let turn = done.turn;
     let state = turn.state;
     let reason = turn.reason;
     let after = turn.rt;
-    let window = after.window;
     let ack = inp.ack;
     let calib = cfg.calib;
     let given = out.scores;
@@ -172,8 +170,8 @@ pub fn verdict_of(
         clamped_dims: out.clamped_dims,
         scores,
         tau: calib.tau,
-        window: window.bits,
-        window_hits: scored.hits,
+        window: after.window.bits,
+        window_hits: found.scored.hits,
         brake_margin: out.margin,
         reason,
         handoff_seq: handoff,
