@@ -15,15 +15,13 @@ use Rattle.lictor_core.specs.declared.state.FuseState.the-variants.{Fault}
 use Rattle.lictor_core.specs.Masks.{anyOf, nonfinite, schema, watchdog, faultBits}
 use Rattle.lictor_settings.specs.Settings.{configOf}
 use Rattle.lictor_guard.specs.Guard.{clockBad, schemaBad, bitIf, guardOf}
-use Rattle.lictor_stages.specs.Ingest.{faultMotion}
-use Rattle.lictor_stages.specs.Findings.{faultInput}
-use Rattle.lictor_stages.specs.Verdict.{faultVerdict}
 use Rattle.lictor_table.specs.declared.FsmInput.{FsmInput}
 use Rattle.lictor_table.specs.Helpers.{settledOf}
 use Rattle.lictor_table.specs.Table.{firstOf, table, nextFrom, nextOf}
 use Rattle.lictor_fuse.specs.declared.decide.Decided.{Decided}
 use Rattle.lictor_fuse.specs.declared.Ticked.{Ticked}
-use Rattle.lictor_fuse.specs.Decide.{closedOf, closeFault, faultTick}
+use Rattle.lictor_fuse.specs.FaultTick.{faultMotion, faultInput, faultVerdict, closeFault, faultTick}
+use Rattle.lictor_fuse.specs.Closed.{closedOf}
 use Rattle.lictor_fuse.specs.Tick.{givenOf}
 use Rattle.claims.specs.Calls.{Call, settingsPass, tickAnswer, guardBits}
 use Rattle.claims.specs.ClockEnd.{lastTime, PastTheEnd, ClockEnds}

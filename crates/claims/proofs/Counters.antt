@@ -27,7 +27,7 @@ use Rattle.lictor_core.specs.Masks.{anyOf, faultBits}
 use Rattle.lictor_core.specs.Num.{satUp, wrapUp}
 use Rattle.lictor_settings.specs.Settings.{configOf}
 use Rattle.lictor_stages.specs.Findings.{machineInput}
-use Rattle.lictor_stages.specs.Verdict.{eventsOf, noEvents}
+use Rattle.lictor_stages.specs.Verdict.{eventsOf}
 use Rattle.lictor_table.specs.declared.FsmInput.{FsmInput}
 use Rattle.lictor_table.specs.declared.Turn.{Turn}
 use Rattle.lictor_table.specs.Helpers.{countIf, upIf, consumeNonce, latchHold, acceptedBy, acceptedAck, cleanOf, countRun, settledOf}
@@ -38,7 +38,9 @@ use Rattle.lictor_table.proofs.Lines.{by-test}
 use Rattle.lictor_tally.specs.declared.TickEvents.{TickEvents}
 use Rattle.lictor_fuse.specs.declared.decide.Decided.{Decided}
 use Rattle.lictor_fuse.specs.declared.Ticked.{Ticked}
-use Rattle.lictor_fuse.specs.Decide.{readyOf, nextChunk, cleanClock, faultClock, closedOf, closeClean, cleanTick, closeFault, faultTick}
+use Rattle.lictor_fuse.specs.CleanTick.{readyOf, nextChunk, cleanClock, closeClean, cleanTick}
+use Rattle.lictor_fuse.specs.FaultTick.{noEvents, faultClock, closeFault, faultTick}
+use Rattle.lictor_fuse.specs.Closed.{closedOf}
 use Rattle.lictor_fuse.specs.Tick.{givenOf}
 use Rattle.claims.specs.Calls.{Call, settingsPass, tickAnswer, guardBits}
 use Rattle.claims.specs.Tallies.{turnSeen, itemOf}

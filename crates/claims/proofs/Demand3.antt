@@ -17,15 +17,17 @@ use Rattle.lictor_core.specs.declared.state.FuseState.{FuseState}
 use Rattle.lictor_core.specs.Initial.{freshControl, resetOf}
 use Rattle.lictor_core.specs.Masks.{anyOf, faultBits}
 use Rattle.lictor_settings.specs.Settings.{configOf}
-use Rattle.lictor_stages.specs.Findings.{findingsOf, machineInput, faultInput}
-use Rattle.lictor_stages.specs.Verdict.{verdictOf, faultVerdict}
+use Rattle.lictor_stages.specs.Findings.{findingsOf, machineInput}
+use Rattle.lictor_stages.specs.Verdict.{verdictOf}
 use Rattle.lictor_table.specs.declared.FsmInput.{FsmInput}
 use Rattle.lictor_table.specs.Consumed.{takenIn, consumedOf}
 use Rattle.lictor_table.specs.Helpers.{acceptedAck, settledOf}
 use Rattle.lictor_table.specs.Table.{nextFrom, nextOf}
 use Rattle.lictor_table.proofs.Stops.{StopLaw, stop-law, nonce-law, fresh-law}
 use Rattle.lictor_fuse.specs.declared.decide.Decided.{Decided}
-use Rattle.lictor_fuse.specs.Decide.{readyOf, closedOf, closeClean, cleanTick, closeFault, faultTick}
+use Rattle.lictor_fuse.specs.CleanTick.{readyOf, closeClean, cleanTick}
+use Rattle.lictor_fuse.specs.FaultTick.{faultInput, faultVerdict, closeFault, faultTick}
+use Rattle.lictor_fuse.specs.Closed.{closedOf}
 use Rattle.lictor_fuse.specs.Tick.{givenOf}
 use Rattle.claims.specs.Runs.{All, total, Step}
 use Rattle.claims.specs.Calls.{Call, Under, guardBits, tripsOf, bitsOf, ackAccepted, tookOf, Seen, seenOf, stepOf, ticksFrom}

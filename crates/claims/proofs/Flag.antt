@@ -20,7 +20,7 @@ use Rattle.lictor_core.specs.Codes.{reasonCode}
 use Rattle.lictor_core.specs.Masks.{anyOf, faultBits}
 use Rattle.lictor_settings.specs.Settings.{configOf}
 use Rattle.lictor_stages.specs.Findings.{findingsOf, machineInput}
-use Rattle.lictor_stages.specs.Verdict.{hasAck, consumedFlag, verdictOf, faultVerdict}
+use Rattle.lictor_stages.specs.Verdict.{hasAck, consumedFlag, verdictOf}
 use Rattle.lictor_table.specs.declared.FsmInput.{FsmInput}
 use Rattle.lictor_table.specs.declared.Turn.{Turn}
 use Rattle.lictor_table.specs.Consumed.{takenIn, consumedOf}
@@ -31,7 +31,9 @@ use Rattle.lictor_table.proofs.ByTable.{tells}
 use Rattle.lictor_table.proofs.Lines.{by-bool}
 use Rattle.lictor_fuse.specs.declared.decide.Decided.{Decided}
 use Rattle.lictor_fuse.specs.declared.Ticked.{Ticked}
-use Rattle.lictor_fuse.specs.Decide.{readyOf, closedOf, closeClean, cleanTick, closeFault, faultTick}
+use Rattle.lictor_fuse.specs.CleanTick.{readyOf, closeClean, cleanTick}
+use Rattle.lictor_fuse.specs.FaultTick.{faultVerdict, closeFault, faultTick}
+use Rattle.lictor_fuse.specs.Closed.{closedOf}
 use Rattle.lictor_fuse.specs.Tick.{givenOf}
 use Rattle.claims.specs.Calls.{Call, settingsPass, tripsOf, bitsOf, ackAccepted, tookOf}
 use Rattle.claims.specs.Demand3.{none?}

@@ -38,7 +38,8 @@ use Rattle.lictor_table.specs.Table.{nextOf}
 use Rattle.lictor_table.proofs.ByTable.{tells}
 use Rattle.lictor_table.proofs.Stops.{StopLaw, stop-law}
 use Rattle.lictor_fuse.specs.declared.decide.Decided.{Decided}
-use Rattle.lictor_fuse.specs.Decide.{readyOf, cleanClock, closedOf, closeClean, cleanTick}
+use Rattle.lictor_fuse.specs.CleanTick.{readyOf, cleanClock, closeClean, cleanTick}
+use Rattle.lictor_fuse.specs.Closed.{closedOf}
 use Rattle.lictor_fuse.specs.Tick.{isAccepted, givenOf}
 use Rattle.claims.specs.Runs.{All, Some, here, later, First, Where, at, past, series, Step, silent, event, andThen, trace}
 use Rattle.claims.specs.Demand3.{begins, closes, limit, StopsWithin}

@@ -11,13 +11,15 @@ use Rattle.lictor_core.specs.declared.verdict.SafetyVerdict.{SafetyVerdict}
 use Rattle.lictor_core.specs.Initial.{emptyTally, newOf, resetOf}
 use Rattle.lictor_settings.specs.Settings.{configOf}
 use Rattle.lictor_stages.specs.Findings.{findingsOf}
-use Rattle.lictor_stages.specs.Verdict.{verdictOf, faultVerdict, eventsOf}
+use Rattle.lictor_stages.specs.Verdict.{verdictOf, eventsOf}
 use Rattle.lictor_tally.specs.History as H
 use Rattle.lictor_tally.specs.History.{Item, recorded, tallyFrom, tallyOf}
 use Rattle.lictor_tally.proofs.History.{history}
 use Rattle.lictor_fuse.specs.declared.decide.Decided.{Decided}
 use Rattle.lictor_fuse.specs.declared.Ticked.{Ticked}
-use Rattle.lictor_fuse.specs.Decide.{chunkTally, closedOf, closeClean, cleanTick, closeFault, faultTick}
+use Rattle.lictor_fuse.specs.CleanTick.{chunkTally, closeClean, cleanTick}
+use Rattle.lictor_fuse.specs.FaultTick.{faultVerdict, closeFault, faultTick}
+use Rattle.lictor_fuse.specs.Closed.{closedOf}
 use Rattle.lictor_fuse.specs.Tick.{isAccepted, givenOf}
 use Rattle.claims.specs.Runs.{Step, silent, event, andThen}
 use Rattle.claims.specs.Calls.{Call, tickAnswer, tripsOf, leftBy}

@@ -9,14 +9,16 @@ use Rattle.lictor_settings.specs.Settings.{checkOf, configOf}
 use Rattle.lictor_guard.specs.Delivery.{deliveredOf}
 use Rattle.lictor_guard.specs.Guard.{bitIf, guardOf}
 use Rattle.lictor_stages.specs.declared.findings.Findings.{Findings}
-use Rattle.lictor_stages.specs.Ingest.{ingestOf, faultMotion}
-use Rattle.lictor_stages.specs.Findings.{findingsOf, machineInput, faultInput}
+use Rattle.lictor_stages.specs.Ingest.{ingestOf}
+use Rattle.lictor_stages.specs.Findings.{findingsOf, machineInput}
 use Rattle.lictor_table.specs.declared.Turn.{Turn}
 use Rattle.lictor_table.specs.Table.{nextOf}
 use Rattle.lictor_table.proofs.Lines.{by-test}
 use Rattle.lictor_fuse.specs.declared.decide.Decided.{Decided}
 use Rattle.lictor_fuse.specs.declared.Ticked.{Ticked}
-use Rattle.lictor_fuse.specs.Decide.{readyOf, cleanTick, faultTick, decideBy, decideOf}
+use Rattle.lictor_fuse.specs.Decide.{decideBy, decideOf}
+use Rattle.lictor_fuse.specs.CleanTick.{readyOf, cleanTick}
+use Rattle.lictor_fuse.specs.FaultTick.{faultMotion, faultInput, faultTick}
 use Rattle.lictor_fuse.specs.Tick.{givenOf, acceptedTick, refusedTick, tickBy, tickOf}
 use Rattle.claims.specs.Runs.{Step, silent, event}
 use Rattle.claims.specs.Calls.{Call, tickAnswer, settingsPass, guardBits, stepBy, stepOf}

@@ -15,7 +15,8 @@ use Rattle.lictor_core.specs.declared.verdict.SafetyVerdict.{SafetyVerdict}
 use Rattle.lictor_core.specs.Codes.{isState}
 use Rattle.lictor_core.specs.Initial.{newOf, resetOf}
 use Rattle.lictor_guard.specs.Delivery.{deliveredOf}
-use Rattle.lictor_stages.specs.Verdict.{eventsOf, noEvents, rejectedOf}
+use Rattle.lictor_stages.specs.Verdict.{eventsOf, rejectedOf}
+use Rattle.lictor_fuse.specs.FaultTick.{noEvents}
 use Rattle.lictor_table.specs.declared.Turn.{Turn}
 use Rattle.lictor_tally.specs.History.{Item, tallyOf}
 use Rattle.lictor_tally.specs.Tally.{isNominal}

@@ -135,6 +135,9 @@ isStop s = leb 4 (stateCode s)
 abbrev pub isState : FuseState → FuseState → Bool
 isState q s = eqb (stateCode q) (stateCode s)
 
+abbrev pub isReason : ReasonCode → ReasonCode → Bool
+isReason q w = eqb (reasonCode q) (reasonCode w)
+
 abbrev pub isPolicy : ActionSource → Bool
 isPolicy s = eqb (sourceCode s) 0
 

@@ -1,7 +1,7 @@
 -- Definitions that the contracts cite.
 pub mod Tick
-pub mod Asked
-pub mod Steps
-pub mod Clock
-pub mod Closing
 pub mod Decide
+pub mod CleanTick
+pub mod FaultTick
+pub mod Closed
+pub mod OneWay

@@ -1,4 +1,5 @@
--- One call with its settings check (01-scope.md, Journal), and one tick (lictor_fuse, specs/Decide) under settings that pass it.
+-- One call with its settings check (01-scope.md, Journal), and one tick (specs/Decide)
+-- under settings that pass it.
 use mathlib.Core.Bool.{Bool, false, cond}
 use mathlib.Core.List.{List}
 use lib.Dec.{eqb}
@@ -22,7 +23,7 @@ use Rattle.lictor_fuse.specs.declared.decide.Decided.{Decided}
 use Rattle.lictor_fuse.specs.Decide.{decideOf}
 use Rattle.lictor_fuse.specs.declared.Ticked.{Ticked}
 
--- ---- one call with settings (01-scope.md, Journal: a host whose settings fail 1 to 4 gets that number, and nothing changes)
+-- 01-scope.md, Journal: a host whose settings fail 1 to 4 gets that number, and nothing changes.
 
 abbrev pub isAccepted : SettingsCheck → Bool
 isAccepted c = eqb (checkNumber c) 0

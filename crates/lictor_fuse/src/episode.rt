@@ -1,6 +1,6 @@
 // The run state before and at the start of an episode (fuse.rs, FuseRt::new and reset).
 ghost use mathlib.Core.Path.{_≡_};
-ghost use Rattle.lictor_core.specs.Initial.{freshControl, freshMotion, freshClock, newOf, resetOf};
+ghost use Rattle.lictor_core.specs.Initial.{emptyTally, freshControl, freshMotion, freshClock, newOf, resetOf};
 use lictor_core::fuse::Clock;
 use lictor_core::fuse::Control;
 use lictor_core::fuse::FuseRt;
@@ -37,13 +37,13 @@ fn fresh_control(s: FuseState) -> Control
 fn fresh_motion() -> Motion
     ensures { λ r. ⌜ r ≡ freshMotion ⌝ }
 {
-    let z = no_row();
+    let zeros = no_row();
     Motion {
-        pos: z,
-        prev_pos: z,
-        vel: z,
+        pos: zeros,
+        prev_pos: zeros,
+        vel: zeros,
         have_prev_pos: false,
-        last_cmd: z,
+        last_cmd: zeros,
     }
 }
 
@@ -59,11 +59,11 @@ fn fresh_clock() -> Clock
     }
 }
 
-// Everything zero, no chunk, no episode.
-pub fn new() -> FuseRt
-    ensures { λ r. ⌜ r ≡ newOf ⌝ }
+// Everything zero, no chunk, in state s.
+fn fresh(s: FuseState) -> FuseRt
+    ensures { λ r. ⌜ r ≡ record { control = freshControl s; motion = freshMotion; clock = freshClock; tally = emptyTally } ⌝ }
 {
-    let control = fresh_control(FuseState::Idle);
+    let control = fresh_control(s);
     let motion = fresh_motion();
     let clock = fresh_clock();
     let tally = lictor_tally::empty();
@@ -75,18 +75,16 @@ pub fn new() -> FuseRt
     }
 }
 
+// No episode yet.
+pub fn new() -> FuseRt
+    ensures { λ r. ⌜ r ≡ newOf ⌝ }
+{
+    fresh(FuseState::Idle)
+}
+
 // Clears everything and arms the fuse.
 pub fn reset(rt: FuseRt) -> FuseRt
     ensures { λ r. ⌜ r ≡ resetOf rt ⌝ }
 {
-    let control = fresh_control(FuseState::Armed);
-    let motion = fresh_motion();
-    let clock = fresh_clock();
-    let tally = lictor_tally::empty();
-    FuseRt {
-        control,
-        motion,
-        clock,
-        tally,
-    }
+    fresh(FuseState::Armed)
 }

@@ -1,8 +1,8 @@
 // One call with settings: their check, and one tick under those that pass it.
-pub mod closing;
-pub mod decide;
-pub mod episode;
-pub mod steps;
+mod clean_tick; // what a clean tick brings to the machine, and what it comes to
+pub mod decide; // one tick
+pub mod episode; // the run state at the start of an episode
+mod fault_tick; // the same of a fault tick
 
 ghost use mathlib.Core.Path.{_≡_};
 ghost use Rattle.lictor_fuse.specs.Tick.{isAccepted, noVerdict, acceptedTick, givenOf, refusedTick, tickBy, tickOf};
@@ -25,7 +25,7 @@ use lictor_settings::check_number;
 use lictor_settings::config;
 use lictor_stages::verdict::disarmed_scores;
 
-// What a call with settings answers: whether they were accepted, and what `decide` gives where they were.
+// What a call with settings answers: their check, and what `decide` gives where they pass it.
 pub struct Ticked {
     pub check: SettingsCheck,
     pub rt: FuseRt,
@@ -74,23 +74,23 @@ pub fn no_verdict() -> SafetyVerdict
 fn refused_tick(c: SettingsCheck, rt: FuseRt) -> Ticked
     ensures { λ r. ⌜ r ≡ refusedTick c rt ⌝ }
 {
-    let v = no_verdict();
+    let verdict = no_verdict();
     Ticked {
         check: c,
         rt,
-        verdict: v,
+        verdict,
     }
 }
 
 fn given(d: Decided) -> Ticked
     ensures { λ r. ⌜ r ≡ givenOf d ⌝ }
 {
-    let rt = d.rt;
-    let v = d.verdict;
+    let after = d.rt;
+    let verdict = d.verdict;
     Ticked {
         check: SettingsCheck::Accepted,
-        rt,
-        verdict: v,
+        rt: after,
+        verdict,
     }
 }
 
@@ -132,8 +132,10 @@ fn tick_by(
     refused_tick(c, rt)
 }
 
-// One call: settings that fail the check answer that, and nothing changes; else one tick under them.
-// All NaNs are one value in this promise: which pattern a NaN has is left open, and nothing else depends on it.
+// One call: settings that fail the check answer that, and nothing changes;
+// else one tick under them.
+// All NaNs are one value in this promise: which pattern a NaN has is left open,
+// and nothing else depends on it.
 pub fn tick(
     s: Settings,
     rt: FuseRt,

@@ -1,5 +1,5 @@
 -- Stage 7 (01-scope.md, One tick; fuse.rs, status_of, source_of, ACTION).
-use mathlib.Core.Bool.{Bool, true, false, not, cond}
+use mathlib.Core.Bool.{true, false, not, cond}
 use mathlib.Core.List.{List}
 use lib.Ieee.{Float}
 use Rattle.lictor_core.specs.declared.envelope.FuseConfig.{FuseConfig}
@@ -21,7 +21,8 @@ use Rattle.lictor_stages.specs.declared.act.Acted.{Acted}
 unfoldable pub statusOf : FuseState → Status
 statusOf s = byState s Q.Nominal Q.Nominal Q.Watching Q.Clamped Q.Braking Q.Held Q.Escalated Q.Fault Q.Terminated
 
--- source_of: Armed and Watching pass the policy's row, Clamped the clamped one, Braking brakes, all others hold
+-- source_of: Armed and Watching pass the policy's row, Clamped the clamped one,
+-- Braking brakes, all others hold
 unfoldable pub sourceOf : FuseState → ActionSource
 sourceOf s = byState s A.Hold A.Policy A.Policy A.Clamped A.Brake A.Hold A.Hold A.Hold A.Hold
 

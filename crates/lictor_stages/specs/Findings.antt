@@ -1,12 +1,11 @@
 -- Stages 2 to 6, up to the state machine (01-scope.md, One tick; fuse.rs, TIER 0 to FSM).
-use mathlib.Core.Bool.{Bool, true, false, not, cond, _&&_, _||_}
+use mathlib.Core.Bool.{Bool, false, cond, _&&_, _||_}
 use mathlib.Core.List.{List}
 use Prim.Native.Nat.{ℕ}
 use lib.Dec.{leb, eqb}
 use lib.Bits.{bitAnd, bitOr}
 use lib.Ieee.{Float, binary64, sub, lt, le}
 use Rattle.fmath.specs.Float.{normOf}
-use Rattle.lictor_core.specs.declared.ack.MaybeAck.the-variants.{NoAck}
 use Rattle.lictor_core.specs.declared.envelope.FuseConfig.{FuseConfig}
 use Rattle.lictor_core.specs.declared.fuse.TickInput.{TickInput}
 use Rattle.lictor_core.specs.declared.fuse.Window.{Window}
@@ -73,17 +72,4 @@ machineInput cfg inp f = record {
   «chunk_boundary» = deliveredOf (inp .chunk);
   «chunk_ok» = f .«chunk_ok»;
   ack = inp .ack;
-}
-
--- what it is asked in a fault tick: the guard's bits, whether a chunk came, and nothing else that the tick brings
-unfoldable pub faultInput : FuseConfig → TickInput → ℕ → FsmInput
-faultInput cfg inp bits = record {
-  trips = bits;
-  predictive = false;
-  warn = false;
-  «soft_clampable» = isProject (cfg .clamp);
-  stopped = false;
-  «chunk_boundary» = deliveredOf (inp .chunk);
-  «chunk_ok» = false;
-  ack = NoAck;
 }

@@ -1,11 +1,9 @@
 -- Stage 1 (01-scope.md, One tick; fuse.rs, INGEST): the position and the velocity that a tick takes.
-use mathlib.Core.Bool.{Bool, true, false, cond, _&&_}
+use mathlib.Core.Bool.{Bool, true, cond}
 use mathlib.Core.List.{List}
 use Prim.Native.Nat.{ℕ, min}
-use lib.Dec.{eqb}
 use lib.ListN.{getD, length}
 use lib.Ieee.{Float, nan, binary64, sub, mul}
-use Rattle.fmath.specs.Float.{allFinite}
 use Rattle.lictor_core.specs.declared.envelope.FuseConfig.{FuseConfig}
 use Rattle.lictor_core.specs.declared.fuse.Motion.{Motion}
 use Rattle.lictor_core.specs.Initial.{zeroFloat}
@@ -46,21 +44,3 @@ ingestOf cfg m hasVel pos vel = record {
   «have_prev_pos» = true;
   «last_cmd» = m .«last_cmd»;
 }
-
--- the length is right and every value finite
-unfoldable pub isFit : FuseConfig → List Float → Bool
-isFit cfg pos = eqb (length pos) (cfg .«pos_dim») && allFinite pos
-
--- a fault tick takes the position alone (01-scope.md, the fault tick)
-unfoldable pub withPos : FuseConfig → Motion → List Float → Motion
-withPos cfg m pos = record {
-  pos = takenRow pos (m .pos) (cfg .«pos_dim»);
-  «prev_pos» = m .«prev_pos»;
-  vel = m .vel;
-  «have_prev_pos» = m .«have_prev_pos»;
-  «last_cmd» = m .«last_cmd»;
-}
-
--- a fault tick's motion: the position is taken if it is fit, and nothing else
-unfoldable pub faultMotion : FuseConfig → Motion → List Float → Motion
-faultMotion cfg m pos = cond (isFit cfg pos) (withPos cfg m pos) m

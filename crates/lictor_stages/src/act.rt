@@ -115,17 +115,17 @@ fn held_still(cfg: FuseConfig, hold: [f64; 8]) -> Acted
 fn enforced(
     cfg: FuseConfig,
     would: ActionSource,
-    m: Motion,
+    motion: Motion,
     hold: [f64; 8],
     policy: [f64; 8],
     clamped: [f64; 8],
 ) -> Acted
-    ensures { λ r. ⌜ r ≡ enforcedOf cfg would m hold policy clamped ⌝ }
+    ensures { λ r. ⌜ r ≡ enforcedOf cfg would motion hold policy clamped ⌝ }
 {
     match would {
         ActionSource::Policy => passed(cfg, ActionSource::Policy, policy),
         ActionSource::Clamped => clamped_row(cfg, clamped),
-        ActionSource::Brake => braked(cfg, m),
+        ActionSource::Brake => braked(cfg, motion),
         ActionSource::Hold => held_still(cfg, hold),
     }
 }
@@ -133,26 +133,26 @@ fn enforced(
 fn by_mode(
     cfg: FuseConfig,
     would: ActionSource,
-    m: Motion,
+    motion: Motion,
     hold: [f64; 8],
     policy: [f64; 8],
     clamped: [f64; 8],
 ) -> Acted
-    ensures { λ r. ⌜ r ≡ byMode cfg would m hold policy clamped ⌝ }
+    ensures { λ r. ⌜ r ≡ byMode cfg would motion hold policy clamped ⌝ }
 {
     let mode = cfg.mode;
     if is_observe(mode) {
         return passed(cfg, would, policy);
     }
-    enforced(cfg, would, m, hold, policy, clamped)
+    enforced(cfg, would, motion, hold, policy, clamped)
 }
 
 // The action of a clean tick that ends in state s.
-pub fn act(cfg: FuseConfig, s: FuseState, m: Motion, hold: [f64; 8], out: Outcome) -> Acted
-    ensures { λ r. ⌜ r ≡ actOf cfg s m hold out ⌝ }
+pub fn act(cfg: FuseConfig, s: FuseState, motion: Motion, hold: [f64; 8], out: Outcome) -> Acted
+    ensures { λ r. ⌜ r ≡ actOf cfg s motion hold out ⌝ }
 {
     let would = source_of(s);
     let policy = out.policy;
     let clamped = out.clamped;
-    by_mode(cfg, would, m, hold, policy, clamped)
+    by_mode(cfg, would, motion, hold, policy, clamped)
 }

@@ -1,7 +1,6 @@
 // Stages 2 to 6, up to the state machine: what the outcome and the motion mean under the settings.
 ghost use mathlib.Core.Path.{_≡_};
-ghost use Rattle.lictor_stages.specs.Findings.{withBrake, maskedOf, warnOf, slowOf, standstillOf, chunkOk, scoredOf, findingsOf, machineInput, faultInput};
-use lictor_core::ack::MaybeAck;
+ghost use Rattle.lictor_stages.specs.Findings.{withBrake, maskedOf, warnOf, slowOf, standstillOf, chunkOk, scoredOf, findingsOf, machineInput};
 use lictor_core::envelope::FuseConfig;
 use lictor_core::envelope::is_project;
 use lictor_core::fuse::TickInput;
@@ -87,22 +86,23 @@ fn is_chunk_ok(boundary: bool, trips: u32) -> bool
 }
 
 // The scores' part: warn, the window with this tick's hit, its hits, whether they are enough.
-fn score(cfg: FuseConfig, sc: Scores, w: Window) -> Scored
-    ensures { λ r. ⌜ r ≡ scoredOf cfg sc w ⌝ }
+fn score(cfg: FuseConfig, sc: Scores, before: Window) -> Scored
+    ensures { λ r. ⌜ r ≡ scoredOf cfg sc before ⌝ }
 {
     let cal = cfg.calib;
     let hit = trip(cal, sc);
     let warn = is_warn(hit, sc.s, cal.tau, cfg.hyst.warn_margin);
-    let window = push(w, hit, cfg.window_mask);
-    let n = hits(window);
+    let window = push(before, hit, cfg.window_mask);
+    let count = hits(window);
     Scored {
         warn,
         window,
-        hits: n,
-        predictive: cfg.hyst.k <= n,
+        hits: count,
+        predictive: cfg.hyst.k <= count,
     }
 }
 
+// All that is found before the state machine runs.
 pub fn find(cfg: FuseConfig, boundary: bool, out: Outcome, w: Window, vel: [f64; 8]) -> Findings
     ensures { λ r. ⌜ r ≡ findingsOf cfg boundary out w vel ⌝ }
 {
@@ -120,43 +120,23 @@ pub fn find(cfg: FuseConfig, boundary: bool, out: Outcome, w: Window, vel: [f64;
 }
 
 // What the state machine is asked in a clean tick.
-pub fn machine_input(cfg: FuseConfig, inp: TickInput, f: Findings) -> FsmInput
-    ensures { λ r. ⌜ r ≡ machineInput cfg inp f ⌝ }
+pub fn machine_input(cfg: FuseConfig, inp: TickInput, found: Findings) -> FsmInput
+    ensures { λ r. ⌜ r ≡ machineInput cfg inp found ⌝ }
 {
     let clamp = cfg.clamp;
     let can = is_project(clamp);
-    let c = inp.chunk;
-    let boundary = delivered(c);
+    let delivery = inp.chunk;
+    let boundary = delivered(delivery);
     let ack = inp.ack;
-    let sc = f.scored;
+    let scored = found.scored;
     FsmInput {
-        trips: f.trips,
-        predictive: sc.predictive,
-        warn: sc.warn,
+        trips: found.trips,
+        predictive: scored.predictive,
+        warn: scored.warn,
         soft_clampable: can,
-        stopped: f.stopped,
+        stopped: found.stopped,
         chunk_boundary: boundary,
-        chunk_ok: f.chunk_ok,
+        chunk_ok: found.chunk_ok,
         ack,
-    }
-}
-
-// And in a fault tick: the guard's bits, and no acknowledgement.
-pub fn fault_input(cfg: FuseConfig, inp: TickInput, bits: u32) -> FsmInput
-    ensures { λ r. ⌜ r ≡ faultInput cfg inp bits ⌝ }
-{
-    let clamp = cfg.clamp;
-    let can = is_project(clamp);
-    let c = inp.chunk;
-    let boundary = delivered(c);
-    FsmInput {
-        trips: bits,
-        predictive: false,
-        warn: false,
-        soft_clampable: can,
-        stopped: false,
-        chunk_boundary: boundary,
-        chunk_ok: false,
-        ack: MaybeAck::NoAck,
     }
 }

@@ -6,7 +6,7 @@ ghost use lib.ListN.{length};
 ghost use lib.Ieee.{binary64, sub, mul};
 ghost use Rattle.lictor_core.specs.Initial.{zeroFloat};
 ghost use Rattle.lictor_core.specs.Rows.{rowTo};
-ghost use Rattle.lictor_stages.specs.Ingest.{placeOf, takenRow, stepRate, ratesRow, stillRow, velocityOf, ingestOf, atRest, isFit, withPos, faultMotion};
+ghost use Rattle.lictor_stages.specs.Ingest.{placeOf, takenRow, stepRate, ratesRow, stillRow, velocityOf, ingestOf, atRest};
 use lictor_core::chunk::MAX_POS;
 use lictor_core::envelope::FuseConfig;
 use lictor_core::fuse::Motion;
@@ -133,33 +133,4 @@ pub fn ingest(cfg: FuseConfig, m: Motion, has_vel: bool, pos: &[f64], vel: &[f64
         have_prev_pos: true,
         last_cmd,
     }
-}
-
-fn is_fit(cfg: FuseConfig, pos: &[f64]) -> bool
-    ensures { λ r. ⌜ r ≡ isFit cfg (now (pos .entry)) ⌝ }
-{
-    if pos.len() == cfg.pos_dim {
-        return fmath::all_finite(pos);
-    }
-    false
-}
-
-fn with_pos(cfg: FuseConfig, m: Motion, pos: &[f64]) -> Motion
-    ensures { λ r. ⌜ r ≡ withPos cfg m (now (pos .entry)) ⌝ }
-{
-    let q = m.pos;
-    let p = taken(pos, q, cfg.pos_dim);
-    let mut r = m;
-    r.pos = p;
-    r
-}
-
-// What a fault tick takes: the position, if its length is right and it is finite.
-pub fn fault_motion(cfg: FuseConfig, m: Motion, pos: &[f64]) -> Motion
-    ensures { λ r. ⌜ r ≡ faultMotion cfg m (now (pos .entry)) ⌝ }
-{
-    if is_fit(cfg, pos) {
-        return with_pos(cfg, m, pos);
-    }
-    m
 }

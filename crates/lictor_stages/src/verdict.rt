@@ -1,9 +1,7 @@
-// The verdict of a tick, and what the tally is told beside it.
+// The verdict of a clean tick, and what the tally is told beside it.
 ghost use mathlib.Core.Path.{_≡_};
-ghost use lib.Dec.{eqb};
-ghost use Rattle.lictor_core.specs.Codes.{stateCode, reasonCode};
 ghost use Rattle.lictor_core.specs.Initial.{zeros};
-ghost use Rattle.lictor_stages.specs.Verdict.{liveValid, scoresOf, disarmedScores, actionDim, enteredOf, handoffOf, hasAck, consumedFlag, verdictOf, faultVerdict, eventsOf, noEvents, rejectedOf};
+ghost use Rattle.lictor_stages.specs.Verdict.{liveValid, scoresOf, disarmedScores, actionDim, enteredOf, handoffOf, hasAck, consumedFlag, verdictOf, eventsOf, rejectedOf};
 use crate::act::Acted;
 use crate::act::status_of;
 use crate::findings::Findings;
@@ -12,22 +10,29 @@ use lictor_core::chunk::MAX_D;
 use lictor_core::envelope::Calibration;
 use lictor_core::envelope::FuseConfig;
 use lictor_core::fuse::Control;
+use lictor_core::fuse::FuseRt;
+use lictor_core::fuse::Motion;
 use lictor_core::fuse::TickInput;
 use lictor_core::num::least;
 use lictor_core::outcome::Outcome;
 use lictor_core::reason::ReasonCode;
-use lictor_core::reason::reason_code;
+use lictor_core::reason::is_reason;
 use lictor_core::scores::Scores;
 use lictor_core::state::FuseState;
-use lictor_core::state::state_code;
-use lictor_core::verdict::ActionSource;
+use lictor_core::state::is_state;
 use lictor_core::verdict::MaybeHandoff;
 use lictor_core::verdict::SafetyVerdict;
 use lictor_core::verdict::TIER0_HARD;
 use lictor_core::verdict::any;
-use lictor_detect::window::hits;
 use lictor_table::Turn;
 use lictor_tally::TickEvents;
+
+// What a tick has come to after the machine: where the arm is, what was found, and the turn.
+pub struct Stepped {
+    pub motion: Motion,
+    pub findings: Findings,
+    pub turn: Turn,
+}
 
 // Without a calibration no feature is computed.
 fn live_valid(mask: u32, valid: u32) -> u32
@@ -69,27 +74,22 @@ pub fn disarmed_scores() -> Scores
     }
 }
 
-fn action_dim(cfg: FuseConfig) -> u16
+// The components that an action can have.
+pub fn action_dim(cfg: FuseConfig) -> u16
     ensures { λ r. ⌜ r ≡ actionDim cfg ⌝ }
 {
     let n = least(cfg.dim, MAX_D);
     n as u16
 }
 
-fn is_code(s: FuseState, k: u8) -> bool
-    ensures { λ r. ⌜ r ≡ eqb k (stateCode s) ⌝ }
+// Whether state q was entered in this tick.
+fn entered(q: FuseState, from: FuseState, s: FuseState) -> bool
+    ensures { λ r. ⌜ r ≡ enteredOf q from s ⌝ }
 {
-    k == state_code(s)
-}
-
-// Whether the state with code k was entered in this tick.
-fn entered(k: u8, from: FuseState, s: FuseState) -> bool
-    ensures { λ r. ⌜ r ≡ enteredOf k from s ⌝ }
-{
-    if is_code(from, k) {
+    if is_state(q, from) {
         return false;
     }
-    is_code(s, k)
+    is_state(q, s)
 }
 
 fn handoff_of(begun: bool, seq: u32) -> MaybeHandoff
@@ -111,124 +111,72 @@ fn has_ack(a: MaybeAck) -> bool
     }
 }
 
-fn is_reason(w: ReasonCode, k: u8) -> bool
-    ensures { λ r. ⌜ r ≡ eqb k (reasonCode w) ⌝ }
-{
-    k == reason_code(w)
-}
-
 // An acknowledgement came, and the reason is RearmedAck, TerminatedAbort or TerminatedRetune.
-fn consumed(a: MaybeAck, w: ReasonCode) -> bool
-    ensures { λ r. ⌜ r ≡ consumedFlag a w ⌝ }
+fn consumed(ack: MaybeAck, reason: ReasonCode) -> bool
+    ensures { λ r. ⌜ r ≡ consumedFlag ack reason ⌝ }
 {
-    if has_ack(a) {
-        if is_reason(w, 23) {
+    if has_ack(ack) {
+        if is_reason(ReasonCode::RearmedAck, reason) {
             return true;
         }
-        if is_reason(w, 24) {
+        if is_reason(ReasonCode::TerminatedAbort, reason) {
             return true;
         }
-        return is_reason(w, 26);
+        return is_reason(ReasonCode::TerminatedRetune, reason);
     }
     false
 }
 
-// The verdict of a clean tick that started from `from` with sequence number `seq`.
+// The verdict of a clean tick that started from the run state `rt`.
 pub fn verdict_of(
     cfg: FuseConfig,
-    seq: u32,
-    from: FuseState,
+    rt: FuseRt,
     inp: TickInput,
     out: Outcome,
-    f: Findings,
-    turn: Turn,
-    a: Acted,
+    done: Stepped,
+    acted: Acted,
 ) -> SafetyVerdict
-    ensures { λ r. ⌜ r ≡ verdictOf cfg seq from inp out f turn a ⌝ }
+    ensures { λ r. ⌜ r ≡ verdictOf cfg (rt .clock .seq) (rt .control .state) inp out (done .findings) (done .turn) acted ⌝ }
 {
+    let before = rt.control;
+    let from = before.state;
+    let found = done.findings;
+    let turn = done.turn;
     let state = turn.state;
     let reason = turn.reason;
-    let rt = turn.rt;
-    let w = rt.window;
+    let after = turn.rt;
     let ack = inp.ack;
-    let cal = cfg.calib;
-    let sc = out.scores;
-    let action = a.action;
-    let src = a.src;
-    let found = f.scored;
+    let calib = cfg.calib;
+    let given = out.scores;
+    let action = acted.action;
+    let src = acted.src;
     let status = status_of(state);
     let dim = action_dim(cfg);
-    let scores = scores_of(cal, sc);
-    let begun = entered(6, from, state);
-    let handoff = handoff_of(begun, rt.handoff_seq);
+    let scores = scores_of(calib, given);
+    let begun = entered(FuseState::Escalated, from, state);
+    let handoff = handoff_of(begun, after.handoff_seq);
     let taken = consumed(ack, reason);
     SafetyVerdict {
-        seq,
+        seq: rt.clock.seq,
         t: inp.t,
         status,
         state,
         prev_state: from,
-        trips: f.trips | turn.extra,
+        trips: found.trips | turn.extra,
         action,
         action_dim: dim,
         action_src: src,
-        substituted: a.substituted,
+        substituted: acted.substituted,
         clamped_dims: out.clamped_dims,
         scores,
-        tau: cal.tau,
-        window: w.bits,
-        window_hits: found.hits,
+        tau: calib.tau,
+        window: after.window.bits,
+        window_hits: found.scored.hits,
         brake_margin: out.margin,
         reason,
         handoff_seq: handoff,
         ack_consumed: taken,
-        violation_reached_env: a.violation,
-    }
-}
-
-// The verdict of a fault tick: the guard's bits, the hold action in both modes, no scores, no margin.
-pub fn fault_verdict(
-    cfg: FuseConfig,
-    seq: u32,
-    from: FuseState,
-    inp: TickInput,
-    bits: u32,
-    turn: Turn,
-    action: [f64; 8],
-) -> SafetyVerdict
-    ensures { λ r. ⌜ r ≡ faultVerdict cfg seq from inp bits turn action ⌝ }
-{
-    let state = turn.state;
-    let reason = turn.reason;
-    let rt = turn.rt;
-    let w = rt.window;
-    let cal = cfg.calib;
-    let status = status_of(state);
-    let dim = action_dim(cfg);
-    let scores = disarmed_scores();
-    let n = hits(w);
-    let margin = fmath::nan();
-    SafetyVerdict {
-        seq,
-        t: inp.t,
-        status,
-        state,
-        prev_state: from,
-        trips: bits | turn.extra,
-        action,
-        action_dim: dim,
-        action_src: ActionSource::Hold,
-        substituted: true,
-        clamped_dims: 0,
-        scores,
-        tau: cal.tau,
-        window: w.bits,
-        window_hits: n,
-        brake_margin: margin,
-        reason,
-        handoff_seq: MaybeHandoff::NoHandoff,
-        ack_consumed: false,
-        violation_reached_env: false,
+        violation_reached_env: acted.violation,
     }
 }
 
@@ -239,8 +187,8 @@ pub fn events_of(cal: Calibration, sc: Scores, before: Control, turn: Turn) -> T
     let from = before.state;
     let state = turn.state;
     let after = turn.rt;
-    let hold = entered(5, from, state);
-    let escalated = entered(6, from, state);
+    let hold = entered(FuseState::Held, from, state);
+    let escalated = entered(FuseState::Escalated, from, state);
     let valid = live_valid(cal.mask, sc.valid);
     TickEvents {
         entered_hold: hold,
@@ -248,19 +196,6 @@ pub fn events_of(cal: Calibration, sc: Scores, before: Control, turn: Turn) -> T
         rearmed: after.rearms != before.rearms,
         clamped: after.clamps != before.clamps,
         live_z: cal.mask & valid,
-    }
-}
-
-// TickEvents::default.
-pub fn no_events() -> TickEvents
-    ensures { λ r. ⌜ r ≡ noEvents ⌝ }
-{
-    TickEvents {
-        entered_hold: false,
-        entered_escalated: false,
-        rearmed: false,
-        clamped: false,
-        live_z: 0,
     }
 }
 

@@ -18,10 +18,13 @@ use Rattle.lictor_table.specs.Table.{firstOf, table, nextFrom, nextOf}
 use Rattle.lictor_tally.specs.History.{recorded}
 use Rattle.lictor_tally.specs.Tally.{count, bitOf, countBit, eachFrom, countBits, first, firstReason, mostAt, mostLive, recordOf, recordChunk}
 use Rattle.lictor_stages.specs.Act.{statusOf, sourceOf, cutRow, passedOf, insteadOf, enforcedOf, byMode, actOf}
-use Rattle.lictor_stages.specs.Ingest.{takenRow, stepRate, ratesRow, stillRow, velocityOf, ingestOf, isFit, withPos, faultMotion}
-use Rattle.lictor_stages.specs.Findings.{withBrake, maskedOf, warnOf, slowOf, standstillOf, chunkOk, scoredOf, findingsOf, machineInput, faultInput}
-use Rattle.lictor_stages.specs.Verdict.{liveValid, scoresOf, disarmedScores, actionDim, enteredOf, handoffOf, hasAck, consumedFlag, verdictOf, faultVerdict, eventsOf, noEvents, rejectedOf}
-use Rattle.lictor_fuse.specs.Decide.{closedOf, nextChunk, cleanClock, readyOf, chunkTally, closeClean, cleanTick, faultClock, closeFault, faultTick, decideBy, decideOf}
+use Rattle.lictor_stages.specs.Ingest.{takenRow, stepRate, ratesRow, stillRow, velocityOf, ingestOf}
+use Rattle.lictor_stages.specs.Findings.{withBrake, maskedOf, warnOf, slowOf, standstillOf, chunkOk, scoredOf, findingsOf, machineInput}
+use Rattle.lictor_stages.specs.Verdict.{liveValid, scoresOf, disarmedScores, actionDim, enteredOf, handoffOf, hasAck, consumedFlag, verdictOf, eventsOf, rejectedOf}
+use Rattle.lictor_fuse.specs.Decide.{decideBy, decideOf}
+use Rattle.lictor_fuse.specs.CleanTick.{nextChunk, cleanClock, readyOf, chunkTally, closeClean, cleanTick}
+use Rattle.lictor_fuse.specs.FaultTick.{isFit, withPos, faultMotion, faultInput, faultVerdict, noEvents, faultClock, closeFault, faultTick}
+use Rattle.lictor_fuse.specs.Closed.{closedOf}
 use Rattle.lictor_fuse.specs.Tick.{noVerdict, refusedTick, givenOf, acceptedTick, tickBy, tickOf}
 use Rattle.report.specs.Lines.{marginText, tickText, stoppedOf, endText, refusedText}
 use Rattle.margin.specs.Margin.{nearestWhole, marginOf}

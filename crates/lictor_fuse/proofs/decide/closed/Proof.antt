@@ -1,4 +1,4 @@
-use Rattle.lictor_fuse.specs.Decide.{closedOf}
+use Rattle.lictor_fuse.specs.Closed.{closedOf}
 use borrow.Author.Needs.{needs}
 use Rattle.lictor_fuse.proofs.decide.closed.Statement.{statement}
 use Rattle.lictor_fuse.proofs.decide.closed.Tie as tie

@@ -16,7 +16,7 @@ closed-requires : tie.Need-closed-requires
 closed-requires c κs = search needs
 
 returns : tie.Need-returns
-returns c = rw (c .closed .ensures, c .before .close .ensures, c .before .before .before .stepped .ensures, c .before .before .before .before .before .before .ask .ensures) (one-way _ _ _ _ _ _ _)
+returns c = rw (c .closed .ensures, c .before .close .ensures, c .before .before .before .before .before .stepped .ensures, c .before .before .before .before .before .before .ask .ensures) (one-way _ _ _ _ _ _ _)
 
 pub decide-by-spec : {M : Type 1} → statement M
 decide-by-spec = tie.close (tie.spec ask-requires stepped-requires close-requires closed-requires returns)

@@ -3,28 +3,12 @@ use borrow.Author.Needs.{needs}
 use Rattle.lictor_fuse.proofs.episode.new.Statement.{statement}
 use Rattle.lictor_fuse.proofs.episode.new.Tie as tie
 
-fresh-control-requires : tie.Need-fresh-control-requires
-fresh-control-requires c κs = search needs
-
-fresh-motion-requires : tie.Need-fresh-motion-requires
-fresh-motion-requires c κs = search needs
-
-fresh-clock-requires : tie.Need-fresh-clock-requires
-fresh-clock-requires c κs = search needs
-
-empty-requires : tie.Need-empty-requires
-empty-requires c κs = search needs
+fresh-requires : tie.Need-fresh-requires
+fresh-requires c κs = search needs
 
 returns : tie.Need-returns
 unfolding newOf
-returns c = rw (c .empty .ensures, c .before .fresh-clock .ensures, c .before .before .fresh-motion .ensures, c .before .before .before .fresh-control .ensures)
+returns c = rw (c .fresh .ensures)
 
 pub new-spec : {M : Type 1} → statement M
-new-spec =
-    tie.close
-    (tie.spec
-    fresh-control-requires
-    fresh-motion-requires
-    fresh-clock-requires
-    empty-requires
-    returns)
+new-spec = tie.close (tie.spec fresh-requires returns)
