@@ -1,7 +1,7 @@
 use Rattle.lictor_table.specs.Helpers.{latchHold}
 use borrow.Author.Needs.{needs}
-use Rattle.lictor_fsm.proofs.latch_hold.Statement.{statement}
-use Rattle.lictor_fsm.proofs.latch_hold.Tie as tie
+use Rattle.lictor_fsm.proofs.hold.latch_hold.Statement.{statement}
+use Rattle.lictor_fsm.proofs.hold.latch_hold.Tie as tie
 
 least-requires : tie.Need-least-requires
 least-requires c κs = search needs

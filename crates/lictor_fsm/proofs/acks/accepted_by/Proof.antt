@@ -1,8 +1,8 @@
 use Rattle.lictor_core.proofs.Branch.{branches}
 use Rattle.lictor_table.specs.Helpers.{acceptedBy}
 use borrow.Author.Needs.{needs}
-use Rattle.lictor_fsm.proofs.escalated.accepted_by.Statement.{statement}
-use Rattle.lictor_fsm.proofs.escalated.accepted_by.Tie as tie
+use Rattle.lictor_fsm.proofs.acks.accepted_by.Statement.{statement}
+use Rattle.lictor_fsm.proofs.acks.accepted_by.Tie as tie
 
 cast-slot : tie.Need-cast-slot
 cast-slot c = search needs

@@ -1,7 +1,7 @@
 use Rattle.lictor_table.specs.Rows.{rearmAck}
 use borrow.Author.Needs.{needs}
-use Rattle.lictor_fsm.proofs.escalated.rearm_ack.Statement.{statement}
-use Rattle.lictor_fsm.proofs.escalated.rearm_ack.Tie as tie
+use Rattle.lictor_fsm.proofs.acks.rearm_ack.Statement.{statement}
+use Rattle.lictor_fsm.proofs.acks.rearm_ack.Tie as tie
 
 consume-nonce-requires : tie.Need-consume-nonce-requires
 consume-nonce-requires c κs = search needs

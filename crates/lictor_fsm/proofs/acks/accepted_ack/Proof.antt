@@ -1,8 +1,8 @@
 use Rattle.lictor_core.proofs.Branch.{branches}
 use Rattle.lictor_table.specs.Helpers.{acceptedAck}
 use borrow.Author.Needs.{needs}
-use Rattle.lictor_fsm.proofs.escalated.accepted_ack.Statement.{statement}
-use Rattle.lictor_fsm.proofs.escalated.accepted_ack.Tie as tie
+use Rattle.lictor_fsm.proofs.acks.accepted_ack.Statement.{statement}
+use Rattle.lictor_fsm.proofs.acks.accepted_ack.Tie as tie
 
 enum-told : tie.Need-enum-told
 enum-told c = search needs

@@ -5,8 +5,8 @@ use native.Mathlib.Omega.{arith}
 use Rattle.lictor_core.proofs.Rows.{row-start, row-took, row-left, row-done}
 use Rattle.lictor_table.specs.Helpers.{latchedOf}
 use borrow.Author.Needs.{needs}
-use Rattle.lictor_fsm.proofs.latched.Statement.{statement}
-use Rattle.lictor_fsm.proofs.latched.Tie as tie
+use Rattle.lictor_fsm.proofs.hold.latched.Statement.{statement}
+use Rattle.lictor_fsm.proofs.hold.latched.Tie as tie
 
 abbrev Inv-loop : tie.InvT-loop
 Inv-loop n pos lo hi h₀ c₀ h c = (c ≤ 8) × (h ≡ latchedOf pos lo hi h₀ (min c n))
@@ -39,14 +39,14 @@ array-read-clamp-3 c = search needs
 clamp-requires : tie.Need-clamp-requires Inv-loop μ-loop
 clamp-requires c κs = search needs
 
-mul-h : tie.Need-mul-h Inv-loop μ-loop
-mul-h c = search needs
+mul-out : tie.Need-mul-out Inv-loop μ-loop
+mul-out c = search needs
 
-array-write-h : tie.Need-array-write-h Inv-loop μ-loop
-array-write-h c = search needs
+array-write-out : tie.Need-array-write-out Inv-loop μ-loop
+array-write-out c = search needs
 
-add-c : tie.Need-add-c Inv-loop μ-loop
-add-c c = search needs
+add-at : tie.Need-add-at Inv-loop μ-loop
+add-at c = search needs
 
 loop-less : tie.Need-loop-less Inv-loop μ-loop
 loop-less c = search needs
@@ -75,9 +75,9 @@ latched-spec =
     mul-clamp-3
     array-read-clamp-3
     clamp-requires
-    mul-h
-    array-write-h
-    add-c
+    mul-out
+    array-write-out
+    add-at
     loop-less
     loop-again
     returns)

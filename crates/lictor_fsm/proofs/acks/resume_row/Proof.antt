@@ -1,7 +1,7 @@
 use Rattle.lictor_table.specs.Rows.{resumeRow}
 use borrow.Author.Needs.{needs}
-use Rattle.lictor_fsm.proofs.escalated.resume_row.Statement.{statement}
-use Rattle.lictor_fsm.proofs.escalated.resume_row.Tie as tie
+use Rattle.lictor_fsm.proofs.acks.resume_row.Statement.{statement}
+use Rattle.lictor_fsm.proofs.acks.resume_row.Tie as tie
 
 rearm-ack-requires : tie.Need-rearm-ack-requires
 rearm-ack-requires c κs = search needs

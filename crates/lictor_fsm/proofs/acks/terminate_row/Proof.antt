@@ -1,7 +1,7 @@
 use Rattle.lictor_table.specs.Rows.{terminateRow}
 use borrow.Author.Needs.{needs}
-use Rattle.lictor_fsm.proofs.escalated.terminate_row.Statement.{statement}
-use Rattle.lictor_fsm.proofs.escalated.terminate_row.Tie as tie
+use Rattle.lictor_fsm.proofs.acks.terminate_row.Statement.{statement}
+use Rattle.lictor_fsm.proofs.acks.terminate_row.Tie as tie
 
 consume-nonce-requires : tie.Need-consume-nonce-requires
 consume-nonce-requires c κs = search needs
