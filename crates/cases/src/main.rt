@@ -20,9 +20,9 @@ use lictor_core::envelope::Settings;
 use lictor_core::fuse::FuseRt;
 use lictor_core::fuse::TickInput;
 use lictor_core::outcome::Outcome;
+use lictor_core::rows::no_row;
 use lictor_core::scores::Scores;
 use lictor_core::verdict::SafetyVerdict;
-use lictor_core::zero::no_row;
 use text::Line;
 
 // ---- what a tick is given

@@ -23,12 +23,12 @@ use Rattle.lictor_core.specs.declared.state.FuseState.the-variants.{Idle, Armed
 use Rattle.lictor_core.specs.Codes.{stateCode, isState, modeOf, rearmOf}
 use Rattle.lictor_core.specs.Initial.{zeroFloat, zeros, freshControl, freshMotion, freshClock, resetOf}
 use Rattle.lictor_core.specs.Masks.{anyOf, faultBits}
-use Rattle.lictor_core.specs.Rows.{rowTo}
+use Rattle.lictor_core.specs.Rows.{rowTo, takenRow}
 use Rattle.lictor_settings.specs.Settings.{badCode, badSize, badFloat, anyBelow, crossedOf, badBox, settingsTable, firstRow, checkOf, configOf}
-use Rattle.lictor_core.proofs.Rows.{row-length}
+use Rattle.lictor_core.proofs.RowLaws.{row-length}
 use Rattle.lictor_guard.specs.Delivery.{deliveredOf, sizesBad, placeBad, headBad, deliveryBad}
 use Rattle.lictor_guard.specs.Guard.{nonFinite, lengthsOf, shapeBad, clockBad, schemaBad, bitIf, guardOf}
-use Rattle.lictor_stages.specs.Ingest.{takenRow, velocityOf, ingestOf}
+use Rattle.lictor_stages.specs.Ingest.{velocityOf, ingestOf}
 use Rattle.lictor_stages.specs.Findings.{withBrake, maskedOf, slowOf, standstillOf, findingsOf, machineInput}
 use Rattle.lictor_stages.specs.Verdict.{verdictOf}
 use Rattle.lictor_table.specs.declared.FsmInput.{FsmInput}

@@ -5,7 +5,7 @@ use Rattle.fmath.specs.Root.{rootIn, wholeRoot, rootOf}
 use Rattle.lictor_core.specs.Codes.{modeOf, kindOf, clampModeOf, rearmOf, decisionOf}
 use Rattle.lictor_core.specs.Initial.{zeros, emptyTally, freshControl, freshMotion, freshClock, newOf, resetOf}
 use Rattle.lictor_core.specs.Masks.{anyOf}
-use Rattle.lictor_core.specs.Rows.{rowTo}
+use Rattle.lictor_core.specs.Rows.{rowTo, takenRow}
 use Rattle.lictor_settings.specs.Settings.{badCode, badSize, badFloat, anyBelow, crossedOf, badBox, settingsTable, firstRow, checkOf, configOf}
 use Rattle.lictor_detect.specs.Brake.{component, boxedComponent, boxedRow, scaledComponent, scaledRow, boxedAction, scaledAction, eps, brakeFactor, brakeAction, holdAction}
 use Rattle.lictor_detect.specs.Window.{hitBit, pushHit, hitsOf, tripOf}
@@ -17,7 +17,7 @@ use Rattle.lictor_table.specs.Rows.{faultRow, rearmAck, resumeRow, terminateRow
 use Rattle.lictor_table.specs.Table.{firstOf, table, nextFrom, nextOf}
 use Rattle.lictor_tally.specs.History.{recorded}
 use Rattle.lictor_tally.specs.Tally.{count, bitOf, countBit, eachFrom, countBits, first, firstReason, mostAt, mostLive, recordOf, recordChunk}
-use Rattle.lictor_stages.specs.Ingest.{takenRow, stepRate, ratesRow, stillRow, velocityOf, ingestOf, isFit, withPos, faultMotion}
+use Rattle.lictor_stages.specs.Ingest.{stepRate, ratesRow, stillRow, velocityOf, ingestOf, isFit, withPos, faultMotion}
 use Rattle.lictor_stages.specs.Findings.{withBrake, maskedOf, warnOf, slowOf, standstillOf, chunkOk, scoredOf, findingsOf, machineInput, faultInput}
 use Rattle.lictor_stages.specs.Act.{statusOf, sourceOf, cutRow, passedOf, insteadOf, enforcedOf, byMode, actOf}
 use Rattle.lictor_stages.specs.Verdict.{liveValid, scoresOf, disarmedScores, actionDim, enteredOf, handoffOf, hasAck, consumedFlag, verdictOf, faultVerdict, eventsOf, noEvents, rejectedOf}

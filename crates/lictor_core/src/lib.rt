@@ -7,7 +7,7 @@ pub mod fuse; // fuse.rs: the run state and a tick's numbers
 pub mod num; // saturating and wrapping counts
 pub mod outcome; // what the detectors found
 pub mod reason; // reason.rs
-pub mod zero; // rows of zeros
+pub mod rows; // rows of eight components: zeros, and copy_row of fuse.rs
 pub mod scores; // scores.rs
 pub mod state; // state.rs
 pub mod tally; // tally.rs

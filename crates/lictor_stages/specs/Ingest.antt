@@ -1,5 +1,5 @@
 -- Stage 1 (01-scope.md, One tick; fuse.rs, INGEST): the position and the velocity that a tick takes.
-use mathlib.Core.Bool.{Bool, true, false, cond, _&&_}
+use mathlib.Core.Bool.{Bool, true, cond, _&&_}
 use mathlib.Core.List.{List}
 use Prim.Native.Nat.{ℕ, min}
 use lib.Dec.{eqb}
@@ -9,14 +9,7 @@ use Rattle.fmath.specs.Float.{allFinite}
 use Rattle.lictor_core.specs.declared.envelope.FuseConfig.{FuseConfig}
 use Rattle.lictor_core.specs.declared.fuse.Motion.{Motion}
 use Rattle.lictor_core.specs.Initial.{zeroFloat}
-use Rattle.lictor_core.specs.Rows.{rowTo}
-
-abbrev pub placeOf : List Float → ℕ → Float
-placeOf s c = getD s c nan
-
--- copy_row: `old` with its first n places from s, as far as s goes and there is room
-unfoldable pub takenRow : List Float → List Float → ℕ → List Float
-takenRow s old n = rowTo (placeOf s) old (min (min n 8) (length s))
+use Rattle.lictor_core.specs.Rows.{rowTo, takenRow}
 
 -- (position - position taken last) * inv_dt, a rounding each
 unfoldable pub stepRate : List Float → List Float → Float → ℕ → Float

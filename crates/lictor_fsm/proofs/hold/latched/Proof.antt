@@ -1,8 +1,8 @@
 use Prim.Native.Nat.{_≤_, _-_, min}
-use mathlib.Core.Path.{_≡_, _∙_}
+use mathlib.Core.Path.{_≡_}
 use mathlib.Core.Logic.{⊎-elim}
 use native.Mathlib.Omega.{arith}
-use Rattle.lictor_core.proofs.Rows.{row-start, row-took, row-left, row-done}
+use Rattle.lictor_core.proofs.RowLaws.{row-start, row-took, row-left, row-done}
 use Rattle.lictor_table.specs.Helpers.{latchedOf}
 use borrow.Author.Needs.{needs}
 use Rattle.lictor_fsm.proofs.hold.latched.Statement.{statement}
@@ -55,11 +55,11 @@ loop-again : tie.Need-loop-again Inv-loop μ-loop
 unfolding latchedOf
 loop-again c =
     let kept = c .before .before .loop .inv .1 in
-    (search needs, ⊎-elim (λ w. w .2 ∙ row-took _ _ _ _ _ _ kept (w .0 .taken) (w .1 .ensures)) (λ w. w .1 ∙ row-left _ _ _ _ _ kept (w .0 .left)) (c .if1 .came))
+    (search needs, ⊎-elim (λ w. row-took _ _ kept (w .0 .taken) (w .1 .ensures) (w .2)) (λ w. row-left _ _ kept (w .0 .left) (w .1)) (c .if1 .came))
 
 returns : tie.Need-returns Inv-loop μ-loop
 unfolding latchedOf
-returns c = row-done _ _ _ _ _ (c .before .loop .inv .1) (omega arith)
+returns c = row-done _ _ (c .before .loop .inv .1) (omega arith)
 
 pub latched-spec : {M : Type 1} → statement M
 latched-spec =

@@ -1,5 +1,5 @@
 -- Laws of `rowTo`: how a loop makes it place by place, and what is at each place of it.
-use mathlib.Core.Path.{_≡_, refl, sym, _∙_, ap}
+use mathlib.Core.Path.{_≡_, refl, _∙_, ap}
 use mathlib.Core.List.{List}
 use Prim.Native.Nat.{ℕ, zero, suc, _+_, _<_, _≤_, min}
 use native.Mathlib.Numerals.{add-one}
@@ -10,27 +10,28 @@ use lib.Seq.{getD-set-same, getD-set-other}
 use lib.Ieee.{Float}
 use Rattle.lictor_core.specs.Rows.{rowTo}
 
-pub row-none : (f : ℕ → Float) (h : List Float) → h ≡ rowTo f h 0
+row-more : (f : ℕ → Float) (h : List Float) (k : ℕ) → set (rowTo f h k) k (f k) ≡ rowTo f h (k + 1)
 unfolding rowTo
-row-none f h = refl
+row-more f h k = rw add-one
 
-pub row-more : (f : ℕ → Float) (h g : List Float) (k : ℕ) (v : Float) → g ≡ rowTo f h k → v ≡ f k → set g k v ≡ rowTo f h (k + 1)
-unfolding rowTo
-row-more f h g k v p q = rw (add-one, p, q)
-
--- the same for a loop over more places than are given, which leaves those from n on as they are
+-- A loop that goes over all places and gives those below n: `g` is the row before a round, `r` after it.
 pub row-start : (f : ℕ → Float) (h : List Float) (n : ℕ) → h ≡ rowTo f h (min 0 n)
-row-start f h n = let a : 0 ≡ min 0 n = omega arith in row-none f h ∙ ap (rowTo f h) a
+unfolding rowTo
+row-start f h n = let a : 0 ≡ min 0 n = omega arith in ap (rowTo f h) a
 
-pub row-took : (f : ℕ → Float) (h g : List Float) (n k : ℕ) (v : Float) → g ≡ rowTo f h (min k n) → k < n → v ≡ f k → set g k v ≡ rowTo f h (min (k + 1) n)
-row-took f h g n k v p l q =
-    let a : min k n ≡ k = omega arith in let b : min (k + 1) n ≡ k + 1 = omega arith in row-more f h g k v (p ∙ ap (rowTo f h) a) q ∙ sym (ap (rowTo f h) b)
+-- place k is given
+pub row-took : (f : ℕ → Float) (h : List Float) {g r : List Float} {n k : ℕ} {v : Float} → g ≡ rowTo f h (min k n) → k < n → v ≡ f k → r ≡ set g k v → r ≡ rowTo f h (min (k + 1) n)
+row-took f h {g} {r} {n} {k} {v} p l q e =
+    let a : min k n ≡ k = omega arith in
+    let b : k + 1 ≡ min (k + 1) n = omega arith in
+    e ∙ ap (set g k) q ∙ ap (λ x. set x k (f k)) (p ∙ ap (rowTo f h) a) ∙ row-more f h k ∙ ap (rowTo f h) b
 
-pub row-left : (f : ℕ → Float) (h g : List Float) (n k : ℕ) → g ≡ rowTo f h (min k n) → n ≤ k → g ≡ rowTo f h (min (k + 1) n)
-row-left f h g n k p l = let a : min k n ≡ min (k + 1) n = omega arith in p ∙ ap (rowTo f h) a
+-- place k is left
+pub row-left : (f : ℕ → Float) (h : List Float) {g r : List Float} {n k : ℕ} → g ≡ rowTo f h (min k n) → n ≤ k → r ≡ g → r ≡ rowTo f h (min (k + 1) n)
+row-left f h {g} {r} {n} {k} p l e = let a : min k n ≡ min (k + 1) n = omega arith in e ∙ p ∙ ap (rowTo f h) a
 
-pub row-done : (f : ℕ → Float) (h g : List Float) (n k : ℕ) → g ≡ rowTo f h (min k n) → n ≤ k → g ≡ rowTo f h n
-row-done f h g n k p l = let a : min k n ≡ n = omega arith in p ∙ ap (rowTo f h) a
+pub row-done : (f : ℕ → Float) (h : List Float) {g : List Float} {n k : ℕ} → g ≡ rowTo f h (min k n) → n ≤ k → g ≡ rowTo f h n
+row-done f h {g} {n} {k} p l = let a : min k n ≡ n = omega arith in p ∙ ap (rowTo f h) a
 
 pub row-length : (f : ℕ → Float) (h : List Float) (n : ℕ) → length (rowTo f h n) ≡ length h
 unfolding rowTo

@@ -1,8 +1,8 @@
 use Rattle.lictor_core.specs.Initial.{zeros}
 use lib.Ieee.{ofBits}
 use borrow.Author.Needs.{needs}
-use Rattle.lictor_core.proofs.zero.no_row.Statement.{statement}
-use Rattle.lictor_core.proofs.zero.no_row.Tie as tie
+use Rattle.lictor_core.proofs.rows.no_row.Statement.{statement}
+use Rattle.lictor_core.proofs.rows.no_row.Tie as tie
 
 returns : tie.Need-returns
 unfolding zeros ofBits

@@ -1,7 +1,7 @@
-use Rattle.lictor_stages.specs.Ingest.{takenRow}
+use Rattle.lictor_core.specs.Rows.{takenRow}
 use borrow.Author.Needs.{needs}
-use Rattle.lictor_stages.proofs.ingest.taken.Statement.{statement}
-use Rattle.lictor_stages.proofs.ingest.taken.Tie as tie
+use Rattle.lictor_core.proofs.rows.taken.Statement.{statement}
+use Rattle.lictor_core.proofs.rows.taken.Tie as tie
 
 least-requires : tie.Need-least-requires
 least-requires c κs = search needs
