@@ -24,7 +24,8 @@ use Rattle.lictor_core.specs.Codes.{stateCode, isState, modeOf, rearmOf}
 use Rattle.lictor_core.specs.Initial.{zeroFloat, zeros, freshControl, freshMotion, freshClock, resetOf}
 use Rattle.lictor_core.specs.Masks.{anyOf, faultBits}
 use Rattle.lictor_core.specs.Rows.{rowTo, takenRow}
-use Rattle.lictor_settings.specs.Settings.{badCode, badSize, badFloat, anyBelow, crossedOf, badBox, settingsTable, firstRow, checkOf, configOf}
+use Rattle.lictor_core.specs.FirstThat.{firstThat}
+use Rattle.lictor_settings.specs.Settings.{badCode, badSize, badFloat, anyBelow, crossedOf, badBox, settingsTable, checkOf, configOf}
 use Rattle.lictor_core.proofs.RowLaws.{row-length}
 use Rattle.lictor_guard.specs.Delivery.{deliveredOf, sizesBad, placeBad, headBad, deliveryBad}
 use Rattle.lictor_guard.specs.Guard.{nonFinite, lengthsOf, shapeBad, clockBad, schemaBad, bitIf, guardOf}
@@ -180,7 +181,7 @@ record At (q : FuseState) (count : Control → ℕ) (n i : ℕ) (r : FuseRt) : T
   running : Running i r
 
 passes : (b h e : ℕ) → T (isAccepted (checkOf (slowSettings b h e)))
-unfolding checkOf firstRow settingsTable badCode badSize badFloat badBox crossedOf anyBelow allFinite isNan lt zeros
+unfolding checkOf firstThat settingsTable badCode badSize badFloat badBox crossedOf anyBelow allFinite isNan lt zeros
 passes b h e = tt
 
 -- ---- one tick of the stop, whatever its velocity

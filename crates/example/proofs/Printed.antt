@@ -6,7 +6,8 @@ use Rattle.lictor_core.specs.Codes.{modeOf, kindOf, clampModeOf, rearmOf, decis
 use Rattle.lictor_core.specs.Initial.{zeros, emptyTally, freshControl, freshMotion, freshClock, newOf, resetOf}
 use Rattle.lictor_core.specs.Masks.{anyOf}
 use Rattle.lictor_core.specs.Rows.{rowTo, takenRow}
-use Rattle.lictor_settings.specs.Settings.{badCode, badSize, badFloat, anyBelow, crossedOf, badBox, settingsTable, firstRow, checkOf, configOf}
+use Rattle.lictor_core.specs.FirstThat.{firstThat}
+use Rattle.lictor_settings.specs.Settings.{badCode, badSize, badFloat, anyBelow, crossedOf, badBox, settingsTable, checkOf, configOf}
 use Rattle.lictor_detect.specs.Brake.{component, boxedComponent, boxedRow, scaledComponent, scaledRow, boxedAction, scaledAction, eps, brakeFactor, brakeAction, holdAction}
 use Rattle.lictor_detect.specs.Window.{hitBit, pushHit, hitsOf, tripOf}
 use Rattle.lictor_guard.specs.Delivery.{deliveredOf, sizesBad, placeBad, headBad, deliveryBad}
@@ -35,7 +36,7 @@ use Rattle.journal_records.specs.Body.{ackOf, headOf, tickNumbers, decodeOf}
 use Rattle.journal_records.specs.Long.{limitsOf, calibrationOf, settingsOf, scoresIn, outcomeOf}
 use Rattle.journal_records.specs.Kinds.{isKnown, bodyLen}
 use Rattle.journal_refusals.specs.Causes.{unknownKind, bodyCut, beforeSettings, again, codeNotListed, sizeOutside, floatNotFinite, boxCrossed, listFull, notReady}
-use Rattle.journal_refusals.specs.Table.{refusalTable, firstRow as firstRow·judge, judgedOf, contentsOf}
+use Rattle.journal_refusals.specs.Table.{refusalTable, judgedOf, contentsOf}
 use Rattle.journal_reader.specs.Reading.{lookAs, lookOf, broughtOf, onRecord, onLook, onBytes, readOf, listsRead}
 use Rattle.journal_reader.specs.State.{ackWaits, headWaits, valueWaits, stored, outcomeWaits, settingsCame, emptied, startReader, valuesOf, inputOf}
 use Rattle.stream.specs.Stream.{settle, settled, advance, advanced, fed, whole}
@@ -50,5 +51,5 @@ use lib.Count.{ones}
 use Rattle.example.specs.Example.{number, times, settings, reset, outcome, tick, journal, printed}
 
 pub example-printed : textOf 0 journal ≡ printed
-unfolding minOf maxOf clampOf allFinite addSquares normOf rootIn wholeRoot rootOf modeOf kindOf clampModeOf rearmOf decisionOf zeros emptyTally freshControl freshMotion freshClock newOf resetOf anyOf rowTo badCode badSize badFloat anyBelow crossedOf badBox settingsTable firstRow checkOf configOf component boxedComponent boxedRow scaledComponent scaledRow boxedAction scaledAction eps brakeFactor brakeAction holdAction hitBit pushHit hitsOf tripOf deliveredOf nonFinite lengthsOf shapeBad sizesBad placeBad headBad deliveryBad clockBad schemaBad bitIf guardOf consumedOf faultReason clampReason armedReason acceptedBy acceptedAck consumeNonce latchedOf latchHold countIf upIf isClean countRun settledOf faultRow rearmAck resumeRow terminateRow timeoutRow waitRow unansweredOf escalatedOf mayRearm rearmRow escalateRow holdRow holdingOf heldOf confirmedOf standstillRow stoppingRow brakingOf enterBraking brakeRow unclampableOf overBudget clampRow clearedOf clearRow watchedOf quietOf runningOf byFrom transitionOf nextByRows firstOf table nextFrom nextOf recorded count bitOf countBit eachFrom countBits first firstReason mostAt mostLive recordOf recordChunk takenRow stepRate ratesRow stillRow velocityOf ingestOf isFit withPos faultMotion withBrake maskedOf warnOf slowOf standstillOf chunkOk scoredOf findingsOf machineInput faultInput statusOf sourceOf cutRow passedOf insteadOf enforcedOf byMode actOf liveValid scoresOf disarmedScores actionDim enteredOf handoffOf hasAck consumedFlag verdictOf faultVerdict eventsOf noEvents rejectedOf nextChunk cleanClock readyOf chunkTally faultClock closedOf closeClean cleanTick closeFault faultTick decideBy decideOf noVerdict refusedTick givenOf acceptedTick tickBy tickOf behindCommas commas numbersText floatsText lineOf putOf pushOf decimalIn signedOf hexIn floatText marginText tickText stoppedOf endText refusedText nearestWhole marginOf leAt floatAt floatsAt limitsOf calibrationOf settingsOf ackOf headOf scoresIn outcomeOf tickNumbers decodeOf isKnown bodyLen unknownKind bodyCut beforeSettings again codeNotListed sizeOutside floatNotFinite boxCrossed listFull notReady refusalTable firstRow·judge judgedOf contentsOf lookAs lookOf broughtOf onRecord onLook onBytes readOf listsRead ackWaits headWaits valueWaits stored outcomeWaits settingsCame emptied startReader valuesOf inputOf settle settled advance advanced fed whole judgedAt begunOf restartedOf decidedOf tickedOf obey obeyed replayOf startRun startWhole journalOf advancedOf listsAfter journalTick begunAt resetAt traceUpTo eventText placeAfter memoryAfter eventsText withText playOf fedOf playedOf goesOnOf lastText textOf endedOf endNumber endPlace lastLineOf add sub mul div lt le eq ofBits toBits round isNan ones number times settings reset outcome tick journal
+unfolding minOf maxOf clampOf allFinite addSquares normOf rootIn wholeRoot rootOf modeOf kindOf clampModeOf rearmOf decisionOf zeros emptyTally freshControl freshMotion freshClock newOf resetOf anyOf rowTo badCode badSize badFloat anyBelow crossedOf badBox settingsTable firstThat checkOf configOf component boxedComponent boxedRow scaledComponent scaledRow boxedAction scaledAction eps brakeFactor brakeAction holdAction hitBit pushHit hitsOf tripOf deliveredOf nonFinite lengthsOf shapeBad sizesBad placeBad headBad deliveryBad clockBad schemaBad bitIf guardOf consumedOf faultReason clampReason armedReason acceptedBy acceptedAck consumeNonce latchedOf latchHold countIf upIf isClean countRun settledOf faultRow rearmAck resumeRow terminateRow timeoutRow waitRow unansweredOf escalatedOf mayRearm rearmRow escalateRow holdRow holdingOf heldOf confirmedOf standstillRow stoppingRow brakingOf enterBraking brakeRow unclampableOf overBudget clampRow clearedOf clearRow watchedOf quietOf runningOf byFrom transitionOf nextByRows firstOf table nextFrom nextOf recorded count bitOf countBit eachFrom countBits first firstReason mostAt mostLive recordOf recordChunk takenRow stepRate ratesRow stillRow velocityOf ingestOf isFit withPos faultMotion withBrake maskedOf warnOf slowOf standstillOf chunkOk scoredOf findingsOf machineInput faultInput statusOf sourceOf cutRow passedOf insteadOf enforcedOf byMode actOf liveValid scoresOf disarmedScores actionDim enteredOf handoffOf hasAck consumedFlag verdictOf faultVerdict eventsOf noEvents rejectedOf nextChunk cleanClock readyOf chunkTally faultClock closedOf closeClean cleanTick closeFault faultTick decideBy decideOf noVerdict refusedTick givenOf acceptedTick tickBy tickOf behindCommas commas numbersText floatsText lineOf putOf pushOf decimalIn signedOf hexIn floatText marginText tickText stoppedOf endText refusedText nearestWhole marginOf leAt floatAt floatsAt limitsOf calibrationOf settingsOf ackOf headOf scoresIn outcomeOf tickNumbers decodeOf isKnown bodyLen unknownKind bodyCut beforeSettings again codeNotListed sizeOutside floatNotFinite boxCrossed listFull notReady refusalTable judgedOf contentsOf lookAs lookOf broughtOf onRecord onLook onBytes readOf listsRead ackWaits headWaits valueWaits stored outcomeWaits settingsCame emptied startReader valuesOf inputOf settle settled advance advanced fed whole judgedAt begunOf restartedOf decidedOf tickedOf obey obeyed replayOf startRun startWhole journalOf advancedOf listsAfter journalTick begunAt resetAt traceUpTo eventText placeAfter memoryAfter eventsText withText playOf fedOf playedOf goesOnOf lastText textOf endedOf endNumber endPlace lastLineOf add sub mul div lt le eq ofBits toBits round isNan ones number times settings reset outcome tick journal
 example-printed = refl

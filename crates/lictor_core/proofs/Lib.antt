@@ -3,3 +3,4 @@ pub mod Branch
 pub mod Codes
 pub mod Counts
 pub mod RowLaws
+pub mod FirstThat

@@ -7,7 +7,8 @@ use Rattle.lictor_core.specs.Codes.{modeOf, kindOf, clampModeOf, rearmOf, decis
 use Rattle.lictor_core.specs.Initial.{zeros, emptyTally, freshControl, freshMotion, freshClock, newOf, resetOf}
 use Rattle.lictor_core.specs.Masks.{anyOf}
 use Rattle.lictor_core.specs.Rows.{rowTo, takenRow}
-use Rattle.lictor_settings.specs.Settings.{badCode, badSize, badFloat, anyBelow, crossedOf, badBox, settingsTable, firstRow, checkOf, configOf}
+use Rattle.lictor_core.specs.FirstThat.{firstThat}
+use Rattle.lictor_settings.specs.Settings.{badCode, badSize, badFloat, anyBelow, crossedOf, badBox, settingsTable, checkOf, configOf}
 use Rattle.lictor_detect.specs.Brake.{component, boxedComponent, boxedRow, scaledComponent, scaledRow, boxedAction, scaledAction, eps, brakeFactor, brakeAction, holdAction}
 use Rattle.lictor_detect.specs.Window.{hitBit, pushHit, hitsOf, tripOf}
 use Rattle.lictor_guard.specs.Delivery.{deliveredOf, sizesBad, placeBad, headBad, deliveryBad}
@@ -32,5 +33,5 @@ use lib.Count.{ones}
 use Rattle.starred.specs.Starred.{starred, one, limits, settings, started, outcome, input, ackOf, tick, bit, ending, answered, clamping, acceptance, afterClamp}
 
 pub given : map (λ c. c .gives) starred ≡ map (λ c. c .wanted) starred
-unfolding minOf maxOf clampOf allFinite addSquares normOf rootIn wholeRoot rootOf modeOf kindOf clampModeOf rearmOf decisionOf zeros emptyTally freshControl freshMotion freshClock newOf resetOf anyOf rowTo badCode badSize badFloat anyBelow crossedOf badBox settingsTable firstRow checkOf configOf component boxedComponent boxedRow scaledComponent scaledRow boxedAction scaledAction eps brakeFactor brakeAction holdAction hitBit pushHit hitsOf tripOf deliveredOf nonFinite lengthsOf shapeBad sizesBad placeBad headBad deliveryBad clockBad schemaBad bitIf guardOf consumedOf faultReason clampReason armedReason acceptedBy acceptedAck consumeNonce latchedOf latchHold countIf upIf isClean countRun settledOf faultRow rearmAck resumeRow terminateRow timeoutRow waitRow unansweredOf escalatedOf mayRearm rearmRow escalateRow holdRow holdingOf heldOf confirmedOf standstillRow stoppingRow brakingOf enterBraking brakeRow unclampableOf overBudget clampRow clearedOf clearRow watchedOf quietOf runningOf byFrom transitionOf nextByRows firstOf table nextFrom nextOf recorded count bitOf countBit eachFrom countBits first firstReason mostAt mostLive recordOf recordChunk statusOf sourceOf cutRow passedOf insteadOf enforcedOf byMode actOf takenRow stepRate ratesRow stillRow velocityOf ingestOf isFit withPos faultMotion withBrake maskedOf warnOf slowOf standstillOf chunkOk scoredOf findingsOf machineInput faultInput liveValid scoresOf disarmedScores actionDim enteredOf handoffOf hasAck consumedFlag verdictOf faultVerdict eventsOf noEvents rejectedOf closedOf nextChunk cleanClock readyOf chunkTally closeClean cleanTick faultClock closeFault faultTick decideBy decideOf noVerdict refusedTick givenOf acceptedTick tickBy tickOf marginText tickText stoppedOf endText refusedText nearestWhole marginOf decimalIn signedOf add sub mul div lt le eq ofBits toBits round isNan ones one limits settings started outcome input ackOf tick bit ending answered clamping acceptance afterClamp starred
+unfolding minOf maxOf clampOf allFinite addSquares normOf rootIn wholeRoot rootOf modeOf kindOf clampModeOf rearmOf decisionOf zeros emptyTally freshControl freshMotion freshClock newOf resetOf anyOf rowTo badCode badSize badFloat anyBelow crossedOf badBox settingsTable firstThat checkOf configOf component boxedComponent boxedRow scaledComponent scaledRow boxedAction scaledAction eps brakeFactor brakeAction holdAction hitBit pushHit hitsOf tripOf deliveredOf nonFinite lengthsOf shapeBad sizesBad placeBad headBad deliveryBad clockBad schemaBad bitIf guardOf consumedOf faultReason clampReason armedReason acceptedBy acceptedAck consumeNonce latchedOf latchHold countIf upIf isClean countRun settledOf faultRow rearmAck resumeRow terminateRow timeoutRow waitRow unansweredOf escalatedOf mayRearm rearmRow escalateRow holdRow holdingOf heldOf confirmedOf standstillRow stoppingRow brakingOf enterBraking brakeRow unclampableOf overBudget clampRow clearedOf clearRow watchedOf quietOf runningOf byFrom transitionOf nextByRows firstOf table nextFrom nextOf recorded count bitOf countBit eachFrom countBits first firstReason mostAt mostLive recordOf recordChunk statusOf sourceOf cutRow passedOf insteadOf enforcedOf byMode actOf takenRow stepRate ratesRow stillRow velocityOf ingestOf isFit withPos faultMotion withBrake maskedOf warnOf slowOf standstillOf chunkOk scoredOf findingsOf machineInput faultInput liveValid scoresOf disarmedScores actionDim enteredOf handoffOf hasAck consumedFlag verdictOf faultVerdict eventsOf noEvents rejectedOf closedOf nextChunk cleanClock readyOf chunkTally closeClean cleanTick faultClock closeFault faultTick decideBy decideOf noVerdict refusedTick givenOf acceptedTick tickBy tickOf marginText tickText stoppedOf endText refusedText nearestWhole marginOf decimalIn signedOf add sub mul div lt le eq ofBits toBits round isNan ones one limits settings started outcome input ackOf tick bit ending answered clamping acceptance afterClamp starred
 given = refl
