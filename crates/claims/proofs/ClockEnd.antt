@@ -18,9 +18,10 @@ use Rattle.lictor_guard.specs.Guard.{clockBad, schemaBad, bitIf, guardOf}
 use Rattle.lictor_stages.specs.Ingest.{faultMotion}
 use Rattle.lictor_stages.specs.Findings.{faultInput}
 use Rattle.lictor_stages.specs.Verdict.{faultVerdict}
+use Rattle.lictor_core.specs.FirstThat.{firstThat}
 use Rattle.lictor_table.specs.declared.FsmInput.{FsmInput}
 use Rattle.lictor_table.specs.Helpers.{settledOf}
-use Rattle.lictor_table.specs.Table.{firstOf, table, nextFrom, nextOf}
+use Rattle.lictor_table.specs.Table.{table, nextFrom, nextOf}
 use Rattle.lictor_fuse.specs.declared.decide.Decided.{Decided}
 use Rattle.lictor_fuse.specs.declared.Ticked.{Ticked}
 use Rattle.lictor_fuse.specs.Decide.{closedOf, closeFault, faultTick}
@@ -50,7 +51,7 @@ schema-stays false false = tt
 -- a fault bit leads to Fault and adds none of its own
 row-one : (cfg : FuseConfig) (rt : Control) (pos : List Float) (inp : FsmInput) → anyOf (inp .trips) faultBits ≡ true
     → (nextOf cfg rt pos inp .state ≡ Fault) × (nextOf cfg rt pos inp .extra ≡ 0)
-unfolding nextOf nextFrom settledOf firstOf table
+unfolding nextOf nextFrom settledOf firstThat table
 row-one cfg rt pos inp e = rw e (refl, refl)
 
 module _ (r : FuseRt) (c : Call) (p : 0 < r .clock .seq) (h : c .input .t ≤ lastTime) (k : lastTime < r .clock .«last_t» + 1 + c .input .«missed_ticks») where

@@ -15,7 +15,7 @@ use Rattle.lictor_guard.specs.Guard.{nonFinite, lengthsOf, shapeBad, clockBad, 
 use Rattle.lictor_table.specs.Consumed.{consumedOf}
 use Rattle.lictor_table.specs.Helpers.{faultReason, clampReason, armedReason, acceptedBy, acceptedAck, consumeNonce, latchedOf, latchHold, countIf, upIf, isClean, countRun, settledOf}
 use Rattle.lictor_table.specs.Rows.{faultRow, rearmAck, resumeRow, terminateRow, timeoutRow, waitRow, unansweredOf, escalatedOf, mayRearm, rearmRow, escalateRow, holdRow, holdingOf, heldOf, confirmedOf, standstillRow, stoppingRow, brakingOf, enterBraking, brakeRow, unclampableOf, overBudget, clampRow, clearedOf, clearRow, watchedOf, quietOf, runningOf, byFrom, transitionOf, nextByRows}
-use Rattle.lictor_table.specs.Table.{firstOf, table, nextFrom, nextOf}
+use Rattle.lictor_table.specs.Table.{table, nextFrom, nextOf}
 use Rattle.lictor_tally.specs.History.{recorded}
 use Rattle.lictor_tally.specs.Tally.{count, bitOf, countBit, eachFrom, countBits, first, firstReason, mostAt, mostLive, recordOf, recordChunk}
 use Rattle.lictor_stages.specs.Ingest.{stepRate, ratesRow, stillRow, velocityOf, ingestOf, isFit, withPos, faultMotion}
@@ -51,5 +51,5 @@ use lib.Count.{ones}
 use Rattle.example.specs.Example.{number, times, settings, reset, outcome, tick, journal, printed}
 
 pub example-printed : textOf 0 journal ≡ printed
-unfolding minOf maxOf clampOf allFinite addSquares normOf rootIn wholeRoot rootOf modeOf kindOf clampModeOf rearmOf decisionOf zeros emptyTally freshControl freshMotion freshClock newOf resetOf anyOf rowTo badCode badSize badFloat anyBelow crossedOf badBox settingsTable firstThat checkOf configOf component boxedComponent boxedRow scaledComponent scaledRow boxedAction scaledAction eps brakeFactor brakeAction holdAction hitBit pushHit hitsOf tripOf deliveredOf nonFinite lengthsOf shapeBad sizesBad placeBad headBad deliveryBad clockBad schemaBad bitIf guardOf consumedOf faultReason clampReason armedReason acceptedBy acceptedAck consumeNonce latchedOf latchHold countIf upIf isClean countRun settledOf faultRow rearmAck resumeRow terminateRow timeoutRow waitRow unansweredOf escalatedOf mayRearm rearmRow escalateRow holdRow holdingOf heldOf confirmedOf standstillRow stoppingRow brakingOf enterBraking brakeRow unclampableOf overBudget clampRow clearedOf clearRow watchedOf quietOf runningOf byFrom transitionOf nextByRows firstOf table nextFrom nextOf recorded count bitOf countBit eachFrom countBits first firstReason mostAt mostLive recordOf recordChunk takenRow stepRate ratesRow stillRow velocityOf ingestOf isFit withPos faultMotion withBrake maskedOf warnOf slowOf standstillOf chunkOk scoredOf findingsOf machineInput faultInput statusOf sourceOf cutRow passedOf insteadOf enforcedOf byMode actOf liveValid scoresOf disarmedScores actionDim enteredOf handoffOf hasAck consumedFlag verdictOf faultVerdict eventsOf noEvents rejectedOf nextChunk cleanClock readyOf chunkTally faultClock closedOf closeClean cleanTick closeFault faultTick decideBy decideOf noVerdict refusedTick givenOf acceptedTick tickBy tickOf behindCommas commas numbersText floatsText lineOf putOf pushOf decimalIn signedOf hexIn floatText marginText tickText stoppedOf endText refusedText nearestWhole marginOf leAt floatAt floatsAt limitsOf calibrationOf settingsOf ackOf headOf scoresIn outcomeOf tickNumbers decodeOf isKnown bodyLen unknownKind bodyCut beforeSettings again codeNotListed sizeOutside floatNotFinite boxCrossed listFull notReady refusalTable judgedOf contentsOf lookAs lookOf broughtOf onRecord onLook onBytes readOf listsRead ackWaits headWaits valueWaits stored outcomeWaits settingsCame emptied startReader valuesOf inputOf settle settled advance advanced fed whole judgedAt begunOf restartedOf decidedOf tickedOf obey obeyed replayOf startRun startWhole journalOf advancedOf listsAfter journalTick begunAt resetAt traceUpTo eventText placeAfter memoryAfter eventsText withText playOf fedOf playedOf goesOnOf lastText textOf endedOf endNumber endPlace lastLineOf add sub mul div lt le eq ofBits toBits round isNan ones number times settings reset outcome tick journal
+unfolding minOf maxOf clampOf allFinite addSquares normOf rootIn wholeRoot rootOf modeOf kindOf clampModeOf rearmOf decisionOf zeros emptyTally freshControl freshMotion freshClock newOf resetOf anyOf rowTo badCode badSize badFloat anyBelow crossedOf badBox settingsTable firstThat checkOf configOf component boxedComponent boxedRow scaledComponent scaledRow boxedAction scaledAction eps brakeFactor brakeAction holdAction hitBit pushHit hitsOf tripOf deliveredOf nonFinite lengthsOf shapeBad sizesBad placeBad headBad deliveryBad clockBad schemaBad bitIf guardOf consumedOf faultReason clampReason armedReason acceptedBy acceptedAck consumeNonce latchedOf latchHold countIf upIf isClean countRun settledOf faultRow rearmAck resumeRow terminateRow timeoutRow waitRow unansweredOf escalatedOf mayRearm rearmRow escalateRow holdRow holdingOf heldOf confirmedOf standstillRow stoppingRow brakingOf enterBraking brakeRow unclampableOf overBudget clampRow clearedOf clearRow watchedOf quietOf runningOf byFrom transitionOf nextByRows table nextFrom nextOf recorded count bitOf countBit eachFrom countBits first firstReason mostAt mostLive recordOf recordChunk takenRow stepRate ratesRow stillRow velocityOf ingestOf isFit withPos faultMotion withBrake maskedOf warnOf slowOf standstillOf chunkOk scoredOf findingsOf machineInput faultInput statusOf sourceOf cutRow passedOf insteadOf enforcedOf byMode actOf liveValid scoresOf disarmedScores actionDim enteredOf handoffOf hasAck consumedFlag verdictOf faultVerdict eventsOf noEvents rejectedOf nextChunk cleanClock readyOf chunkTally faultClock closedOf closeClean cleanTick closeFault faultTick decideBy decideOf noVerdict refusedTick givenOf acceptedTick tickBy tickOf behindCommas commas numbersText floatsText lineOf putOf pushOf decimalIn signedOf hexIn floatText marginText tickText stoppedOf endText refusedText nearestWhole marginOf leAt floatAt floatsAt limitsOf calibrationOf settingsOf ackOf headOf scoresIn outcomeOf tickNumbers decodeOf isKnown bodyLen unknownKind bodyCut beforeSettings again codeNotListed sizeOutside floatNotFinite boxCrossed listFull notReady refusalTable judgedOf contentsOf lookAs lookOf broughtOf onRecord onLook onBytes readOf listsRead ackWaits headWaits valueWaits stored outcomeWaits settingsCame emptied startReader valuesOf inputOf settle settled advance advanced fed whole judgedAt begunOf restartedOf decidedOf tickedOf obey obeyed replayOf startRun startWhole journalOf advancedOf listsAfter journalTick begunAt resetAt traceUpTo eventText placeAfter memoryAfter eventsText withText playOf fedOf playedOf goesOnOf lastText textOf endedOf endNumber endPlace lastLineOf add sub mul div lt le eq ofBits toBits round isNan ones number times settings reset outcome tick journal
 example-printed = refl

@@ -10,6 +10,7 @@ use Rattle.lictor_core.specs.declared.envelope.FuseConfig.{FuseConfig}
 use Rattle.lictor_core.specs.declared.fuse.Control.{Control}
 use Rattle.lictor_core.specs.Cases.{byState}
 use Rattle.lictor_core.specs.Codes.{isState, stateCode}
+use Rattle.lictor_core.specs.FirstThat.{firstThat}
 use Rattle.lictor_table.specs.declared.FsmInput.{FsmInput}
 use Rattle.lictor_table.specs.declared.Turn.{Turn}
 use Rattle.lictor_table.specs.Helpers.{to, settledOf}
@@ -35,6 +36,6 @@ pub data Lines (P : Turn → Type 0) (x : Facts) : List Line → Type 0 where
   _⨾_ : {l : Line} {ls : List Line} → (T (applies l x) → P (does l x)) → Lines P x ls → Lines P x (l ∷ ls)
 
 pub by-lines : (P : Turn → Type 0) (none : Turn) (x : Facts) (ls : List Line) → P none → Lines P x ls → P (firstOf none ls x)
-unfolding firstOf
+unfolding firstThat
 by-lines P none x [] p done = p
 by-lines P none x (l ∷ ls) p (f ⨾ fs) = by-test P (applies l x) (does l x) (firstOf none ls x) f (λ h. by-lines P none x ls p fs)

@@ -18,6 +18,7 @@ use Rattle.lictor_core.specs.declared.envelope.FuseConfig.{FuseConfig}
 use Rattle.lictor_core.specs.declared.fuse.Control.{Control}
 use Rattle.lictor_core.specs.Cases.{byAck, byDecision}
 use Rattle.lictor_core.specs.Codes.{isState, isAuto}
+use Rattle.lictor_core.specs.FirstThat.{firstThat}
 use Rattle.lictor_core.specs.Masks.{anyOf, faultBits, brakeBit, tier0Soft, tier1Cp, clampBudget, handoffTimeout, operatorAbort, brakeTimeout, rearmBudget}
 use Rattle.lictor_core.specs.Num.{satUp, wrapUp}
 use Rattle.lictor_table.specs.declared.FsmInput.{FsmInput}
@@ -77,9 +78,8 @@ abbrev pub does : Line → Facts → Turn
 does l x = to (l .next) (l .extra) (l .reason x) (l .change x (x .rt))
 
 -- the first line that applies decides (`none`: the answer if none does; of the table below some line always does, proofs/ByTable)
-unfoldable pub firstOf : Turn → List Line → Facts → Turn
-firstOf none [] x = none
-firstOf none (l ∷ ls) x = cond (applies l x) (does l x) (firstOf none ls x)
+abbrev pub firstOf : Turn → List Line → Facts → Turn
+firstOf none ls x = firstThat (λ l. applies l x) (λ l. does l x) none ls
 
 -- ---- states
 

@@ -16,7 +16,7 @@ use Rattle.lictor_guard.specs.Guard.{nonFinite, lengthsOf, shapeBad, clockBad, 
 use Rattle.lictor_table.specs.Consumed.{consumedOf}
 use Rattle.lictor_table.specs.Helpers.{faultReason, clampReason, armedReason, acceptedBy, acceptedAck, consumeNonce, latchedOf, latchHold, countIf, upIf, isClean, countRun, settledOf}
 use Rattle.lictor_table.specs.Rows.{faultRow, rearmAck, resumeRow, terminateRow, timeoutRow, waitRow, unansweredOf, escalatedOf, mayRearm, rearmRow, escalateRow, holdRow, holdingOf, heldOf, confirmedOf, standstillRow, stoppingRow, brakingOf, enterBraking, brakeRow, unclampableOf, overBudget, clampRow, clearedOf, clearRow, watchedOf, quietOf, runningOf, byFrom, transitionOf, nextByRows}
-use Rattle.lictor_table.specs.Table.{firstOf, table, nextFrom, nextOf}
+use Rattle.lictor_table.specs.Table.{table, nextFrom, nextOf}
 use Rattle.lictor_tally.specs.History.{recorded}
 use Rattle.lictor_tally.specs.Tally.{count, bitOf, countBit, eachFrom, countBits, first, firstReason, mostAt, mostLive, recordOf, recordChunk}
 use Rattle.lictor_stages.specs.Act.{statusOf, sourceOf, cutRow, passedOf, insteadOf, enforcedOf, byMode, actOf}
@@ -33,5 +33,5 @@ use lib.Count.{ones}
 use Rattle.starred.specs.Starred.{starred, one, limits, settings, started, outcome, input, ackOf, tick, bit, ending, answered, clamping, acceptance, afterClamp}
 
 pub given : map (λ c. c .gives) starred ≡ map (λ c. c .wanted) starred
-unfolding minOf maxOf clampOf allFinite addSquares normOf rootIn wholeRoot rootOf modeOf kindOf clampModeOf rearmOf decisionOf zeros emptyTally freshControl freshMotion freshClock newOf resetOf anyOf rowTo badCode badSize badFloat anyBelow crossedOf badBox settingsTable firstThat checkOf configOf component boxedComponent boxedRow scaledComponent scaledRow boxedAction scaledAction eps brakeFactor brakeAction holdAction hitBit pushHit hitsOf tripOf deliveredOf nonFinite lengthsOf shapeBad sizesBad placeBad headBad deliveryBad clockBad schemaBad bitIf guardOf consumedOf faultReason clampReason armedReason acceptedBy acceptedAck consumeNonce latchedOf latchHold countIf upIf isClean countRun settledOf faultRow rearmAck resumeRow terminateRow timeoutRow waitRow unansweredOf escalatedOf mayRearm rearmRow escalateRow holdRow holdingOf heldOf confirmedOf standstillRow stoppingRow brakingOf enterBraking brakeRow unclampableOf overBudget clampRow clearedOf clearRow watchedOf quietOf runningOf byFrom transitionOf nextByRows firstOf table nextFrom nextOf recorded count bitOf countBit eachFrom countBits first firstReason mostAt mostLive recordOf recordChunk statusOf sourceOf cutRow passedOf insteadOf enforcedOf byMode actOf takenRow stepRate ratesRow stillRow velocityOf ingestOf isFit withPos faultMotion withBrake maskedOf warnOf slowOf standstillOf chunkOk scoredOf findingsOf machineInput faultInput liveValid scoresOf disarmedScores actionDim enteredOf handoffOf hasAck consumedFlag verdictOf faultVerdict eventsOf noEvents rejectedOf closedOf nextChunk cleanClock readyOf chunkTally closeClean cleanTick faultClock closeFault faultTick decideBy decideOf noVerdict refusedTick givenOf acceptedTick tickBy tickOf marginText tickText stoppedOf endText refusedText nearestWhole marginOf decimalIn signedOf add sub mul div lt le eq ofBits toBits round isNan ones one limits settings started outcome input ackOf tick bit ending answered clamping acceptance afterClamp starred
+unfolding minOf maxOf clampOf allFinite addSquares normOf rootIn wholeRoot rootOf modeOf kindOf clampModeOf rearmOf decisionOf zeros emptyTally freshControl freshMotion freshClock newOf resetOf anyOf rowTo badCode badSize badFloat anyBelow crossedOf badBox settingsTable firstThat checkOf configOf component boxedComponent boxedRow scaledComponent scaledRow boxedAction scaledAction eps brakeFactor brakeAction holdAction hitBit pushHit hitsOf tripOf deliveredOf nonFinite lengthsOf shapeBad sizesBad placeBad headBad deliveryBad clockBad schemaBad bitIf guardOf consumedOf faultReason clampReason armedReason acceptedBy acceptedAck consumeNonce latchedOf latchHold countIf upIf isClean countRun settledOf faultRow rearmAck resumeRow terminateRow timeoutRow waitRow unansweredOf escalatedOf mayRearm rearmRow escalateRow holdRow holdingOf heldOf confirmedOf standstillRow stoppingRow brakingOf enterBraking brakeRow unclampableOf overBudget clampRow clearedOf clearRow watchedOf quietOf runningOf byFrom transitionOf nextByRows table nextFrom nextOf recorded count bitOf countBit eachFrom countBits first firstReason mostAt mostLive recordOf recordChunk statusOf sourceOf cutRow passedOf insteadOf enforcedOf byMode actOf takenRow stepRate ratesRow stillRow velocityOf ingestOf isFit withPos faultMotion withBrake maskedOf warnOf slowOf standstillOf chunkOk scoredOf findingsOf machineInput faultInput liveValid scoresOf disarmedScores actionDim enteredOf handoffOf hasAck consumedFlag verdictOf faultVerdict eventsOf noEvents rejectedOf closedOf nextChunk cleanClock readyOf chunkTally closeClean cleanTick faultClock closeFault faultTick decideBy decideOf noVerdict refusedTick givenOf acceptedTick tickBy tickOf marginText tickText stoppedOf endText refusedText nearestWhole marginOf decimalIn signedOf add sub mul div lt le eq ofBits toBits round isNan ones one limits settings started outcome input ackOf tick bit ending answered clamping acceptance afterClamp starred
 given = refl
