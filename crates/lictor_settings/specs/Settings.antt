@@ -11,15 +11,15 @@ use Rattle.lictor_core.specs.declared.envelope.FuseConfig.{FuseConfig}
 use Rattle.lictor_settings.specs.declared.SettingsCheck.{SettingsCheck}
 use Rattle.lictor_settings.specs.declared.SettingsCheck.the-variants.{Accepted, BadCode, BadSize, NotFinite, BoxCrossed}
 use Rattle.lictor_core.specs.FirstThat.{Row, refuse_when_, firstThat}
-use Rattle.lictor_core.specs.Codes.{modeOf, kindOf, clampModeOf, rearmOf}
+use Rattle.lictor_core.specs.Codes.{modes, kinds, clampModes, rearmPolicies, modeOf, kindOf, clampModeOf, rearmOf}
 
 -- n lies outside of low to high, both included
 abbrev pub outside : ℕ → ℕ → ℕ → Bool
 outside low high n = ltb n low || ltb high n
 
--- cause 1: a code not listed. There are 2 modes, 5 action kinds, 2 clamp modes and 2 rearm policies, numbered from 0.
+-- cause 1: a code not listed; codes are numbered from 0
 unfoldable pub badCode : Settings → Bool
-badCode s = leb 2 (s .mode) || (leb 5 (s .kind) || (leb 2 (s .clamp) || leb 2 (s .rearm)))
+badCode s = leb modes (s .mode) || (leb kinds (s .kind) || (leb clampModes (s .clamp) || leb rearmPolicies (s .rearm)))
 
 -- cause 2: a size outside its range, both ends included
 unfoldable pub badSize : Settings → Bool
