@@ -1,7 +1,6 @@
-// The float helpers of fmath.rs. Every operation is IEEE 754's on binary64, one rounding each, and all NaNs count as one value.
-//
-// What Rust takes from its library, `is_finite`, `sqrt` (in the crate `root`) and the special values, is worked out from the bits:
-// bit 63 is the sign, bits 52 to 62 are the exponent field, and bits 0 to 51 are the stored digits.
+// The float helpers of fmath.rs. Every operation is IEEE 754's on binary64, one rounding each, and all
+// NaNs count as one value. What Rust takes from its library, `is_finite`, `sqrt` (in the crate `root`) and
+// the special values, is worked out from the bits (the crate `floats`).
 ghost use mathlib.Core.Path.{_≡_};
 ghost use mathlib.Core.Bool.{true, false, not};
 ghost use Prim.Native.Nat.{min as Nat·min};
@@ -9,13 +8,10 @@ ghost use lib.Ieee.{inf, nan as Ieee·nan};
 ghost use lib.Ieee.Scale.{finite};
 ghost use Rattle.fmath.specs.Float.{minOf, maxOf, clampOf, allFinite, normOf};
 ghost use Rattle.fmath.specs.Root.{rootOf};
+use floats::INF;
+use floats::PLACE;
 
-// 2 ^ 52: the place of the exponent field.
-const PLACE: u64 = 0x10_0000_0000_0000;
-
-// The patterns of the two infinities.
-const INF: u64 = 0x7ff0_0000_0000_0000;
-
+// The pattern of the infinity below zero.
 const MINUS_INF: u64 = 0xfff0_0000_0000_0000;
 
 // ---- special values

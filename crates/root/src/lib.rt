@@ -3,23 +3,17 @@
 // A number above zero is brought to the form a * 2 ^ 52 * 4 ^ k with an a of 53 or 54 binary digits. Its root is 2 ^ k
 // times the root of a * 2 ^ 52, and the whole number g nearest to that has the 53 digits that binary64 keeps.
 // g is guessed in floats, of which nothing is proved, and then moved to its place by exact tests.
-//
-// Bit 63 is the sign, bits 52 to 62 are the exponent field, and bits 0 to 51 are the stored digits.
 ghost use mathlib.Core.Path.{_≡_};
 ghost use Prim.Native.Nat.{_+_, _*_, _/_, _^_, _≤_, _<_};
 ghost use lib.Dec.{leb, ltb};
 ghost use Rattle.root.specs.Root.{rootOf};
 ghost use Rattle.root.specs.Steps.{Normed, NearRoot, RootBits};
+use floats::INF;
+use floats::MINUS_ZERO;
+use floats::PLACE;
 
-// 2 ^ 52: the place of the exponent field, and of the digit that a normal number does not store.
-const PLACE: u64 = 0x10_0000_0000_0000;
-
-// The patterns of 1, of -0, and of the infinity above zero.
+// The pattern of 1.
 const ONE: u64 = 0x3ff0_0000_0000_0000;
-
-const MINUS_ZERO: u64 = 0x8000_0000_0000_0000;
-
-const INF: u64 = 0x7ff0_0000_0000_0000;
 
 struct Moved {
     m: u64,
