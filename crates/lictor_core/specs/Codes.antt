@@ -1,8 +1,8 @@
--- The paper's number of each case of each enum, from 0 in the order of the source (01-scope.md, Modules 1
--- and Journal kinds 1 and 3): one definition an enum, which promises and printing use.
--- For codes that come in, the case of each number too, which undoes the first (proofs/Codes). A number that
--- is not listed is refused before: in settings by their check, in an acknowledgement by the journal's
--- refusal table or, of a host's call, as none. Its case here is the last.
+-- The paper's number of each case of each enum, from 0 in the order of the source (01-scope.md,
+-- Modules 1 and Journal kinds 1 and 3): one definition an enum, which promises and printing use.
+-- For codes that come in, the case of each number too, which undoes the first (proofs/Codes). A
+-- number that is not listed is refused before: in settings by their check, in an acknowledgement by
+-- the journal's refusal table or, of a host's call, as none. Its case here is the last.
 use mathlib.Core.Bool.{Bool, cond}
 use Prim.Native.Nat.{ℕ}
 use lib.Dec.{eqb, leb}
@@ -147,7 +147,8 @@ clampModes = 2
 abbrev pub rearmPolicies : ℕ
 rearmPolicies = 2
 
--- the states in which the fuse stops the robot: Braking, Held, Escalated, Fault, Terminated (state.rs, is_stop)
+-- the states in which the fuse stops the robot: Braking, Held, Escalated, Fault, Terminated
+-- (state.rs, is_stop)
 abbrev pub isStop : FuseState → Bool
 isStop s = leb (stateCode S.Braking) (stateCode s)
 

@@ -1,4 +1,5 @@
--- An ordered table, of which the first row that applies decides (01-scope.md, Transitions and Journal).
+-- An ordered table, of which the first row that applies decides (01-scope.md, Transitions and
+-- Journal).
 use mathlib.Core.Bool.{Bool, cond}
 use mathlib.Core.List.{List, [], _∷_}
 

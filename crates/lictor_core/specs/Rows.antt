@@ -1,5 +1,7 @@
--- A row of which the first places are given by their index: what each loop over an array of the fuse makes.
--- It stands for the loops by zip and iter_mut of the Rust (01-scope.md, Rust forms that need another form).
+-- A row of which the first places are given by their index: what each loop over an array of the
+-- fuse makes.
+-- It is in place of the loops by zip and iter_mut of the Rust (01-scope.md, Rust forms that need
+-- another form).
 use mathlib.Core.List.{List}
 use Prim.Native.Nat.{ℕ, zero, suc, min}
 use lib.ListN.{set, getD, length}

@@ -1,4 +1,5 @@
-// The settings of a fuse, as a journal or a host hands them over, and the configuration that the core works on (envelope.rs).
+// The settings of a fuse, as a journal or a host hands them over, and the configuration that the
+// core works on (envelope.rs).
 ghost use mathlib.Core.Path.{_≡_};
 ghost use Rattle.lictor_core.specs.Codes.{clampCode, rearmCode, isProject, isAuto, clampModeOf, rearmOf};
 use crate::chunk::ActionKind;
@@ -83,7 +84,8 @@ pub fn rearm_of(n: u8) -> RearmPolicy
     }
 }
 
-// The limits of the state machine. (The Rust keeps the rearm policy here too; it is beside, since its code is checked.)
+// The limits of the state machine. (The Rust keeps the rearm policy here too; it is beside, since
+// its code is checked.)
 pub struct Hysteresis {
     pub k: u8,
     pub warn_margin: f64,

@@ -14,8 +14,8 @@ pub fn no_row() -> [f64; 8]
     [0.0; 8]
 }
 
-// The loops over a row, here and above, go over all 8 places and test each: such a loop is unrolled, and
-// the row stays in registers. Up to n, the compiler would call memcpy.
+// The loops over a row, here and above, go over all 8 places and test each: such a loop is
+// unrolled, and the row stays in registers. Up to n, the compiler would call memcpy.
 
 // `old` with its first n places copied from `s`.
 fn copied(s: &[f64], old: [f64; 8], n: usize) -> [f64; 8]

@@ -1,8 +1,6 @@
 -- What the literals of the code are.
 use mathlib.Core.Path.{_≡_, refl}
-use mathlib.Core.Bool.{false}
-use lib.IntN.{pos}
-use lib.Ieee.{fin, binary64, ofBits, round}
+use lib.Ieee.{binary64, ofBits, round}
 use Rattle.lictor_core.specs.Initial.{zeroFloat}
 use Rattle.lictor_detect.specs.Brake.{one, eps}
 

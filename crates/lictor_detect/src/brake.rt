@@ -111,8 +111,10 @@ fn brake_delta(cfg: FuseConfig, vel: [f64; 8]) -> [f64; 8]
     scaled_action(cfg, vel, k)
 }
 
-// The action while braking: position kinds stay where they are, within the box; velocity kinds ramp down.
-// All NaNs are one value in this promise: which pattern a NaN has is left open, and nothing else depends on it.
+// The action while braking: position kinds stay where they are, within the box; velocity kinds ramp
+// down.
+// All NaNs are one value in this promise: which pattern a NaN has is left open, and nothing else
+// depends on it.
 pub fn brake_action(cfg: FuseConfig, pos: [f64; 8], vel: [f64; 8]) -> [f64; 8]
     ensures { λ r. ⌜ r ≡ brakeAction cfg pos vel ⌝ }
 {

@@ -1,5 +1,5 @@
-// Acknowledgements (fsm.rs, `accepted_ack`, `rearm` and rows 4 to 6, 9 and 10): which is accepted, and
-// what an accepted one changes in Escalated and in Held.
+// Acknowledgements (fsm.rs, `accepted_ack`, `consume_nonce`, `rearm_ack`; rows 4 to 6, 9 and 10):
+// which is accepted, and what an accepted one changes in Escalated and in Held.
 ghost use mathlib.Core.Path.{_≡_};
 ghost use Rattle.lictor_table.specs.Helpers.{acceptedBy, acceptedAck, consumeNonce};
 ghost use Rattle.lictor_table.specs.Rows.{rearmAck, resumeRow, terminateRow};

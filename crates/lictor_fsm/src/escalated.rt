@@ -1,5 +1,5 @@
-// Escalated (fsm.rs, rows 4 to 8): the arm is held still and an operator has been asked. An accepted
-// acknowledgement (rows 4 to 6, in `acks`) or the handoff limit ends it.
+// Escalated (fsm.rs, rows 4 to 8): the arm is held still and an operator has been asked. An
+// accepted acknowledgement (rows 4 to 6, in `acks`) or the handoff limit ends it.
 ghost use mathlib.Core.Path.{_≡_};
 ghost use Rattle.lictor_table.specs.Rows.{timeoutRow, waitRow, unansweredOf, escalatedOf};
 use crate::acks::resume_row;

@@ -1,5 +1,5 @@
-// Held (fsm.rs, rows 9 to 13): the arm is held still. An accepted acknowledgement (rows 9 and 10, in
-// `acks`), the automatic rearm or the limit of the hold ends it.
+// Held (fsm.rs, rows 9 to 13): the arm is held still. An accepted acknowledgement (rows 9 and 10,
+// in `acks`), the automatic rearm or the limit of the hold ends it.
 ghost use mathlib.Core.Path.{_≡_};
 ghost use Rattle.lictor_table.specs.Rows.{mayRearm, rearmRow, escalateRow, holdRow, holdingOf, heldOf};
 use crate::acks::resume_row;

@@ -1,10 +1,10 @@
-// The escalation state machine (fsm.rs). `next` does what the table of lictor_table says: here `next`,
-// `transition`, row 1 (a fault bit), rows 2 and 3 (Terminated and Fault stay), rows 14 to 16 (Braking) and
-// the Idle arm; the other rows are in the modules, each under its own number.
+// The escalation state machine (fsm.rs). `next` does what the table of lictor_table says: here
+// `next`, `transition`, row 1 (a fault bit), rows 2 and 3 (Terminated and Fault stay), rows 14 to
+// 16 (Braking) and the Idle arm; the other rows are in the modules, each under its own number.
 // The run state goes in by value and comes back.
 //
-// Three kinds of function: tests and numbers over plain values; rows, which change the run state and do
-// not branch; and choices, which test and then hand on, or answer with nothing changed.
+// Three kinds of function: tests and numbers over plain values; rows, which change the run state
+// and do not branch; and choices, which test and then hand on, or answer with nothing changed.
 pub mod acks; // which acknowledgement is accepted, and what it changes
 pub mod counts; // counts that go up on a test
 pub mod escalated; // rows 4 to 8
@@ -37,7 +37,8 @@ use lictor_core::verdict::any;
 use lictor_table::FsmInput;
 use lictor_table::Turn;
 
-// One tick of the machine: the new run state, the state, the extra bits and the reason. `pos` is the last finite position.
+// One tick of the machine: the new run state, the state, the extra bits and the reason. `pos` is
+// the last finite position.
 pub fn next(cfg: FuseConfig, rt: Control, pos: [f64; 8], inp: FsmInput) -> Turn
     ensures { λ r. ⌜ r ≡ nextOf cfg rt pos inp ⌝ }
 {
@@ -87,7 +88,8 @@ fn settled(t: Turn) -> Turn
     }
 }
 
-// The run state made anew, field by field: a store to a field that is an enum is not covered by the checker.
+// The run state made anew, field by field: a store to a field that is an enum is not covered by the
+// checker.
 fn with_state(rt: Control, s: FuseState) -> Control
     ensures { λ r. ⌜ r ≡ withState s rt ⌝ }
 {

@@ -1,4 +1,5 @@
--- The check of settings: causes 1 to 4 of the refusal table (01-scope.md, Journal), in the table's order, and the configuration that accepted settings mean.
+-- The check of settings: causes 1 to 4 of the refusal table (01-scope.md, Journal), in the table's
+-- order, and the configuration that accepted settings mean.
 use mathlib.Core.Bool.{Bool, false, not, _||_}
 use mathlib.Core.List.{List, [], _∷_}
 use Prim.Native.Nat.{ℕ, zero, suc}

@@ -1,8 +1,6 @@
 // The check of the settings, and the configuration that they mean.
 ghost use mathlib.Core.Path.{_≡_};
-ghost use mathlib.Core.Bool.{not};
 ghost use lib.Ieee.{isNan};
-ghost use Rattle.fmath.specs.Float.{allFinite};
 ghost use Rattle.lictor_settings.specs.Settings.{outside as Spec·outside, badCode, badSize, badFloat, crossedOf, badBox, checkOf, checkNumber, configOf};
 use lictor_core::chunk::KINDS;
 use lictor_core::chunk::kind_of;
@@ -143,7 +141,8 @@ pub fn check(s: Settings) -> SettingsCheck
     SettingsCheck::Accepted
 }
 
-// The configuration that settings mean. Codes that are not listed stand for the last case; `check` refuses them.
+// The configuration that settings mean. A code that is not listed is taken as the last case;
+// `check` refuses them.
 pub fn config(s: Settings) -> FuseConfig
     ensures { λ r. ⌜ r ≡ configOf s ⌝ }
 {

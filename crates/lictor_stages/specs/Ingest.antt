@@ -1,4 +1,5 @@
--- Stage 1 (01-scope.md, One tick; fuse.rs, INGEST): the position and the velocity that a tick takes.
+-- Stage 1 (01-scope.md, One tick; fuse.rs, INGEST): the position and the velocity that a tick
+-- takes.
 use mathlib.Core.Bool.{Bool, true, cond, _&&_}
 use mathlib.Core.List.{List}
 use Prim.Native.Nat.{ℕ, min}
@@ -26,7 +27,8 @@ atRest c = zeroFloat
 unfoldable pub stillRow : FuseConfig → List Float → List Float
 stillRow cfg old = rowTo atRest old (min (cfg .«pos_dim») 8)
 
--- the velocity: as supplied; else from the position p and the one taken last, q; else, on the first clean tick, zero
+-- the velocity: as supplied; else from the position p and the one taken last, q; else, on the first
+-- clean tick, zero
 unfoldable pub velocityOf : FuseConfig → Bool → Bool → List Float → List Float → List Float → List Float → List Float
 velocityOf cfg hasVel have p q old vel = cond hasVel (takenRow vel old (cfg .«pos_dim»)) (cond have (ratesRow cfg p q old) (stillRow cfg old))
 

@@ -1,20 +1,10 @@
 -- A law of each line is a law of the table.
-use mathlib.Core.Bool.{Bool, true, false, cond, not, _&&_, _||_}
+use mathlib.Core.Bool.{Bool, true, false, cond, not}
 use mathlib.Core.List.{List, [], _∷_}
-use lib.Dec.{T, eqb-refl}
-use lib.Ieee.{Float}
-use Rattle.lictor_core.specs.declared.state.FuseState.{FuseState}
-use Rattle.lictor_core.specs.declared.state.FuseState.the-variants.{Idle, Armed, Watching, Clamped, Braking, Held, Escalated, Fault, Terminated}
-use Rattle.lictor_core.specs.declared.reason.ReasonCode.the-variants as R
-use Rattle.lictor_core.specs.declared.envelope.FuseConfig.{FuseConfig}
-use Rattle.lictor_core.specs.declared.fuse.Control.{Control}
-use Rattle.lictor_core.specs.Cases.{byState}
-use Rattle.lictor_core.specs.Codes.{isState, stateCode}
+use lib.Dec.{T}
 use Rattle.lictor_core.specs.FirstThat.{firstThat}
-use Rattle.lictor_table.specs.declared.FsmInput.{FsmInput}
 use Rattle.lictor_table.specs.declared.Turn.{Turn}
-use Rattle.lictor_table.specs.Helpers.{to, settledOf}
-use Rattle.lictor_table.specs.Table.{Facts, Line, applies, does, firstOf, running, table, factsOf, nextFrom, nextOf}
+use Rattle.lictor_table.specs.Table.{Facts, Line, applies, does, firstOf}
 
 -- ---- a law of each line is a law of the table
 
