@@ -15,9 +15,10 @@ use Rattle.lictor_core.specs.declared.state.FuseState.the-variants.{Fault}
 use Rattle.lictor_core.specs.Masks.{anyOf, nonfinite, schema, watchdog, faultBits}
 use Rattle.lictor_settings.specs.Settings.{configOf}
 use Rattle.lictor_guard.specs.Guard.{clockBad, schemaBad, bitIf, guardOf}
+use Rattle.lictor_core.specs.FirstThat.{firstThat}
 use Rattle.lictor_table.specs.declared.FsmInput.{FsmInput}
 use Rattle.lictor_table.specs.Helpers.{settledOf}
-use Rattle.lictor_table.specs.Table.{firstOf, table, nextFrom, nextOf}
+use Rattle.lictor_table.specs.Table.{table, nextFrom, nextOf}
 use Rattle.lictor_fuse.specs.declared.decide.Decided.{Decided}
 use Rattle.lictor_fuse.specs.declared.Ticked.{Ticked}
 use Rattle.lictor_fuse.specs.FaultTick.{faultMotion, faultInput, faultVerdict, closeFault, faultTick}
@@ -48,7 +49,7 @@ schema-stays false false = tt
 -- a fault bit leads to Fault and adds none of its own
 row-one : (cfg : FuseConfig) (rt : Control) (pos : List Float) (inp : FsmInput) → anyOf (inp .trips) faultBits ≡ true
     → (nextOf cfg rt pos inp .state ≡ Fault) × (nextOf cfg rt pos inp .extra ≡ 0)
-unfolding nextOf nextFrom settledOf firstOf table
+unfolding nextOf nextFrom settledOf firstThat table
 row-one cfg rt pos inp e = rw e (refl, refl)
 
 module _ (r : FuseRt) (c : Call) (p : 0 < r .clock .seq) (h : c .input .t ≤ lastTime) (k : lastTime < r .clock .«last_t» + 1 + c .input .«missed_ticks») where

@@ -23,12 +23,13 @@ use Rattle.lictor_core.specs.declared.state.FuseState.the-variants.{Idle, Armed
 use Rattle.lictor_core.specs.Codes.{stateCode, isState, modeOf, rearmOf}
 use Rattle.lictor_core.specs.Initial.{zeroFloat, oneFloat, zeros, freshControl, freshMotion, freshClock, resetOf}
 use Rattle.lictor_core.specs.Masks.{anyOf, faultBits}
-use Rattle.lictor_core.specs.Rows.{rowTo}
-use Rattle.lictor_settings.specs.Settings.{badCode, badSize, badFloat, anyBelow, crossedOf, badBox, settingsTable, firstRow, checkOf, configOf}
-use Rattle.lictor_core.proofs.Rows.{row-length}
+use Rattle.lictor_core.specs.Rows.{rowTo, takenRow}
+use Rattle.lictor_core.specs.FirstThat.{firstThat}
+use Rattle.lictor_settings.specs.Settings.{badCode, badSize, badFloat, anyBelow, crossedOf, badBox, settingsTable, checkOf, configOf}
+use Rattle.lictor_core.proofs.RowLaws.{row-length}
 use Rattle.lictor_guard.specs.Delivery.{deliveredOf, sizesBad, placeBad, headBad, deliveryBad}
 use Rattle.lictor_guard.specs.Guard.{nonFinite, lengthsOf, shapeBad, clockBad, schemaBad, bitIf, guardOf}
-use Rattle.lictor_stages.specs.Ingest.{takenRow, velocityOf, ingestOf}
+use Rattle.lictor_stages.specs.Ingest.{velocityOf, ingestOf}
 use Rattle.lictor_stages.specs.Findings.{withBrake, maskedOf, slowOf, standstillOf, findingsOf, machineInput}
 use Rattle.lictor_stages.specs.Verdict.{verdictOf}
 use Rattle.lictor_table.specs.declared.FsmInput.{FsmInput}
@@ -181,7 +182,7 @@ record At (q : FuseState) (count : Control → ℕ) (n i : ℕ) (r : FuseRt) : T
   running : Running i r
 
 passes : (b h e : ℕ) → T (isAccepted (checkOf (slowSettings b h e)))
-unfolding checkOf firstRow settingsTable badCode badSize badFloat badBox crossedOf anyBelow allFinite isNan lt zeros
+unfolding checkOf firstThat settingsTable badCode badSize badFloat badBox crossedOf anyBelow allFinite isNan lt zeros
 passes b h e = tt
 
 -- ---- one tick of the stop, whatever its velocity

@@ -8,7 +8,7 @@ use Rattle.journal_records.specs.Body.{ackOf, headOf, tickNumbers, decodeOf}
 use Rattle.journal_records.specs.Long.{limitsOf, calibrationOf, settingsOf, scoresIn, outcomeOf}
 use Rattle.journal_records.specs.Kinds.{isKnown, bodyLen}
 use Rattle.journal_refusals.specs.Causes.{unknownKind, bodyCut, beforeSettings, again, codeNotListed, sizeOutside, floatNotFinite, boxCrossed, listFull, notReady}
-use Rattle.journal_refusals.specs.Table.{refusalTable, firstRow as firstRow·judge, judgedOf, contentsOf}
+use Rattle.journal_refusals.specs.Table.{refusalTable, judgedOf, contentsOf}
 use Rattle.journal_reader.specs.Reading.{lookAs, lookOf, broughtOf, onRecord, onLook, onBytes, readOf, listsRead}
 use Rattle.journal_reader.specs.State.{ackWaits, headWaits, valueWaits, stored, outcomeWaits, settingsCame, emptied, startReader, valuesOf, inputOf}
 use Rattle.stream.specs.Stream.{settle, settled, advance, advanced, fed, whole}
@@ -26,7 +26,7 @@ unfolding
     tick-opened behindCommas commas numbersText floatsText lineOf putOf pushOf hexIn floatText leAt floatAt
     floatsAt limitsOf calibrationOf settingsOf ackOf headOf scoresIn outcomeOf tickNumbers decodeOf isKnown
     bodyLen unknownKind bodyCut beforeSettings again codeNotListed sizeOutside floatNotFinite boxCrossed
-    listFull notReady refusalTable firstRow·judge judgedOf contentsOf lookAs lookOf broughtOf onRecord onLook
+    listFull notReady refusalTable judgedOf contentsOf lookAs lookOf broughtOf onRecord onLook
     onBytes readOf listsRead ackWaits headWaits valueWaits stored outcomeWaits settingsCame emptied startReader
     valuesOf inputOf settle settled advance advanced fed whole judgedAt begunOf restartedOf decidedOf tickedOf
     obey obeyed replayOf startRun startWhole journalOf advancedOf listsAfter journalTick begunAt resetAt

@@ -8,7 +8,8 @@ use lib.Dec.{eqb}
 use lib.ListN.{take, drop}
 use Rattle.lictor_core.specs.declared.envelope.Settings as S
 use Rattle.lictor_settings.specs.declared.SettingsCheck.the-variants as K
-use Rattle.lictor_settings.specs.Settings.{settingsTable, firstRow, checkOf}
+use Rattle.lictor_core.specs.FirstThat.{firstThat}
+use Rattle.lictor_settings.specs.Settings.{settingsTable, checkOf}
 use Rattle.claims.specs.Runs.{All}
 use Rattle.claims.specs.Demand3.{Sized}
 use Rattle.journal_records.specs.Little.{byteAt, floatAt}
@@ -115,7 +116,7 @@ both-false false e = absurd (let z : _≡_ {A = ℕ} 0 1 = cc in omega arith)
 
 kind-moves : (st : State) (k : ℕ) (b : List ℕ) (n : ℕ) → Bytes b → Passed (st .reader .waiting .seen) k b → (t : Bool) → eqb k settingsKind ≡ t
     → Moves st (onRecord st b n (decodeOf k b))
-unfolding decodeOf beforeSettings again codeNotListed sizeOutside floatNotFinite boxCrossed checkOf settingsTable firstRow
+unfolding decodeOf beforeSettings again codeNotListed sizeOutside floatNotFinite boxCrossed checkOf settingsTable firstThat
 kind-moves st k b n h p true e =
     let c : checkOf (settingsOf b) ≡ K.Accepted = rw (rw e at (p .codes), rw e at (p .sizes), rw e at (p .floats), rw e at (p .box)) refl in
     rw e (settings-move st b n (rw e at (p .twice)) c (read-sized b h))

@@ -4,6 +4,8 @@ use mathlib.Core.List.{List, [], _∷_}
 use mathlib.Core.Path.{_≡_, refl, sym, _∙_, subst}
 use Prim.Native.Nat.{ℕ, _≤_}
 use native.Mathlib.Omega.{arith}
+use Rattle.lictor_core.specs.FirstThat.{firstThat}
+use Rattle.lictor_core.proofs.FirstThat.{first-is}
 use Rattle.journal_refusals.specs.declared.Seen.{Seen}
 use Rattle.journal_refusals.specs.declared.Refusal.{Refusal}
 use Rattle.journal_refusals.specs.declared.Refusal.the-variants.{UnknownKind, CutBody, BeforeSettings, Again, BadCode, BadSize, NotFinite, BoxCrossed, ListFull, NotReady}
@@ -12,30 +14,29 @@ use Rattle.journal_refusals.specs.Table.{Row, numberOf, isCutBody, first
 use Rattle.journal_refusals.specs.Exactly.{Decides, this-row, later-row, Passes, no-row, not-this-row}
 
 module _ (seen : Seen) (k : ℕ) (b : List ℕ) where
-  first-is : (w : Row) (ws : List Row) (t : Bool) → w .cause seen k b ≡ t → firstRow (w ∷ ws) seen k b ≡ cond t (Refused (w .answer)) (firstRow ws seen k b)
-  unfolding firstRow
-  first-is w ws t e = rw e refl
+  first : (w : Row) (ws : List Row) (t : Bool) → w .cause seen k b ≡ t → firstRow (w ∷ ws) seen k b ≡ cond t (Refused (w .answer)) (firstRow ws seen k b)
+  first w ws t e = first-is (λ v. v .cause seen k b) (λ v. Refused (v .answer)) Accepted w ws t e
 
   decides-by : (w : Row) (ws : List Row) (r : Refusal) → (firstRow ws seen k b ≡ Refused r → Decides seen k b ws r) → (t : Bool) → w .cause seen k b ≡ t
       → firstRow (w ∷ ws) seen k b ≡ Refused r → Decides seen k b (w ∷ ws) r
-  decides-by w ws r ih true c e = let q : w .answer ≡ r = cc (first-is w ws true c) in subst (Decides seen k b (w ∷ ws)) q (this-row c)
-  decides-by w ws r ih false c e = later-row c (ih (sym (first-is w ws false c) ∙ e))
+  decides-by w ws r ih true c e = let q : w .answer ≡ r = cc (first w ws true c) in subst (Decides seen k b (w ∷ ws)) q (this-row c)
+  decides-by w ws r ih false c e = later-row c (ih (sym (first w ws false c) ∙ e))
 
   -- refused for r: the first row that applies answers r
   pub refused-so : (t : List Row) (r : Refusal) → firstRow t seen k b ≡ Refused r → Decides seen k b t r
-  unfolding firstRow
+  unfolding firstThat
   refused-so [] r e = absurd (let z : _≡_ {A = ℕ} 0 1 = cc in omega arith)
   refused-so (w ∷ ws) r e = decides-by w ws r (refused-so ws r) (w .cause seen k b) refl e
 
   -- and the other way round
   pub so-refused : {t : List Row} {r : Refusal} → Decides seen k b t r → firstRow t seen k b ≡ Refused r
-  so-refused (this-row {w = w} {ws = ws} c) = first-is w ws true c
-  so-refused (later-row {w = w} {ws = ws} c d) = first-is w ws false c ∙ so-refused d
+  so-refused (this-row {w = w} {ws = ws} c) = first w ws true c
+  so-refused (later-row {w = w} {ws = ws} c d) = first w ws false c ∙ so-refused d
 
   passes-by : (w : Row) (ws : List Row) → (firstRow ws seen k b ≡ Accepted → Passes seen k b ws) → (t : Bool) → w .cause seen k b ≡ t
       → firstRow (w ∷ ws) seen k b ≡ Accepted → Passes seen k b (w ∷ ws)
-  passes-by w ws ih true c e = absurd (let z : _≡_ {A = ℕ} 0 1 = cc (first-is w ws true c) in omega arith)
-  passes-by w ws ih false c e = not-this-row c (ih (sym (first-is w ws false c) ∙ e))
+  passes-by w ws ih true c e = absurd (let z : _≡_ {A = ℕ} 0 1 = cc (first w ws true c) in omega arith)
+  passes-by w ws ih false c e = not-this-row c (ih (sym (first w ws false c) ∙ e))
 
   -- accepted: no row applies
   pub accepted-so : (t : List Row) → firstRow t seen k b ≡ Accepted → Passes seen k b t
@@ -43,9 +44,9 @@ module _ (seen : Seen) (k : ℕ) (b : List ℕ) where
   accepted-so (w ∷ ws) e = passes-by w ws (accepted-so ws) (w .cause seen k b) refl e
 
   pub so-accepted : {t : List Row} → Passes seen k b t → firstRow t seen k b ≡ Accepted
-  unfolding firstRow
+  unfolding firstThat
   so-accepted no-row = refl
-  so-accepted (not-this-row {w = w} {ws = ws} c p) = first-is w ws false c ∙ so-accepted p
+  so-accepted (not-this-row {w = w} {ws = ws} c p) = first w ws false c ∙ so-accepted p
 
 -- the numbers are those from 1 to 10
 pub numbers : (r : Refusal) → (1 ≤ numberOf r) × (numberOf r ≤ 10)

@@ -9,6 +9,7 @@ use borrow.Author.Tests.{ltb-false, leb-false, not-true}
 use lib.ListN.{length, getD, drop}
 use Rattle.journal_records.specs.Little.{byteAt}
 use Rattle.journal_records.specs.Kinds.{bodyLen, journalKinds}
+use Rattle.lictor_core.specs.FirstThat.{firstThat}
 use Rattle.journal_refusals.specs.declared.Seen.{Seen}
 use Rattle.journal_refusals.specs.declared.Refusal.{Refusal}
 use Rattle.journal_refusals.specs.declared.Refusal.the-variants.{UnknownKind, CutBody}
@@ -28,11 +29,11 @@ and-right false y e = absurd (let z : _≡_ {A = ℕ} 0 1 = cc in omega arith)
 
 module _ (seen : Seen) (k : ℕ) (b : List ℕ) where
   pub judged-unknown : (kinds : List ℕ) → unknownKind kinds seen k b ≡ true → judgedOf kinds seen k b ≡ Refused UnknownKind
-  unfolding judgedOf refusalTable firstRow
+  unfolding judgedOf refusalTable firstThat
   judged-unknown kinds e = rw e refl
 
   pub judged-cut : (kinds : List ℕ) → unknownKind kinds seen k b ≡ false → bodyCut kinds seen k b ≡ true → judgedOf kinds seen k b ≡ Refused CutBody
-  unfolding judgedOf refusalTable firstRow
+  unfolding judgedOf refusalTable firstThat
   judged-cut kinds e f = rw (e, f) refl
 
   -- of these rows every answer passes the test
@@ -42,7 +43,7 @@ module _ (seen : Seen) (k : ℕ) (b : List ℕ) where
 
   answers-by : (p : Refusal → Bool) (w : Row) (ws : List Row) (r : Refusal) → (answers p ws ≡ true → firstRow ws seen k b ≡ Refused r → p r ≡ true) → (t : Bool)
       → w .cause seen k b ≡ t → answers p (w ∷ ws) ≡ true → firstRow (w ∷ ws) seen k b ≡ Refused r → p r ≡ true
-  unfolding firstRow answers
+  unfolding firstThat answers
   answers-by p w ws r ih true c a e =
       let f : Refused (w .answer) ≡ Refused r = rw c at e in
       let q : w .answer ≡ r = cc in
@@ -51,12 +52,12 @@ module _ (seen : Seen) (k : ℕ) (b : List ℕ) where
 
   -- so does what the first of them answers
   answered : (p : Refusal → Bool) (t : List Row) (r : Refusal) → answers p t ≡ true → firstRow t seen k b ≡ Refused r → p r ≡ true
-  unfolding firstRow
+  unfolding firstThat
   answered p [] r a e = absurd (let z : _≡_ {A = ℕ} 0 1 = cc in omega arith)
   answered p (w ∷ ws) r a e = answers-by p w ws r (answered p ws r) (w .cause seen k b) refl a e
 
   not-cut-by : (kinds : List ℕ) (r : Refusal) (t : Bool) → unknownKind kinds seen k b ≡ t → bodyCut kinds seen k b ≡ false → judgedOf kinds seen k b ≡ Refused r → not (isCutBody r) ≡ true
-  unfolding judgedOf refusalTable firstRow answers
+  unfolding judgedOf refusalTable firstThat answers
   not-cut-by kinds r true u c e =
       let f : Refused UnknownKind ≡ Refused r = rw u at e in
       let q : UnknownKind ≡ r = cc in

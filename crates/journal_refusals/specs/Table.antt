@@ -1,9 +1,11 @@
 -- The refusal table: ten rows in the order of 01-scope.md, Journal; the first row that applies decides.
-use mathlib.Core.Bool.{Bool, cond}
+use mathlib.Core.Bool.{Bool}
 use mathlib.Core.List.{List, [], _∷_}
 use Prim.Native.Nat.{ℕ}
 use lib.Dec.{eqb}
 use lib.ListN.{drop}
+use Rattle.lictor_core.specs.FirstThat as First
+use Rattle.lictor_core.specs.FirstThat.{refuse_when_, firstThat}
 use Rattle.journal_records.specs.Kinds.{journalKinds}
 use Rattle.journal_refusals.specs.declared.Seen.{Seen}
 use Rattle.journal_refusals.specs.declared.Refusal.{Refusal}
@@ -29,14 +31,9 @@ numberOf NotReady = 10
 abbrev pub isCutBody : Refusal → Bool
 isCutBody r = eqb (numberOf r) (numberOf CutBody)
 
--- a row: what is answered where the cause is there. A cause goes by what has been seen, the kind, and the body as far as it came.
-pub record Row : Type 0 where
-  pub answer : Refusal
-  pub cause : Seen → ℕ → List ℕ → Bool
-
-infix 70 refuse_when_
-abbrev pub refuse_when_ : Refusal → (Seen → ℕ → List ℕ → Bool) → Row
-refuse_when_ r c = record { answer = r; cause = c }
+-- a row: a cause goes by what has been seen, the kind, and the body as far as it came
+abbrev pub Row : Type 0
+Row = First.Row Refusal (Seen → ℕ → List ℕ → Bool)
 
 -- the table, over the kinds that are listed
 unfoldable pub refusalTable : List ℕ → List Row
@@ -54,9 +51,8 @@ refusalTable kinds =
     ∷ []
 
 -- the first row whose cause is there
-unfoldable pub firstRow : List Row → Seen → ℕ → List ℕ → Judged
-firstRow [] seen k b = Accepted
-firstRow (w ∷ ws) seen k b = cond (w .cause seen k b) (Refused (w .answer)) (firstRow ws seen k b)
+abbrev pub firstRow : List Row → Seen → ℕ → List ℕ → Judged
+firstRow ws seen k b = firstThat (λ w. w .cause seen k b) (λ w. Refused (w .answer)) Accepted ws
 
 -- what becomes of a record of kind k with body b
 unfoldable pub judgedOf : List ℕ → Seen → ℕ → List ℕ → Judged

@@ -1,5 +1,6 @@
--- The brake and the hold action (01-scope.md, Modules 5; brake.rs). A row has 8 places; the action's components are the first dim, the position's and the
--- velocity's the first pos_dim, and the two numbers need not agree.
+-- The brake and the hold action (01-scope.md, Modules 5; brake.rs). A row has 8 places; the
+-- action's components are the first dim, the position's and the velocity's the first pos_dim, and
+-- the two numbers need not agree.
 use mathlib.Core.Bool.{false, cond}
 use mathlib.Core.List.{List}
 use Prim.Native.Nat.{ℕ, min, _^_}
@@ -44,13 +45,15 @@ scaledAction cfg vel k = scaledRow vel k (cfg .«pos_dim») (min (cfg .dim) 8)
 unfoldable pub eps : Float
 eps = round binary64 false 1 (10 ^ 9)
 
--- max(0, 1 - a_max * dt / (norm + 1e-9)), rounded at each operation; the norm is over the components that both the action and the velocity have
+-- max(0, 1 - a_max * dt / (norm + 1e-9)), rounded at each operation; the norm is over the
+-- components that both the action and the velocity have
 unfoldable pub brakeFactor : FuseConfig → List Float → Float
 brakeFactor cfg vel =
     maxOf zeroFloat
     (sub binary64 oneFloat (div binary64 (mul binary64 (cfg .«a_max») (cfg .dt)) (add binary64 (normOf vel (min (min (cfg .dim) 8) (cfg .«pos_dim»))) eps)))
 
--- brake_action: EePosition, JointPosition and Other stay at the position; JointVelocity ramps the velocity down; EeDelta too, as a step of dt
+-- brake_action: EePosition, JointPosition and Other stay at the position; JointVelocity ramps the
+-- velocity down; EeDelta too, as a step of dt
 unfoldable pub brakeAction : FuseConfig → List Float → List Float → List Float
 brakeAction cfg p vel =
     byKind (cfg .kind) (boxedAction cfg p) (scaledAction cfg vel (mul binary64 (brakeFactor cfg vel) (cfg .dt))) (boxedAction cfg p)

@@ -11,7 +11,8 @@ use Rattle.lictor_core.specs.declared.scores.Scores.{Scores}
 unfoldable pub hitBit : Bool → ℕ
 hitBit hit = cond hit 1 0
 
--- Window::push: the register moves up by one place, its bit 63 drops, the hit comes in at bit 0; then only bits of the mask stay
+-- Window::push: the register moves up by one place, its bit 63 drops, the hit comes in at bit 0;
+-- then only bits of the mask stay
 unfoldable pub pushHit : Window → Bool → ℕ → Window
 pushHit w hit mask = record { bits = bitAnd (bitOr (w .bits * 2 % 2 ^ 64) (hitBit hit)) mask }
 

@@ -7,7 +7,7 @@ use lictor_core::chunk::ActionKind;
 use lictor_core::chunk::MAX_D;
 use lictor_core::envelope::FuseConfig;
 use lictor_core::num::least;
-use lictor_core::zero::no_row;
+use lictor_core::rows::no_row;
 
 // Keeps the denominator of the factor above zero.
 const EPS: f64 = 1e-9;
@@ -34,13 +34,15 @@ fn boxed(row: [f64; 8], lo: [f64; 8], hi: [f64; 8], live: usize, n: usize) -> [f
     requires { ⌜ n ≤ 8 ⌝ }
     ensures { λ r. ⌜ r ≡ boxedRow row lo hi live n ⌝ }
 {
-    let mut h = no_row();
-    let mut c: usize = 0;
-    while c < n {
-        h[c] = boxed_component(row, lo, hi, live, c);
-        c += 1;
+    let mut out = no_row();
+    let mut at: usize = 0;
+    while at < 8 {
+        if at < n {
+            out[at] = boxed_component(row, lo, hi, live, at);
+        }
+        at += 1;
     }
-    h
+    out
 }
 
 fn scaled_component(row: [f64; 8], k: f64, live: usize, c: usize) -> f64
@@ -55,13 +57,15 @@ fn scaled(row: [f64; 8], k: f64, live: usize, n: usize) -> [f64; 8]
     requires { ⌜ n ≤ 8 ⌝ }
     ensures { λ r. ⌜ r ≡ scaledRow row k live n ⌝ }
 {
-    let mut h = no_row();
-    let mut c: usize = 0;
-    while c < n {
-        h[c] = scaled_component(row, k, live, c);
-        c += 1;
+    let mut out = no_row();
+    let mut at: usize = 0;
+    while at < 8 {
+        if at < n {
+            out[at] = scaled_component(row, k, live, at);
+        }
+        at += 1;
     }
-    h
+    out
 }
 
 fn boxed_action(cfg: FuseConfig, row: [f64; 8]) -> [f64; 8]
@@ -107,8 +111,10 @@ fn brake_delta(cfg: FuseConfig, vel: [f64; 8]) -> [f64; 8]
     scaled_action(cfg, vel, k)
 }
 
-// The action while braking: position kinds stay where they are, within the box; velocity kinds ramp down.
-// All NaNs are one value in this promise: which pattern a NaN has is left open, and nothing else depends on it.
+// The action while braking: position kinds stay where they are, within the box; velocity kinds ramp
+// down.
+// All NaNs are one value in this promise: which pattern a NaN has is left open, and nothing else
+// depends on it.
 pub fn brake_action(cfg: FuseConfig, pos: [f64; 8], vel: [f64; 8]) -> [f64; 8]
     ensures { λ r. ⌜ r ≡ brakeAction cfg pos vel ⌝ }
 {

@@ -1,10 +1,10 @@
-// Held (fsm.rs, rows 9 to 13): what the state machine does while the arm is held still. An operator's acknowledgement, whose rows lictor_fsm::escalated has,
-// the automatic rearm, and the limit of the hold end it. lictor_fsm has the other states and hands on to `held` here.
+// Held (fsm.rs, rows 9 to 13): the arm is held still. An accepted acknowledgement (rows 9 and 10,
+// in `acks`), the automatic rearm or the limit of the hold ends it.
 ghost use mathlib.Core.Path.{_≡_};
-ghost use Rattle.lictor_table.specs.Helpers.{countIf};
 ghost use Rattle.lictor_table.specs.Rows.{mayRearm, rearmRow, escalateRow, holdRow, holdingOf, heldOf};
-use crate::escalated::resume_row;
-use crate::escalated::terminate_row;
+use crate::acks::resume_row;
+use crate::acks::terminate_row;
+use crate::counts::count_clean;
 use lictor_core::ack::AckDecision;
 use lictor_core::ack::MaybeAck;
 use lictor_core::envelope::FuseConfig;
@@ -25,13 +25,13 @@ pub fn held(cfg: FuseConfig, rt: Control, clean: bool, ack: MaybeAck, inp: FsmIn
     ensures { λ r. ⌜ r ≡ heldOf cfg rt clean ack inp ⌝ }
 {
     match ack {
-        MaybeAck::Given(a) => {
-            let d = a.decision;
-            match d {
-                AckDecision::Resume => resume_row(rt, a),
+        MaybeAck::Given(given) => {
+            let decision = given.decision;
+            match decision {
+                AckDecision::Resume => resume_row(rt, given),
                 AckDecision::Abort => terminate_row(
                     rt,
-                    a,
+                    given,
                     verdict::OPERATOR_ABORT,
                     ReasonCode::TerminatedAbort,
                 ),
@@ -47,20 +47,20 @@ pub fn held(cfg: FuseConfig, rt: Control, clean: bool, ack: MaybeAck, inp: FsmIn
 fn holding(cfg: FuseConfig, rt: Control, clean: bool, inp: FsmInput) -> Turn
     ensures { λ r. ⌜ r ≡ holdingOf cfg rt clean inp ⌝ }
 {
-    let h = cfg.hyst;
+    let hyst = cfg.hyst;
     let policy = cfg.rearm;
     if may_rearm(
         policy,
         rt.held_clean,
-        h.rearm_hold,
+        hyst.rearm_hold,
         inp.chunk_ok,
         rt.rearms,
-        h.max_rearms,
+        hyst.max_rearms,
     ) {
         return rearm_row(rt);
     }
-    if h.escalate_after_hold_ticks <= rt.held_ticks {
-        if h.max_rearms <= rt.rearms {
+    if hyst.escalate_after_hold_ticks <= rt.held_ticks {
+        if hyst.max_rearms <= rt.rearms {
             return escalate_row(rt, verdict::REARM_BUDGET, ReasonCode::EscalateRearmBudget);
         }
         if inp.predictive {
@@ -89,12 +89,12 @@ fn may_rearm(policy: RearmPolicy, clean: u16, need: u16, ok: bool, rearms: u8, m
 fn rearm_row(rt: Control) -> Turn
     ensures { λ r. ⌜ r ≡ rearmRow rt ⌝ }
 {
-    let mut q = rt;
+    let mut after = rt;
     let n = sat_u8(rt.rearms);
-    q.rearms = n;
-    q.window.bits = 0;
+    after.rearms = n;
+    after.window.bits = 0;
     Turn {
-        rt: q,
+        rt: after,
         state: FuseState::Armed,
         extra: 0,
         reason: ReasonCode::RearmedAuto,
@@ -105,13 +105,13 @@ fn rearm_row(rt: Control) -> Turn
 fn escalate_row(rt: Control, extra: u32, reason: ReasonCode) -> Turn
     ensures { λ r. ⌜ r ≡ escalateRow rt extra reason ⌝ }
 {
-    let mut q = rt;
+    let mut after = rt;
     let n = wrap_u32(rt.handoff_seq);
-    q.handoff_seq = n;
-    q.handoff_pending = true;
-    q.escalated_ticks = 0;
+    after.handoff_seq = n;
+    after.handoff_pending = true;
+    after.escalated_ticks = 0;
     Turn {
-        rt: q,
+        rt: after,
         state: FuseState::Escalated,
         extra,
         reason,
@@ -122,22 +122,15 @@ fn escalate_row(rt: Control, extra: u32, reason: ReasonCode) -> Turn
 fn hold_row(rt: Control, clean: bool) -> Turn
     ensures { λ r. ⌜ r ≡ holdRow rt clean ⌝ }
 {
-    let mut q = rt;
+    let mut after = rt;
     let n = sat_u16(rt.held_ticks);
-    q.held_ticks = n;
+    after.held_ticks = n;
     let m = count_clean(clean, rt.held_clean);
-    q.held_clean = m;
+    after.held_clean = m;
     Turn {
-        rt: q,
+        rt: after,
         state: FuseState::Held,
         extra: 0,
         reason: ReasonCode::HeldStandstill,
     }
-}
-
-// A run of clean ticks: one more, or 0.
-pub fn count_clean(clean: bool, run: u16) -> u16
-    ensures { λ r. ⌜ r ≡ countIf 16 clean run ⌝ }
-{
-    if clean { sat_u16(run) } else { 0 }
 }

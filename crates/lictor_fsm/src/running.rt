@@ -1,14 +1,11 @@
-// Rows 17 to 23 of fsm.rs and the stay rows: what the state machine does in Armed, Watching and Clamped, each row under its own number.
-//
-// Three kinds of function, as in lictor_fsm: tests and numbers over plain values; rows, which change the run state and do not branch; and choices,
-// which test and then hand on, or answer with nothing changed.
+// Armed, Watching and Clamped (fsm.rs, rows 17 to 23 and the stay rows): the policy runs.
 ghost use mathlib.Core.Path.{_≡_};
 ghost use Rattle.lictor_core.specs.declared.state.FuseState.the-variants.{Armed, Watching};
-ghost use Rattle.lictor_table.specs.Helpers.{clampReason, armedReason, upIf, to};
+ghost use Rattle.lictor_table.specs.Helpers.{clampReason, armedReason, to};
 ghost use Rattle.lictor_table.specs.Rows.{enterBraking, brakeRow, unclampableOf, overBudget, clampRow, clearedOf, clearRow, watchedOf, quietOf, runningOf};
+use crate::counts::streak_up;
 use lictor_core::envelope::FuseConfig;
 use lictor_core::fuse::Control;
-use lictor_core::num::sat_u8;
 use lictor_core::num::sat_u16;
 use lictor_core::reason::ReasonCode;
 use lictor_core::state::FuseMode;
@@ -58,19 +55,19 @@ pub fn running(cfg: FuseConfig, rt: Control, from: FuseState, inp: FsmInput) -> 
 fn enter_braking(rt: Control) -> Control
     ensures { λ r. ⌜ r ≡ enterBraking rt ⌝ }
 {
-    let mut q = rt;
-    q.brake_ticks = 0;
-    q.stopped_ticks = 0;
-    q
+    let mut after = rt;
+    after.brake_ticks = 0;
+    after.stopped_ticks = 0;
+    after
 }
 
 // Rows 17, 17b, 18 and 19.
 fn brake_row(rt: Control, extra: u32, reason: ReasonCode) -> Turn
     ensures { λ r. ⌜ r ≡ brakeRow rt extra reason ⌝ }
 {
-    let q = enter_braking(rt);
+    let after = enter_braking(rt);
     Turn {
-        rt: q,
+        rt: after,
         state: FuseState::Braking,
         extra,
         reason,
@@ -106,25 +103,18 @@ fn over_budget(streak: u8, limit: u8, clamps: u16, most: u16) -> bool
 fn clamp_row(rt: Control, boundary: bool, soft: u32) -> Turn
     ensures { λ r. ⌜ r ≡ clampRow rt boundary soft ⌝ }
 {
-    let mut q = rt;
+    let mut after = rt;
     let n = sat_u16(rt.clamps);
-    q.clamps = n;
+    after.clamps = n;
     let m = streak_up(boundary, rt.clamp_streak);
-    q.clamp_streak = m;
+    after.clamp_streak = m;
     let reason = clamp_reason(soft);
     Turn {
-        rt: q,
+        rt: after,
         state: FuseState::Clamped,
         extra: 0,
         reason,
     }
-}
-
-// The streak counts where a chunk is delivered.
-fn streak_up(boundary: bool, n: u8) -> u8
-    ensures { λ r. ⌜ r ≡ upIf 8 boundary n ⌝ }
-{
-    if boundary { sat_u8(n) } else { n }
 }
 
 fn clamp_reason(soft: u32) -> ReasonCode
@@ -202,11 +192,11 @@ fn cleared(from: FuseState, need: u8, run: u16) -> bool
 fn clear_row(rt: Control) -> Turn
     ensures { λ r. ⌜ r ≡ clearRow rt ⌝ }
 {
-    let mut q = rt;
-    q.window.bits = 0;
-    q.clamp_streak = 0;
+    let mut after = rt;
+    after.window.bits = 0;
+    after.clamp_streak = 0;
     Turn {
-        rt: q,
+        rt: after,
         state: FuseState::Armed,
         extra: 0,
         reason: ReasonCode::Ok,

@@ -22,7 +22,7 @@ use Rattle.lictor_core.specs.Codes.{isProject}
 use Rattle.lictor_detect.specs.Brake.{holdAction}
 use Rattle.lictor_detect.specs.Window.{hitsOf}
 use Rattle.lictor_guard.specs.Delivery.{deliveredOf}
-use Rattle.lictor_stages.specs.Ingest.{takenRow}
+use Rattle.lictor_core.specs.Rows.{takenRow}
 use Rattle.lictor_stages.specs.Act.{statusOf}
 use Rattle.lictor_stages.specs.Verdict.{actionDim, disarmedScores}
 use Rattle.lictor_table.specs.declared.FsmInput.{FsmInput}

@@ -6,8 +6,8 @@ use lictor_core::fuse::Control;
 use lictor_core::fuse::FuseRt;
 use lictor_core::fuse::Motion;
 use lictor_core::fuse::Window;
+use lictor_core::rows::no_row;
 use lictor_core::state::FuseState;
-use lictor_core::zero::no_row;
 
 fn fresh_control(s: FuseState) -> Control
     ensures { λ r. ⌜ r ≡ freshControl s ⌝ }

@@ -23,7 +23,7 @@ use lictor_guard::delivery::delivered;
 use lictor_stages::act::status_of;
 use lictor_stages::findings::Findings;
 use lictor_stages::findings::Scored;
-use lictor_stages::ingest::taken;
+use lictor_core::rows::taken;
 use lictor_stages::verdict::action_dim;
 use lictor_stages::verdict::disarmed_scores;
 use lictor_table::FsmInput;

@@ -1,4 +1,5 @@
--- What a tick delivers (01-scope.md, One tick; fuse.rs, guard): whether a chunk, and the causes of SCHEMA that lie in it, or in that there is none. Each cause is an operand of one `||`.
+-- What a tick delivers (01-scope.md, One tick; fuse.rs, guard): whether a chunk, and the causes of
+-- SCHEMA that lie in it, or in that there is none. Each cause is an operand of one `||`.
 use mathlib.Core.Bool.{Bool, true, false, not, _||_}
 use Prim.Native.Nat.{ℕ, _-_, _*_}
 use lib.Dec.{ltb, eqb}

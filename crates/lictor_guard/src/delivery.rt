@@ -1,5 +1,5 @@
-// What a tick delivers: whether a chunk, and whether its head fits the settings, the sequence and the time (fuse.rs, guard). It only
-// reads. lictor_guard has the rest of the guard.
+// What a tick delivers: whether a chunk, and whether its head fits the settings, the sequence and
+// the time (fuse.rs, guard). It only reads. lictor_guard has the rest of the guard.
 ghost use mathlib.Core.Path.{_≡_};
 ghost use mathlib.Core.Bool.{not};
 ghost use Prim.Native.Nat.{_*_};

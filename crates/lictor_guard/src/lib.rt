@@ -1,4 +1,5 @@
-// Stage 0 of a tick: the bits that make it a fault tick (fuse.rs, guard). It only reads. What it asks of a chunk is in lictor_guard::delivery.
+// Stage 0 of a tick: the bits that make it a fault tick (fuse.rs, guard). It only reads. What it
+// asks of a chunk is in lictor_guard::delivery.
 pub mod delivery;
 
 ghost use mathlib.Core.Path.{_≡_};

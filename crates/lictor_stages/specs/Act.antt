@@ -13,8 +13,8 @@ use Rattle.lictor_core.specs.declared.verdict.Status.the-variants as Q
 use Rattle.lictor_core.specs.Cases.{byState, bySource}
 use Rattle.lictor_core.specs.Codes.{isObserve, isPolicy}
 use Rattle.lictor_core.specs.Initial.{zeros}
+use Rattle.lictor_core.specs.Rows.{takenRow}
 use Rattle.lictor_detect.specs.Brake.{brakeAction, holdAction}
-use Rattle.lictor_stages.specs.Ingest.{takenRow}
 use Rattle.lictor_stages.specs.declared.act.Acted.{Acted}
 
 -- status_of: Idle and Armed are both Nominal

@@ -1,4 +1,5 @@
--- Stage 1 (01-scope.md, One tick; fuse.rs, INGEST): the position and the velocity that a tick takes.
+-- Stage 1 (01-scope.md, One tick; fuse.rs, INGEST): the position and the velocity that a tick
+-- takes.
 use mathlib.Core.Bool.{Bool, true, cond}
 use mathlib.Core.List.{List}
 use Prim.Native.Nat.{ℕ, min}
@@ -7,14 +8,7 @@ use lib.Ieee.{Float, nan, binary64, sub, mul}
 use Rattle.lictor_core.specs.declared.envelope.FuseConfig.{FuseConfig}
 use Rattle.lictor_core.specs.declared.fuse.Motion.{Motion}
 use Rattle.lictor_core.specs.Initial.{zeroFloat}
-use Rattle.lictor_core.specs.Rows.{rowTo}
-
-abbrev pub placeOf : List Float → ℕ → Float
-placeOf s c = getD s c nan
-
--- copy_row: `old` with its first n places from s, as far as s goes and there is room
-unfoldable pub takenRow : List Float → List Float → ℕ → List Float
-takenRow s old n = rowTo (placeOf s) old (min (min n 8) (length s))
+use Rattle.lictor_core.specs.Rows.{rowTo, takenRow}
 
 -- (position - position taken last) * inv_dt, a rounding each
 unfoldable pub stepRate : List Float → List Float → Float → ℕ → Float
@@ -31,7 +25,8 @@ atRest c = zeroFloat
 unfoldable pub stillRow : FuseConfig → List Float → List Float
 stillRow cfg old = rowTo atRest old (min (cfg .«pos_dim») 8)
 
--- the velocity: as supplied; else from the position p and the one taken last, q; else, on the first clean tick, zero
+-- the velocity: as supplied; else from the position p and the one taken last, q; else, on the first
+-- clean tick, zero
 unfoldable pub velocityOf : FuseConfig → Bool → Bool → List Float → List Float → List Float → List Float → List Float
 velocityOf cfg hasVel have p q old vel = cond hasVel (takenRow vel old (cfg .«pos_dim»)) (cond have (ratesRow cfg p q old) (stillRow cfg old))
 

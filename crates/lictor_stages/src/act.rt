@@ -2,16 +2,16 @@
 ghost use mathlib.Core.Path.{_≡_};
 ghost use Rattle.lictor_detect.specs.Brake.{brakeAction, holdAction};
 ghost use Rattle.lictor_stages.specs.Act.{statusOf, sourceOf, cutRow, passedOf, insteadOf, enforcedOf, byMode, actOf};
-use crate::ingest::taken;
 use lictor_core::envelope::FuseConfig;
 use lictor_core::fuse::Motion;
 use lictor_core::outcome::Outcome;
+use lictor_core::rows::no_row;
+use lictor_core::rows::taken;
 use lictor_core::state::FuseState;
 use lictor_core::state::is_observe;
 use lictor_core::verdict::ActionSource;
 use lictor_core::verdict::Status;
 use lictor_core::verdict::is_policy;
-use lictor_core::zero::no_row;
 use lictor_detect::brake::brake_action;
 use lictor_detect::brake::hold_action;
 

@@ -1,5 +1,7 @@
--- The rows of fsm.rs as its code has them, branch by branch: what the functions of lictor_fsm::escalated, lictor_fsm::held, lictor_fsm::running and lictor_fsm are shown
--- to compute. That all this is the table is shown in proofs/ByTable, and `next` of lictor_fsm promises the table.
+-- The rows of fsm.rs as its code has them, branch by branch: what the functions of lictor_fsm
+-- compute.
+-- That all this is the table is shown in proofs/ByTable, and `next` of lictor_fsm promises the
+-- table.
 use mathlib.Core.Bool.{Bool, false, true, cond, not, _&&_, _||_}
 use mathlib.Core.List.{List}
 use Prim.Native.Nat.{ℕ, _+_}

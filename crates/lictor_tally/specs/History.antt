@@ -1,4 +1,5 @@
--- The tally and its history: what a list of ticks leaves in a tally that was empty before it (01-scope.md, Modules 4). Proved in proofs/History.
+-- The tally and its history: what a list of ticks leaves in a tally that was empty before it
+-- (01-scope.md, Modules 4). Proved in proofs/History.
 use mathlib.Core.Path.{_≡_}
 use mathlib.Core.Bool.{Bool, true, cond, not, _&&_}
 use mathlib.Core.List.{List, [], _∷_}
@@ -142,9 +143,11 @@ lastIn s (x ∷ h) = lastIn (x .verdict .state) h
 -- ---- the claim, for every history
 
 pub record OfHistory (h : List Item) : Type 0 where
-  -- of whatever length: a count is the number of ticks that it counts, cut at its ceiling; so there it stays
+  -- of whatever length: a count is the number of ticks that it counts, cut at its ceiling; so there
+  -- it stays
   pub cut : (k : Count) → valueOf k (tallyOf h) ≡ min (number (counts k) h) (2 ^ 32 - 1)
-  -- of fewer than 2^32 ticks: it is that number, `ticks` is the length, and the eight state counts sum to it
+  -- of fewer than 2^32 ticks: it is that number, `ticks` is the length, and the eight state counts
+  -- sum to it
   pub exact : length h < 2 ^ 32 → (k : Count) → valueOf k (tallyOf h) ≡ number (counts k) h
   pub all : length h < 2 ^ 32 → tallyOf h .ticks ≡ length h
   pub sum : length h < 2 ^ 32 → overStates (λ k. valueOf k (tallyOf h)) ≡ tallyOf h .ticks

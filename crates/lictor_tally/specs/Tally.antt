@@ -1,4 +1,5 @@
--- What a tick makes of the tally (tally.rs). Each field goes by one of four rules: a count, a mark, a maximum (lictor_tally, specs/Counts), the last state.
+-- What a tick makes of the tally (tally.rs). Each field goes by one of four rules: a count, a mark,
+-- a maximum (lictor_tally, specs/Counts), the last state.
 use mathlib.Core.Bool.{Bool, not}
 use Prim.Native.Nat.{ℕ}
 use lib.Dec.{eqb}

@@ -1,4 +1,5 @@
-// The rules by which the fields of a tally go (tally.rs): a count that moves or stays, a mark that is set once, a maximum.
+// The rules by which the fields of a tally go (tally.rs): a count that moves or stays, a mark that
+// is set once, a maximum.
 ghost use mathlib.Core.Path.{_≡_};
 ghost use mathlib.Core.Bool.{cond, _&&_};
 ghost use Prim.Native.Nat.{_<_, _≤_};

@@ -1,4 +1,5 @@
-// The counts of an episode (tally.rs): an empty tally, and what a chunk and a tick make of one. The types are in lictor_core, the rules of the fields in lictor_tally::counts.
+// The counts of an episode (tally.rs): an empty tally, and what a chunk and a tick make of one. The
+// types are in lictor_core, the rules of the fields in lictor_tally::counts.
 pub mod counts;
 
 ghost use mathlib.Core.Path.{_≡_};
@@ -75,7 +76,8 @@ pub fn empty() -> Tally
 // ---- a tick and a chunk
 
 // Tally::record: the verdict of a tick, once it is final, and its events.
-// All NaNs are one value in this promise: which pattern a NaN has is left open, and nothing else depends on it.
+// All NaNs are one value in this promise: which pattern a NaN has is left open, and nothing else
+// depends on it.
 pub fn record(tally: Tally, v: SafetyVerdict, ev: TickEvents) -> Tally
     ensures { λ r. ⌜ r ≡ recordOf tally v ev ⌝ }
 {

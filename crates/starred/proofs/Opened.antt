@@ -5,8 +5,9 @@ use Rattle.fmath.specs.Root.{rootIn, wholeRoot, rootOf}
 use Rattle.lictor_core.specs.Codes.{modeOf, kindOf, clampModeOf, rearmOf, decisionOf}
 use Rattle.lictor_core.specs.Initial.{zeros, emptyTally, freshControl, freshMotion, freshClock, newOf, resetOf}
 use Rattle.lictor_core.specs.Masks.{anyOf}
-use Rattle.lictor_core.specs.Rows.{rowTo}
-use Rattle.lictor_settings.specs.Settings.{badCode, badSize, badFloat, anyBelow, crossedOf, badBox, settingsTable, firstRow, checkOf, configOf}
+use Rattle.lictor_core.specs.Rows.{rowTo, takenRow}
+use Rattle.lictor_core.specs.FirstThat.{firstThat}
+use Rattle.lictor_settings.specs.Settings.{badCode, badSize, badFloat, anyBelow, crossedOf, badBox, settingsTable, checkOf, configOf}
 use Rattle.lictor_detect.specs.Brake.{component, boxedComponent, boxedRow, scaledComponent, scaledRow, boxedAction, scaledAction, eps, brakeFactor, brakeAction, holdAction}
 use Rattle.lictor_detect.specs.Window.{hitBit, pushHit, hitsOf, tripOf}
 use Rattle.lictor_guard.specs.Delivery.{deliveredOf, sizesBad, placeBad, headBad, deliveryBad}
@@ -14,11 +15,11 @@ use Rattle.lictor_guard.specs.Guard.{nonFinite, lengthsOf, shapeBad, clockBad, 
 use Rattle.lictor_table.specs.Consumed.{consumedOf}
 use Rattle.lictor_table.specs.Helpers.{faultReason, clampReason, armedReason, acceptedBy, acceptedAck, consumeNonce, latchedOf, latchHold, countIf, upIf, isClean, countRun, settledOf}
 use Rattle.lictor_table.specs.Rows.{faultRow, rearmAck, resumeRow, terminateRow, timeoutRow, waitRow, unansweredOf, escalatedOf, mayRearm, rearmRow, escalateRow, holdRow, holdingOf, heldOf, confirmedOf, standstillRow, stoppingRow, brakingOf, enterBraking, brakeRow, unclampableOf, overBudget, clampRow, clearedOf, clearRow, watchedOf, quietOf, runningOf, byFrom, transitionOf, nextByRows}
-use Rattle.lictor_table.specs.Table.{firstOf, table, nextFrom, nextOf}
+use Rattle.lictor_table.specs.Table.{table, nextFrom, nextOf}
 use Rattle.lictor_tally.specs.History.{recorded}
 use Rattle.lictor_tally.specs.Tally.{count, bitOf, countBit, eachFrom, countBits, first, firstReason, mostAt, mostLive, recordOf, recordChunk}
 use Rattle.lictor_stages.specs.Act.{statusOf, sourceOf, cutRow, passedOf, insteadOf, enforcedOf, byMode, actOf}
-use Rattle.lictor_stages.specs.Ingest.{takenRow, stepRate, ratesRow, stillRow, velocityOf, ingestOf}
+use Rattle.lictor_stages.specs.Ingest.{stepRate, ratesRow, stillRow, velocityOf, ingestOf}
 use Rattle.lictor_stages.specs.Findings.{withBrake, maskedOf, warnOf, slowOf, standstillOf, chunkOk, scoredOf, findingsOf, machineInput}
 use Rattle.lictor_stages.specs.Verdict.{liveValid, scoresOf, disarmedScores, actionDim, enteredOf, handoffOf, hasAck, consumedFlag, verdictOf, eventsOf, rejectedOf}
 use Rattle.lictor_fuse.specs.Decide.{decideBy, decideOf}
@@ -40,7 +41,7 @@ unfolding
     zeros emptyTally freshControl freshMotion freshClock newOf resetOf
     anyOf
     rowTo
-    badCode badSize badFloat anyBelow crossedOf badBox settingsTable firstRow checkOf configOf
+    badCode badSize badFloat anyBelow crossedOf badBox settingsTable firstThat checkOf configOf
     component boxedComponent boxedRow scaledComponent scaledRow boxedAction scaledAction eps brakeFactor
     brakeAction holdAction
     hitBit pushHit hitsOf tripOf
@@ -53,7 +54,7 @@ unfolding
     escalateRow holdRow holdingOf heldOf confirmedOf standstillRow stoppingRow brakingOf enterBraking brakeRow
     unclampableOf overBudget clampRow clearedOf clearRow watchedOf quietOf runningOf byFrom transitionOf
     nextByRows
-    firstOf table nextFrom nextOf
+    table nextFrom nextOf
     recorded
     count bitOf countBit eachFrom countBits first firstReason mostAt mostLive recordOf recordChunk
     statusOf sourceOf cutRow passedOf insteadOf enforcedOf byMode actOf

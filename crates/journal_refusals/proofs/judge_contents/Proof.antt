@@ -1,7 +1,8 @@
 use Prim.Native.Nat.{ℕ}
 use mathlib.Core.Path.{sym, ap, _∙_}
 use borrow.Author.Tests.{ne-eqb}
-use Rattle.journal_refusals.specs.Table.{contentsOf, refusalTable, firstRow}
+use Rattle.lictor_core.specs.FirstThat.{firstThat}
+use Rattle.journal_refusals.specs.Table.{contentsOf, refusalTable}
 use Rattle.journal_refusals.specs.Causes.{codeNotListed, sizeOutside, floatNotFinite, boxCrossed, listFull, notReady}
 use borrow.Author.Needs.{needs}
 use Rattle.journal_refusals.proofs.judge_contents.Statement.{statement}
@@ -38,7 +39,7 @@ returns-5 : tie.Need-returns-5
 returns-5 c = c .judge-tick .ensures ∙ sym (ap (λ (k : ℕ). contentsOf (c .before .before .before .args .seen) k (c .before .before .before .args .b .now)) (c .before .match .keys5))
 
 returns-6 : tie.Need-returns-6
-unfolding contentsOf refusalTable firstRow codeNotListed sizeOutside floatNotFinite boxCrossed listFull notReady
+unfolding contentsOf refusalTable firstThat codeNotListed sizeOutside floatNotFinite boxCrossed listFull notReady
 returns-6 c = let r = c .match .rest in simp (ne-eqb _ _ (r .1), ne-eqb _ _ (r .0 .1), ne-eqb _ _ (r .0 .0 .1), ne-eqb _ _ (r .0 .0 .0 .1), ne-eqb _ _ (r .0 .0 .0 .0 .1))
 
 pub judge-contents-spec : {M : Type 1} → statement M

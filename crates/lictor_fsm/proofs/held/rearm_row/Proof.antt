@@ -8,7 +8,7 @@ sat-u8-requires c κs = search needs
 
 returns : tie.Need-returns
 unfolding rearmRow
-returns c = rw (c .before .sat-u8 .ensures)
+returns c = cc
 
 pub rearm-row-spec : {M : Type 1} → statement M
 rearm-row-spec = tie.close (tie.spec sat-u8-requires returns)
