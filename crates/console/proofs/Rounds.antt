@@ -12,7 +12,7 @@ use Rattle.journal_refusals.specs.declared.Refusal.{Refusal}
 use Rattle.journal_refusals.proofs.Exactly.{numbers}
 use Rattle.stream.specs.Stream.{wait, End, awaits, halted, telling, settled}
 use Rattle.journal_reader.specs.Reading.{onBytes}
-use Rattle.stream.proofs.Stream.{joined, settled-still, telling-telling}
+use Rattle.stream.proofs.Stream.{impossible, joined, settled-still, telling-telling}
 use Rattle.journal_reader.proofs.Reading.{waits-short}
 use Rattle.journal.specs.Tick.{Whole, wholeOf}
 use Rattle.journal.specs.Journal.{replayOf}
@@ -93,12 +93,12 @@ module _ (code : ℕ) (w : Whole) (s : List ℕ) (out : List ℕ) (t : Played) (
 
   pub round-full : (reads : ℕ) → tickRoom ≤ length out → left ≤ length buf' → t .ticked ≡ true
       → Rounded code w s reads (record { reader = t .reader; run = t .run; taken = t .at; have = left; n = t .n; refused = t .refused; reads = reads; more = true }) l' buf' out'
-  round-full reads room h y = still reads (t .refused) true room h (λ z. y) (λ z. absurd (let o : _≡_ {A = ℕ} 0 1 = cc in omega arith))
+  round-full reads room h y = still reads (t .refused) true room h (λ z. y) (λ z. impossible cc)
 
   -- it is over with a refusal, or since no read is left
   pub round-over : (reads : ℕ) → tickRoom ≤ length out → left ≤ length buf' → t .ticked ≡ false
       → Rounded code w s reads (record { reader = t .reader; run = t .run; taken = t .at; have = left; n = t .n; refused = t .refused; reads = reads; more = false }) l' buf' out'
-  round-over reads room h y = still reads (t .refused) false room h (λ z. absurd (let o : _≡_ {A = ℕ} 0 1 = cc in omega arith)) (λ z. f .stops y)
+  round-over reads room h y = still reads (t .refused) false room h (λ z. impossible cc) (λ z. f .stops y)
 
   pub left-short : t .ticked ≡ false → t .refused ≡ 0 → left ≤ 257
   left-short y z = omega (arith, rests-short v (drop (t .at) s) (t .refused) z (f .stops y), length-drop (t .at) s)

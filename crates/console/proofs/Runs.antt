@@ -17,7 +17,7 @@ use Rattle.journal_refusals.specs.declared.Refusal.the-variants.{CutBody}
 use Rattle.journal_refusals.specs.Table.{numberOf}
 use Rattle.journal_refusals.proofs.Exactly.{numbers}
 use Rattle.journal_reader.specs.declared.waiting.Reader.{Reader}
-use Rattle.journal_reader.specs.State.{startReader}
+use Rattle.journal_reader.specs.State.{places, startReader}
 use Rattle.stream.specs.Stream.{End, awaits, halted, Settled, telling, settled}
 use Rattle.journal.specs.declared.tick.Run.{Run}
 use Rattle.journal.specs.Tick.{Whole, wholeOf}
@@ -27,7 +27,7 @@ use Rattle.console.specs.declared.Round.{Round}
 use Rattle.console.specs.declared.Ended.{Ended}
 use Rattle.player.specs.Play.{eventsText}
 use Rattle.console.specs.Console.{numberAt, Rests, lastText, Rounded, textOf, endedOf, endNumber, endPlace, Ran, lastLineOf}
-use Rattle.stream.proofs.Stream.{telling-telling}
+use Rattle.stream.proofs.Stream.{impossible, telling-telling}
 use Rattle.console.proofs.Rounds.{more-bytes}
 
 -- the bytes that came so far: those before `place` were taken, those at the front of memory wait
@@ -77,12 +77,12 @@ module _ (code : ℕ) (rd : Reader) (run : Run) (l : List Float) (b : List ℕ) 
 abbrev first : Reader → Run → Round
 first rd run = record { reader = rd; run = run; taken = 0; have = 0; n = 0; refused = 0; reads = 140737488355328; more = true }
 
-pub come-first : (b : List ℕ) (rd : Reader) (run : Run) (l : List Float) → rd ≡ startReader → run ≡ startRun → l ≡ zeros 576 → Come b (first rd run) l b 0
+pub come-first : (b : List ℕ) (rd : Reader) (run : Run) (l : List Float) → rd ≡ startReader → run ≡ startRun → l ≡ zeros places → Come b (first rd run) l b 0
 unfolding startWhole
 come-first b rd run l e f g = record {
   long = refl;
   before = record { past = []; told = []; within = omega arith; goes = rw (e, f, g) refl; count = refl; bound = omega arith };
-  over = λ y. absurd (let z : _≡_ {A = ℕ} 0 1 = cc in omega arith);
+  over = λ y. impossible cc;
 }
 
 -- ---- the end

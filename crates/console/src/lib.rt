@@ -6,11 +6,13 @@ ghost use Prim.Native.Nat.{_<_, _≤_};
 ghost use lib.ListN.{length, take};
 ghost use Rattle.lictor_core.specs.Initial.{zeros};
 ghost use Rattle.text.specs.Line.{lineOf};
+ghost use Rattle.journal_reader.specs.State.{places};
 ghost use Rattle.journal.specs.Tick.{wholeOf};
 ghost use Rattle.console.specs.Intake.{Came};
 ghost use Rattle.player.specs.Play.{tickRoom};
 ghost use Rattle.console.specs.Console.{Taken, roundOf, Rounded, endedOf, Ran, lastLineOf};
 use journal::tick::Run;
+use journal_reader::waiting::PLACES;
 use journal_reader::waiting::Reader;
 use journal_refusals::Refusal;
 use libc::STDOUT_FILENO;
@@ -30,7 +32,7 @@ fn take_in(
     code: u8,
     rd: Reader,
     run: Run,
-    lists: &mut [f64; 576],
+    lists: &mut [f64; PLACES],
     buf: &mut [u8],
     have: usize,
     out: &mut [u8],
@@ -90,7 +92,7 @@ fn play_round(
     code: u8,
     rd: Reader,
     run: Run,
-    lists: &mut [f64; 576],
+    lists: &mut [f64; PLACES],
     buf: &mut [u8],
     have: usize,
     out: &mut [u8],
@@ -154,8 +156,8 @@ fn finish(run: Run, refused: u8, have: usize, place: u64) -> Ended
 const READS: u64 = 140737488355328;
 
 // Round by round to the end of the input or to the first refusal.
-fn run_rounds(code: u8, lists: &mut [f64; 576], buf: &mut [u8], out: &mut [u8]) -> Ended
-    requires { ⌜ (now lists ≡ zeros 576) × (65536 ≡ length (now buf)) × (tickRoom ≤ length (now out)) ⌝ }
+fn run_rounds(code: u8, lists: &mut [f64; PLACES], buf: &mut [u8], out: &mut [u8]) -> Ended
+    requires { ⌜ (now lists ≡ zeros places) × (65536 ≡ length (now buf)) × (tickRoom ≤ length (now out)) ⌝ }
     ensures { λ r. ⌜ Ran r ⌝ }
 {
     let rd = journal_reader::waiting::start();
@@ -203,10 +205,10 @@ fn write_line(l: Line) {
     }
 }
 
-fn no_lists() -> [f64; 576]
-    ensures { λ r. ⌜ r ≡ zeros 576 ⌝ }
+fn no_lists() -> [f64; PLACES]
+    ensures { λ r. ⌜ r ≡ zeros places ⌝ }
 {
-    [0.0; 576]
+    [0.0; PLACES]
 }
 
 // Plays the journal on standard input; what is written of a tick is chosen by the code (LINES or TRACE of `render`).

@@ -18,7 +18,7 @@ use Rattle.stream.specs.Stream.{Next, wait, halt, go, tell, End, awaits, halted
 use Rattle.journal_reader.specs.declared.waiting.Reader.{Reader}
 use Rattle.journal_reader.specs.declared.What.{What}
 use Rattle.journal_reader.specs.declared.What.the-variants as W
-use Rattle.journal_reader.specs.State.{State, settingsCame, emptied, startReader}
+use Rattle.journal_reader.specs.State.{State, places, settingsCame, emptied, startReader}
 use Rattle.journal_reader.specs.Reading.{Instruction, begin, restart, tick, onBytes}
 use Rattle.journal.specs.declared.tick.Run.{Run}
 use Rattle.journal.specs.Tick.{decidedOf, tickedOf, Whole, wholeOf}
@@ -60,7 +60,7 @@ unfoldable pub startRun : Run
 startRun = begunOf (settingsOf [])
 
 unfoldable pub startWhole : Whole
-startWhole = record { state = record { reader = startReader; lists = zeros 576 }; run = startRun }
+startWhole = record { state = record { reader = startReader; lists = zeros places }; run = startRun }
 
 -- how a journal ends: at the end of the input, or with a refusal, at the place of its record's kind byte
 pub data Ending : Type 0 where

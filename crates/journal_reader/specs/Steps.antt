@@ -31,7 +31,7 @@ Room seen Settings = Unit
 Room seen Reset = Unit
 Room seen (Ack a) = Unit
 Room seen (Head h) = Unit
-Room seen (Value c x) = (c < 5) × (countOf seen c < getD capacities c 0)
+Room seen (Value c x) = (c < length capacities) × (countOf seen c < getD capacities c 0)
 Room seen Outcome = Unit
 Room seen (Tick t) = Unit
 

@@ -19,7 +19,7 @@ use Rattle.journal_reader.specs.declared.What.the-variants as W
 use Rattle.stream.specs.Stream.{Next, wait, halt, go, tell, awaits, halted, Settled, telling, settled, Advanced, advanced, goesOn}
 use Rattle.journal_reader.specs.State.{State, emptied}
 use Rattle.journal_reader.specs.Reading.{Instruction, begin, restart, tick, broughtOf, withReader, onBytes, whatOf}
-use Rattle.stream.proofs.Stream.{Ahead, ahead, settled-wait, settled-halt, settled-tell, tells-on, telling-telling}
+use Rattle.stream.proofs.Stream.{impossible, Ahead, ahead, settled-wait, settled-halt, settled-tell, tells-on, telling-telling}
 use Rattle.journal_reader.proofs.Reading.{ticks-is}
 use Rattle.journal.specs.declared.How.the-variants.{Waits, Refuses, Ticks}
 use Rattle.journal.specs.declared.Advanced as J
@@ -39,27 +39,27 @@ module _ (w : Whole) where
   how-waits : (x : Next State Instruction Refusal) → goesOn (obeyed w x) ≡ false → howOf x ≡ Waits → obeyed w x ≡ wait
   unfolding obeyed obey
   how-waits wait g e = refl
-  how-waits (halt r) g e = absurd (let z : _≡_ {A = ℕ} 0 1 = cc in omega arith)
-  how-waits (go st n) g e = absurd (let z : _≡_ {A = ℕ} 0 1 = cc in omega arith)
-  how-waits (tell st n (begin s)) g e = absurd (let z : _≡_ {A = ℕ} 0 1 = cc in omega arith)
-  how-waits (tell st n restart) g e = absurd (let z : _≡_ {A = ℕ} 0 1 = cc in omega arith)
-  how-waits (tell st n (tick c)) g e = absurd (let z : _≡_ {A = ℕ} 0 1 = cc in omega arith)
+  how-waits (halt r) g e = impossible cc
+  how-waits (go st n) g e = impossible cc
+  how-waits (tell st n (begin s)) g e = impossible cc
+  how-waits (tell st n restart) g e = impossible cc
+  how-waits (tell st n (tick c)) g e = impossible cc
 
   how-refuses : (x : Next State Instruction Refusal) (r : Refusal) → howOf x ≡ Refuses r → obeyed w x ≡ halt r
   unfolding obeyed obey
-  how-refuses wait r e = absurd (let z : _≡_ {A = ℕ} 0 1 = cc in omega arith)
+  how-refuses wait r e = impossible cc
   how-refuses (halt r') r e = let q : r' ≡ r = cc in ap halt q
-  how-refuses (go st n) r e = absurd (let z : _≡_ {A = ℕ} 0 1 = cc in omega arith)
-  how-refuses (tell st n (begin s)) r e = absurd (let z : _≡_ {A = ℕ} 0 1 = cc in omega arith)
-  how-refuses (tell st n restart) r e = absurd (let z : _≡_ {A = ℕ} 0 1 = cc in omega arith)
-  how-refuses (tell st n (tick c)) r e = absurd (let z : _≡_ {A = ℕ} 0 1 = cc in omega arith)
+  how-refuses (go st n) r e = impossible cc
+  how-refuses (tell st n (begin s)) r e = impossible cc
+  how-refuses (tell st n restart) r e = impossible cc
+  how-refuses (tell st n (tick c)) r e = impossible cc
 
 how-ticks : (x : Next State Instruction Refusal) (i : TickInput) → howOf x ≡ Ticks i → whatOf x ≡ W.Ticks i
-how-ticks wait i e = absurd (let z : _≡_ {A = ℕ} 0 1 = cc in omega arith)
-how-ticks (halt r') i e = absurd (let z : _≡_ {A = ℕ} 0 1 = cc in omega arith)
-how-ticks (go st n) i e = absurd (let z : _≡_ {A = ℕ} 0 1 = cc in omega arith)
-how-ticks (tell st n (begin s)) i e = absurd (let z : _≡_ {A = ℕ} 0 1 = cc in omega arith)
-how-ticks (tell st n restart) i e = absurd (let z : _≡_ {A = ℕ} 0 1 = cc in omega arith)
+how-ticks wait i e = impossible cc
+how-ticks (halt r') i e = impossible cc
+how-ticks (go st n) i e = impossible cc
+how-ticks (tell st n (begin s)) i e = impossible cc
+how-ticks (tell st n restart) i e = impossible cc
 how-ticks (tell st n (tick c)) i e = let q : c .input ≡ i = cc in ap W.Ticks q
 
 -- ---- one turn
@@ -128,8 +128,8 @@ module _ (w : Whole) (s : List ℕ) (at : ℕ) (h : at ≤ length s) (a : J.Adva
       within = turn-within;
       goes = goes-there;
       text = put-none out n;
-      further = λ y. absurd (let o : _≡_ {A = ℕ} 0 1 = cc in omega arith);
-      none = λ y. absurd (let o : _≡_ {A = ℕ} 0 1 = cc in omega arith);
+      further = λ y. impossible cc;
+      none = λ y. impossible cc;
       stops = λ y. q;
     }
 
@@ -209,7 +209,7 @@ module _ (w : Whole) (s : List ℕ) (at : ℕ) (h : at ≤ length s) (a : J.Adva
       }
         where
           no : true ≡ false → ⊥
-          no z = let g : _≡_ {A = ℕ} 0 1 = cc in omega arith
+          no z = impossible cc
 
 -- ---- turn by turn
 
@@ -230,7 +230,7 @@ turn-less long at at' h k more m e y = rw e (less-by long at at' h k m y)
 -- more to do: the last was a tick, and there is room
 more-by : (t : Bool) (n room : ℕ) (b : Bool) → leb (n + tickRoom) room ≡ b → cond b t false ≡ true → (t ≡ true) × (n + tickRoom ≤ room)
 more-by t n room true e y = (y, leb-true (n + tickRoom) room e)
-more-by t n room false e y = absurd (let z : _≡_ {A = ℕ} 0 1 = cc in omega arith)
+more-by t n room false e y = impossible cc
 
 pub more-is : (t : Bool) (n room : ℕ) (m : Bool) → m ≡ goesOnOf t n room → m ≡ true → (t ≡ true) × (n + tickRoom ≤ room)
 unfolding goesOnOf
@@ -241,7 +241,7 @@ module _ (code room : ℕ) (p : Playing) (s : List ℕ) (number : ℕ) where
   over-by : (t : Bool) → (t ≡ true → number ≡ 0) → (t ≡ false → Stopped code room p s t number)
       → (b : Bool) → leb (p .n + tickRoom) room ≡ b → cond b t false ≡ false → Stopped code room p s t number
   over-by false none stops b e y = stops refl
-  over-by true none stops true e y = absurd (let o : _≡_ {A = ℕ} 0 1 = cc in omega arith)
+  over-by true none stops true e y = impossible cc
   over-by true none stops false e y = record {
     end = halted full;
     stays = settled-halt (playOf code room) (play-there code room) p s full (play-full code room p s (leb-false (p .n + tickRoom) room e));
@@ -278,7 +278,7 @@ since-first code w s out more e = record {
   text = put-none out 0;
   long = refl;
   room = λ y. more-is true 0 (length out) more e y .1;
-  over = over-is code (length out) (record { journal = w; n = 0 }) s 0 true more e (λ y. refl) (λ y. absurd (let z : _≡_ {A = ℕ} 0 1 = cc in omega arith));
+  over = over-is code (length out) (record { journal = w; n = 0 }) s 0 true more e (λ y. refl) (λ y. impossible cc);
 }
 
 pub since-more : (code : ℕ) (l₀ : List Float) (s : List ℕ) (out₀ : List ℕ) (t₀ : Played) (l : List Float) (out : List ℕ) (t : Played) (more : Bool) (r : Played) (l' : List Float)

@@ -7,6 +7,7 @@ ghost use Rattle.journal.specs.Tick.{wholeOf, journalTick};
 ghost use Rattle.player.specs.Play.{tickRoom, tickedOf, Turned, goesOnOf, Fed};
 use journal::How;
 use journal::tick::Run;
+use journal_reader::waiting::PLACES;
 use journal_reader::waiting::Reader;
 use lictor_core::fuse::TickInput;
 
@@ -29,7 +30,7 @@ fn play_tick(
     code: u8,
     rd: Reader,
     run: Run,
-    lists: &[f64; 576],
+    lists: &[f64; PLACES],
     inp: TickInput,
     at: usize,
     out: &mut [u8],
@@ -59,7 +60,7 @@ fn play_turn(
     code: u8,
     rd: Reader,
     run: Run,
-    lists: &mut [f64; 576],
+    lists: &mut [f64; PLACES],
     s: &[u8],
     at: usize,
     out: &mut [u8],
@@ -116,7 +117,7 @@ pub fn feed(
     code: u8,
     rd: Reader,
     run: Run,
-    lists: &mut [f64; 576],
+    lists: &mut [f64; PLACES],
     s: &[u8],
     out: &mut [u8],
 ) -> Played
