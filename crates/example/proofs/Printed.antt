@@ -25,7 +25,7 @@ use Rattle.lictor_fuse.specs.Steps.{readyOf}
 use Rattle.lictor_fuse.specs.Clock.{nextChunk, cleanClock, chunkTally, faultClock}
 use Rattle.lictor_fuse.specs.Decide.{closedOf, closeClean, cleanTick, closeFault, faultTick, decideBy, decideOf}
 use Rattle.lictor_fuse.specs.Tick.{noVerdict, refusedTick, givenOf, acceptedTick, tickBy, tickOf}
-use Rattle.text.specs.Commas.{behindCommas, commas, numbersText, floatsText}
+use Rattle.text.specs.Commas.{afterCommas, commas, numbersText, floatsText}
 use Rattle.text.specs.Line.{lineOf, putOf, pushOf}
 use Rattle.text.specs.Number.{decimalIn, signedOf, hexIn, floatText}
 use Rattle.report.specs.Lines.{marginText, tickText, stoppedOf, endText, refusedText}
@@ -50,5 +50,5 @@ use lib.Count.{ones}
 use Rattle.example.specs.Example.{number, times, settings, reset, outcome, tick, journal, printed}
 
 pub example-printed : textOf 0 journal ≡ printed
-unfolding minOf maxOf clampOf allFinite addSquares normOf rootIn wholeRoot rootOf modeOf kindOf clampModeOf rearmOf decisionOf zeros emptyTally freshControl freshMotion freshClock newOf resetOf anyOf rowTo badCode badSize badFloat anyBelow crossedOf badBox settingsTable firstRow checkOf configOf component boxedComponent boxedRow scaledComponent scaledRow boxedAction scaledAction eps brakeFactor brakeAction holdAction hitBit pushHit hitsOf tripOf deliveredOf nonFinite lengthsOf shapeBad sizesBad placeBad headBad deliveryBad clockBad schemaBad bitIf guardOf consumedOf faultReason clampReason armedReason acceptedBy acceptedAck consumeNonce latchedOf latchHold countIf upIf isClean countRun settledOf faultRow rearmAck resumeRow terminateRow timeoutRow waitRow unansweredOf escalatedOf mayRearm rearmRow escalateRow holdRow holdingOf heldOf confirmedOf standstillRow stoppingRow brakingOf enterBraking brakeRow unclampableOf overBudget clampRow clearedOf clearRow watchedOf quietOf runningOf byFrom transitionOf nextByRows firstOf table nextFrom nextOf recorded count bitOf countBit eachFrom countBits first firstReason mostAt mostLive recordOf recordChunk takenRow stepRate ratesRow stillRow velocityOf ingestOf isFit withPos faultMotion withBrake maskedOf warnOf slowOf standstillOf chunkOk scoredOf findingsOf machineInput faultInput statusOf sourceOf cutRow passedOf insteadOf enforcedOf byMode actOf liveValid scoresOf disarmedScores actionDim enteredOf handoffOf hasAck consumedFlag verdictOf faultVerdict eventsOf noEvents rejectedOf nextChunk cleanClock readyOf chunkTally faultClock closedOf closeClean cleanTick closeFault faultTick decideBy decideOf noVerdict refusedTick givenOf acceptedTick tickBy tickOf behindCommas commas numbersText floatsText lineOf putOf pushOf decimalIn signedOf hexIn floatText marginText tickText stoppedOf endText refusedText nearestWhole marginOf leAt floatAt floatsAt limitsOf calibrationOf settingsOf ackOf headOf scoresIn outcomeOf tickNumbers decodeOf isKnown bodyLen unknownKind bodyCut beforeSettings again codeNotListed sizeOutside floatNotFinite boxCrossed listFull notReady refusalTable firstRow·judge judgedOf contentsOf lookAs lookOf broughtOf onRecord onLook onBytes readOf listsRead ackWaits headWaits valueWaits stored outcomeWaits settingsCame emptied startReader valuesOf inputOf settle settled advance advanced fed whole judgedAt begunOf restartedOf decidedOf tickedOf obey obeyed replayOf startRun startWhole journalOf advancedOf listsAfter journalTick begunAt resetAt traceUpTo eventText placeAfter memoryAfter eventsText withText playOf fedOf playedOf goesOnOf lastText textOf endedOf endNumber endPlace lastLineOf add sub mul div lt le eq ofBits toBits round isNan ones number times settings reset outcome tick journal
+unfolding minOf maxOf clampOf allFinite addSquares normOf rootIn wholeRoot rootOf modeOf kindOf clampModeOf rearmOf decisionOf zeros emptyTally freshControl freshMotion freshClock newOf resetOf anyOf rowTo badCode badSize badFloat anyBelow crossedOf badBox settingsTable firstRow checkOf configOf component boxedComponent boxedRow scaledComponent scaledRow boxedAction scaledAction eps brakeFactor brakeAction holdAction hitBit pushHit hitsOf tripOf deliveredOf nonFinite lengthsOf shapeBad sizesBad placeBad headBad deliveryBad clockBad schemaBad bitIf guardOf consumedOf faultReason clampReason armedReason acceptedBy acceptedAck consumeNonce latchedOf latchHold countIf upIf isClean countRun settledOf faultRow rearmAck resumeRow terminateRow timeoutRow waitRow unansweredOf escalatedOf mayRearm rearmRow escalateRow holdRow holdingOf heldOf confirmedOf standstillRow stoppingRow brakingOf enterBraking brakeRow unclampableOf overBudget clampRow clearedOf clearRow watchedOf quietOf runningOf byFrom transitionOf nextByRows firstOf table nextFrom nextOf recorded count bitOf countBit eachFrom countBits first firstReason mostAt mostLive recordOf recordChunk takenRow stepRate ratesRow stillRow velocityOf ingestOf isFit withPos faultMotion withBrake maskedOf warnOf slowOf standstillOf chunkOk scoredOf findingsOf machineInput faultInput statusOf sourceOf cutRow passedOf insteadOf enforcedOf byMode actOf liveValid scoresOf disarmedScores actionDim enteredOf handoffOf hasAck consumedFlag verdictOf faultVerdict eventsOf noEvents rejectedOf nextChunk cleanClock readyOf chunkTally faultClock closedOf closeClean cleanTick closeFault faultTick decideBy decideOf noVerdict refusedTick givenOf acceptedTick tickBy tickOf afterCommas commas numbersText floatsText lineOf putOf pushOf decimalIn signedOf hexIn floatText marginText tickText stoppedOf endText refusedText nearestWhole marginOf leAt floatAt floatsAt limitsOf calibrationOf settingsOf ackOf headOf scoresIn outcomeOf tickNumbers decodeOf isKnown bodyLen unknownKind bodyCut beforeSettings again codeNotListed sizeOutside floatNotFinite boxCrossed listFull notReady refusalTable firstRow·judge judgedOf contentsOf lookAs lookOf broughtOf onRecord onLook onBytes readOf listsRead ackWaits headWaits valueWaits stored outcomeWaits settingsCame emptied startReader valuesOf inputOf settle settled advance advanced fed whole judgedAt begunOf restartedOf decidedOf tickedOf obey obeyed replayOf startRun startWhole journalOf advancedOf listsAfter journalTick begunAt resetAt traceUpTo eventText placeAfter memoryAfter eventsText withText playOf fedOf playedOf goesOnOf lastText textOf endedOf endNumber endPlace lastLineOf add sub mul div lt le eq ofBits toBits round isNan ones number times settings reset outcome tick journal
 example-printed = refl

@@ -54,7 +54,8 @@ fn millis(m: u64, k: u64) -> u64
     nearest_whole(m * 1000, 1 << k)
 }
 
-// A margin in metres: none for NaN, far where its rounded millimetres pass 999999. (From 1024 m on that is known without working them out.)
+// A margin in metres: none for NaN, far where its rounded millimetres pass 999999.
+// (From 1024 m on that is known without working them out.)
 pub fn margin_of(x: f64) -> Margin
     ensures { λ r. ⌜ r ≡ marginOf x ⌝ }
 {

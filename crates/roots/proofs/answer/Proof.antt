@@ -5,7 +5,8 @@ use native.Mathlib.Omega.{arith}
 use borrow.Author.Needs.{needs}
 use lib.ListN.{length, take, drop, length-drop}
 use mathlib.Core.Bool.{Bool}
-use Rattle.roots.specs.Text.{answerTo, isBad, Put}
+use Rattle.text.specs.Memory.{Put}
+use Rattle.roots.specs.Text.{answerTo, isBad}
 use Rattle.roots.proofs.Laws.{Answering, none-answered, one-answered, bad-answered, all-answered, line-is}
 use Rattle.roots.proofs.answer.Statement.{statement}
 use Rattle.roots.proofs.answer.Tie as tie
@@ -20,7 +21,7 @@ abbrev μ-loop : tie.MeasureT-loop
 there : (c : tie.After-answer-line Inv-loop μ-loop) → take (c .before .before .before .least .result - c .before .before .before .before .before .loop .at) (drop (c .before .before .before .before .before .loop .at) (c .before .before .before .before .before .before .before .before .args .s .now)) ≡ take 17 (drop (c .before .before .before .before .before .loop .at) (c .before .before .before .before .before .before .before .before .args .s .now))
 there c = rw (c .before .before .before .least .ensures) (line-is (c .before .before .before .before .before .before .before .before .args .s .now) (c .before .before .before .before .before .loop .at))
 
-put-there : (c : tie.After-answer-line Inv-loop μ-loop) → Put (c .before .before .before .before .before .loop .out) (c .before .before .before .before .before .loop .n) (answerTo (take 17 (drop (c .before .before .before .before .before .loop .at) (c .before .before .before .before .before .before .before .before .args .s .now)))) (c .answer-line .last .1 .0) (c .answer-line .result .n)
+put-there : (c : tie.After-answer-line Inv-loop μ-loop) → Put (c .before .before .before .before .before .loop .out) (c .before .before .before .before .before .loop .n) (answerTo (take 17 (drop (c .before .before .before .before .before .loop .at) (c .before .before .before .before .before .before .before .before .args .s .now)))) (c .answer-line .result .n) (c .answer-line .last .1 .0)
 put-there c = rw (there c) at (c .answer-line .ensures .0)
 
 bad-there : (c : tie.After-answer-line Inv-loop μ-loop) {b : Bool} → c .answer-line .result .bad ≡ b → isBad (take 17 (drop (c .before .before .before .before .before .loop .at) (c .before .before .before .before .before .before .before .before .args .s .now))) ≡ b
