@@ -22,7 +22,7 @@ use Rattle.stream.proofs.Stream.{impossible, joined, settled-wait, settled-halt
 use Rattle.journal_reader.proofs.Reading.{next-refused, halted-judged, waiting-judged}
 use Rattle.journal.specs.Tick.{Whole}
 use Rattle.journal.specs.Journal.{obey, obeyed, replayOf, startWhole, Ending, ended, refused, Meaning, endingOf, journalOf}
-use Rattle.journal.specs.Ends.{judgedAt, TurnedAway, LeftAsBefore, Ends, with-end, with-refusal}
+use Rattle.journal.specs.Ends.{judgedAt, RefusedAt, LeftAsBefore, Ends, with-end, with-refusal}
 use Rattle.journal.proofs.Replay.{replay-is, replay}
 
 abbrev Move : Type 0
@@ -103,7 +103,7 @@ module _ (s : List ℕ) (a : Settled Whole Decided Refusal) (f : Front replayOf 
     left = ap (λ (m : Meaning). m .left) (meaning-is s a e) ∙ sym (ap (λ (m : Meaning). m .left) before-is);
   }
 
-  turned-before : (r : Refusal) → f .place < length s → judgedAt (a .state) s (f .place) ≡ Refused r → TurnedAway s r (f .place)
+  turned-before : (r : Refusal) → f .place < length s → judgedAt (a .state) s (f .place) ≡ Refused r → RefusedAt s r (f .place)
   turned-before r h c = record {
     inside = h;
     before = ap (λ (m : Meaning). m .ending) before-is;
@@ -122,7 +122,7 @@ module _ (s : List ℕ) (a : Settled Whole Decided Refusal) (e : settled replayO
       with-refusal r (f .place) (q ∙ ap (refused r) (place-is s a f)) (turned-before s a f r h c) (refused-before s a f e r)
 
 -- no refusal has been there before the end
-no-refusal : (s : List ℕ) → journalOf s .ending ≡ ended → ((r : Refusal) (p : ℕ) → TurnedAway s r p → journalOf s .ending ≡ refused r p)
+no-refusal : (s : List ℕ) → journalOf s .ending ≡ ended → ((r : Refusal) (p : ℕ) → RefusedAt s r p → journalOf s .ending ≡ refused r p)
     → (p : ℕ) → p < length s → journalOf (take p s) .ending ≡ ended → (x : Judged) → judgedAt (journalOf (take p s) .left) s p ≡ x → x ≡ Accepted
 no-refusal s e back p h b Accepted c = refl
 no-refusal s e back p h b (Refused r) c =
@@ -170,7 +170,7 @@ module _ (s : List ℕ) (p : ℕ) (h : p < length s) where
       settles-at (halted r) r e (settled-halt replayOf (replay .there) (up-to .state) (drop p s) r n) (λ q k u. refl)
 
 -- what the table refuses is refused, with its number and its place
-pub turned-away-refused : (s : List ℕ) (r : Refusal) (p : ℕ) → TurnedAway s r p → journalOf s .ending ≡ refused r p
+pub turned-away-refused : (s : List ℕ) (r : Refusal) (p : ℕ) → RefusedAt s r p → journalOf s .ending ≡ refused r p
 unfolding journalOf
 turned-away-refused s r p t =
     let b = ended-by (length (take p s) - length (up-to s p (t .inside) .rest)) (up-to s p (t .inside) .rest) (up-to s p (t .inside) .end) (t .before) in

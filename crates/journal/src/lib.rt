@@ -1,5 +1,5 @@
-// A journal on the fuse, from tick to tick: its settings and resets, one after the other, from bytes
-// that come in parts of any sizes.
+// A journal on the fuse, from tick to tick: its settings and resets, one after the other, from
+// bytes that come in parts of any sizes.
 pub mod tick; // a tick itself
 
 ghost use mathlib.Core.Path.{_≡_};

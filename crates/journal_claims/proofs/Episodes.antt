@@ -2,7 +2,6 @@
 use mathlib.Core.Path.{_≡_, refl, sym, ap, subst}
 use mathlib.Core.List.{List, [], _∷_, _++_, map, append-assoc}
 use Prim.Native.Nat.{ℕ}
-use native.Mathlib.Omega.{arith}
 use Rattle.lictor_core.specs.declared.envelope.Settings.{Settings}
 use Rattle.journal_reader.specs.Reading.{Brought, Instruction, begin, restart, tick}
 use Rattle.stream.proofs.Stream.{impossible}

@@ -102,7 +102,8 @@ startReader = record {
 unfoldable pub valuesOf : Seen → List Float → ℕ → List Float
 valuesOf n l c = take (min (countOf n c) (getD capacities c 0)) (drop (getD bases c 0) l)
 
--- the numbers of a tick's input: those of its record, and the head and the acknowledgement that wait
+-- the numbers of a tick's input: those of its record, and the head and the acknowledgement that
+-- wait
 unfoldable pub inputOf : Waiting → TickNumbers → TickInput
 inputOf w n = record {
   t = n .t;

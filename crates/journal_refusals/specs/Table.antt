@@ -1,4 +1,5 @@
--- The refusal table: ten rows in the order of 01-scope.md, Journal; the first row that applies decides.
+-- The refusal table: ten rows in the order of 01-scope.md, Journal; the first row that applies
+-- decides.
 use mathlib.Core.Bool.{Bool, cond}
 use mathlib.Core.List.{List, [], _∷_}
 use Prim.Native.Nat.{ℕ}
@@ -29,7 +30,8 @@ numberOf NotReady = 10
 abbrev pub isCutBody : Refusal → Bool
 isCutBody r = eqb (numberOf r) (numberOf CutBody)
 
--- a row: what is answered where the cause is there. A cause goes by what has been seen, the kind, and the body as far as it came.
+-- a row: what is answered where the cause is there. A cause goes by what has been seen, the kind,
+-- and the body as far as it came.
 pub record Row : Type 0 where
   pub answer : Refusal
   pub cause : Seen → ℕ → List ℕ → Bool
@@ -62,6 +64,7 @@ firstRow (w ∷ ws) seen k b = cond (w .cause seen k b) (Refused (w .answer)) (f
 unfoldable pub judgedOf : List ℕ → Seen → ℕ → List ℕ → Judged
 judgedOf kinds seen k b = firstRow (refusalTable kinds) seen k b
 
--- the same by the rows about what a body holds, those below the fourth: of a known kind, whole, and in its order
+-- the same by the rows about what a body holds, those below the fourth: of a known kind, whole, and
+-- in its order
 unfoldable pub contentsOf : Seen → ℕ → List ℕ → Judged
 contentsOf seen k b = firstRow (drop 4 (refusalTable journalKinds)) seen k b

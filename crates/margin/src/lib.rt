@@ -62,15 +62,18 @@ pub fn margin_of(x: f64) -> Margin
     if x != x {
         return Margin::NoMargin;
     }
-    let b = f64::to_bits(x);
-    let minus = b >= 0x8000_0000_0000_0000;
-    let e = b % 0x8000_0000_0000_0000 / 0x10_0000_0000_0000;
-    let t = b % 0x10_0000_0000_0000;
-    if e >= 1033 {
+    let bits = f64::to_bits(x);
+    let minus = bits >= 0x8000_0000_0000_0000;
+    let exponent = bits % 0x8000_0000_0000_0000 / 0x10_0000_0000_0000;
+    let fraction = bits % 0x10_0000_0000_0000;
+    if exponent >= 1033 {
         return far_of(minus);
     }
-    if e == 0 {
-        return millis_of(minus, millis(t, 1074));
+    if exponent == 0 {
+        return millis_of(minus, millis(fraction, 1074));
     }
-    millis_of(minus, millis(t + 0x10_0000_0000_0000, 1075 - e))
+    millis_of(
+        minus,
+        millis(fraction + 0x10_0000_0000_0000, 1075 - exponent),
+    )
 }

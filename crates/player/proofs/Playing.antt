@@ -15,7 +15,8 @@ use Rattle.stream.proofs.Stream.{impossible, goes, settled-go, advanced-go, adv
 use Rattle.journal.specs.Tick.{Whole}
 use Rattle.journal.specs.Journal.{replayOf}
 use Rattle.journal.proofs.Replay.{replay}
-use Rattle.player.specs.Play.{tickRoom, Playing, full, withText, playOf}
+use Rattle.report.specs.Text.{tickRoom}
+use Rattle.player.specs.Play.{Playing, full, withText, playOf}
 
 played-takes : (code n : ℕ) (x : Next Whole Decided Refusal) → takes (withText code n x) ≡ takes x
 unfolding withText

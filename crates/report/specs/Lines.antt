@@ -44,8 +44,8 @@ numbersOf v = ascii "tick" ++ fieldsText (numbersIn v)
 unfoldable pub tickText : SafetyVerdict → List ℕ
 tickText v = numbersOf v ++ ascii " " ++ marginText (marginOf (v .«brake_margin»)) ++ ascii "\n"
 
--- The `stopped` of the line `end`: the ticks that ended in one of the five stop states. (No relation
--- to the standstill that a tick tests.)
+-- The `stopped` of the line `end`: the ticks that ended in one of the five stop states. (No
+-- relation to the standstill that a tick tests.)
 unfoldable pub stoppedOf : Tally → ℕ
 stoppedOf t = t .braking + t .held + t .escalated + t .fault + t .terminated
 

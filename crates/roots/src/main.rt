@@ -1,6 +1,6 @@
-// Reads patterns of binary64, one to a line of 16 lower-case hexadecimal digits, and writes each with
-// its square root: the pattern, a space, the pattern of the root (`nan` for every NaN), a newline.
-// At a line that is no such text it writes `bad line` and stops.
+// Reads patterns of binary64, one to a line of 16 lower-case hexadecimal digits, and writes each
+// with its square root: the pattern, a space, the pattern of the root (`nan` for every NaN), a
+// newline. At a line that is no such text it writes `bad line` and stops.
 ghost use mathlib.Core.Path.{_≡_};
 ghost use Prim.Native.Nat.{_+_, _*_, _≤_};
 ghost use lib.ListN.{length};
@@ -122,18 +122,24 @@ fn answer(s: &[u8], out: &mut [u8]) -> Done
     ensures { λ r. ⌜ Answered (now (s .entry)) (now (out .exit)) (r .n) (r .bad) ⌝ }
 {
     let mut at: usize = 0;
-    let mut n: usize = 0;
+    let mut written: usize = 0;
     while at < s.len() {
         let end = least(at + LINE, s.len());
-        let done = answer_line(&s[at..end], out, n);
+        let done = answer_line(&s[at..end], out, written);
         let bad = done.bad;
-        n = done.n;
+        written = done.n;
         if bad {
-            return Done { n, bad: true };
+            return Done {
+                n: written,
+                bad: true,
+            };
         }
         at += LINE;
     }
-    Done { n, bad: false }
+    Done {
+        n: written,
+        bad: false,
+    }
 }
 
 // ---- the program

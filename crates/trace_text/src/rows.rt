@@ -61,14 +61,14 @@ fn word_end(words: &[u8], at: usize) -> usize
     requires { ⌜ at ≤ length (now words) ⌝ }
     ensures { λ r. ⌜ (at ≤ r) × (r ≤ length (now (words .entry))) × (take (r - at) (drop at (now (words .entry))) ≡ upToBlank (drop at (now (words .entry)))) ⌝ }
 {
-    let mut e = at;
-    while e < words.len() {
-        if words[e] == b' ' {
-            return e;
+    let mut end = at;
+    while end < words.len() {
+        if words[end] == b' ' {
+            return end;
         }
-        e += 1;
+        end += 1;
     }
-    e
+    end
 }
 
 // The name of line k of a group: the group's name, the word k (the first is 0), an equals sign.

@@ -3,7 +3,6 @@ use borrow.Author.Needs.{needs}
 use Prim.Native.Nat.{ℕ}
 use mathlib.Core.Bool.{Bool, true, false}
 use mathlib.Core.Path.{_≡_, ap, _∙_}
-use native.Mathlib.Omega.{arith}
 use Rattle.journal_records.specs.Long.{outcomeOf}
 use Rattle.stream.proofs.Stream.{impossible}
 use Rattle.journal_reader.proofs.Steps.{body-part, instructs-outcome, instructs-settings, instructs-reset, instructs-tick, is-small}
