@@ -12,7 +12,7 @@ use Rattle.journal_refusals.specs.declared.Refusal.{Refusal}
 use Rattle.journal_refusals.proofs.Exactly.{numbers}
 use Rattle.stream.specs.Stream.{wait, End, awaits, halted, telling, settled}
 use Rattle.journal_reader.specs.Reading.{onBytes}
-use Rattle.stream.proofs.Stream.{joined, settled-still, telling-telling}
+use Rattle.stream.proofs.Stream.{impossible, joined, settled-still, telling-telling}
 use Rattle.journal_reader.proofs.Reading.{waits-short}
 use Rattle.journal.specs.Tick.{Whole, wholeOf}
 use Rattle.journal.specs.Journal.{replayOf}
@@ -21,8 +21,9 @@ use Rattle.journal.proofs.Ends.{waits-as}
 use Rattle.console.specs.Intake.{movedDown, Came}
 use Rattle.player.specs.declared.Played.{Played}
 use Rattle.console.specs.declared.Round.{Round}
-use Rattle.player.specs.Play.{tickRoom, Fed}
-use Rattle.console.specs.Console.{numberAt, Rests, Taken, Rounded}
+use Rattle.report.specs.Text.{tickRoom}
+use Rattle.player.specs.Play.{Fed}
+use Rattle.console.specs.Console.{bufferRoom, numberAt, Rests, Taken, Rounded}
 use Rattle.console.proofs.Feeds.{Followed, followed}
 
 -- ---- memory
@@ -77,7 +78,7 @@ module _ (code : ℕ) (w : Whole) (s : List ℕ) (out : List ℕ) (t : Played) (
   left-is = rw k at (p .moved)
 
   -- nothing was read
-  still : (reads refused : ℕ) (more : Bool) → tickRoom ≤ length out → left ≤ length buf' → (more ≡ true → t .ticked ≡ true) → (more ≡ false → Rests v (drop (t .at) s) refused)
+  still : (reads refused : ℕ) (more : Bool) → tickRoom ≤ length out → left ≤ length buf' → (more ≡ true → t .more ≡ true) → (more ≡ false → Rests v (drop (t .at) s) refused)
       → Rounded code w s reads (record { reader = t .reader; run = t .run; taken = t .at; have = left; n = t .n; refused = refused; reads = reads; more = more }) l' buf' out'
   still reads refused more room h m q = record {
     told = f .told;
@@ -91,19 +92,19 @@ module _ (code : ℕ) (w : Whole) (s : List ℕ) (out : List ℕ) (t : Played) (
     over = λ y. rw left-is (q y);
   }
 
-  pub round-full : (reads : ℕ) → tickRoom ≤ length out → left ≤ length buf' → t .ticked ≡ true
+  pub round-full : (reads : ℕ) → tickRoom ≤ length out → left ≤ length buf' → t .more ≡ true
       → Rounded code w s reads (record { reader = t .reader; run = t .run; taken = t .at; have = left; n = t .n; refused = t .refused; reads = reads; more = true }) l' buf' out'
-  round-full reads room h y = still reads (t .refused) true room h (λ z. y) (λ z. absurd (let o : _≡_ {A = ℕ} 0 1 = cc in omega arith))
+  round-full reads room h y = still reads (t .refused) true room h (λ z. y) (λ z. impossible cc)
 
   -- it is over with a refusal, or since no read is left
-  pub round-over : (reads : ℕ) → tickRoom ≤ length out → left ≤ length buf' → t .ticked ≡ false
+  pub round-over : (reads : ℕ) → tickRoom ≤ length out → left ≤ length buf' → t .more ≡ false
       → Rounded code w s reads (record { reader = t .reader; run = t .run; taken = t .at; have = left; n = t .n; refused = t .refused; reads = reads; more = false }) l' buf' out'
-  round-over reads room h y = still reads (t .refused) false room h (λ z. absurd (let o : _≡_ {A = ℕ} 0 1 = cc in omega arith)) (λ z. f .stops y)
+  round-over reads room h y = still reads (t .refused) false room h (λ z. impossible cc) (λ z. f .stops y)
 
-  pub left-short : t .ticked ≡ false → t .refused ≡ 0 → left ≤ 257
+  pub left-short : t .more ≡ false → t .refused ≡ 0 → left ≤ 257
   left-short y z = omega (arith, rests-short v (drop (t .at) s) (t .refused) z (f .stops y), length-drop (t .at) s)
 
-  pub round-read : (reads : ℕ) → 0 < reads → t .ticked ≡ false → (e : ℕ) (buf'' : List ℕ) → length buf'' ≡ 65536 → Came (take left buf') e buf'' → (more : Bool) → (more ≡ false → e ≤ left)
+  pub round-read : (reads : ℕ) → 0 < reads → t .more ≡ false → (e : ℕ) (buf'' : List ℕ) → length buf'' ≡ bufferRoom → Came (take left buf') e buf'' → (more : Bool) → (more ≡ false → e ≤ left)
       → Rounded code w s reads (record { reader = t .reader; run = t .run; taken = t .at; have = e; n = t .n; refused = t .refused; reads = reads - 1; more = more }) l' buf'' out'
   round-read reads o y e buf'' b c more m =
       let d : take left buf' ++ c .came ≡ drop (t .at) s ++ c .came = ap (λ (u : List ℕ). u ++ c .came) left-is in

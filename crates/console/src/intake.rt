@@ -1,4 +1,5 @@
-// The bytes of standard input that are at hand: those that wait are moved to the front of memory, and more are read after them.
+// The bytes of standard input that are at hand: those that wait are moved to the front of memory,
+// and more are read after them.
 ghost use mathlib.Core.Path.{_≡_};
 ghost use lib.ListN.{take};
 ghost use Rattle.console.specs.Intake.{movedDown, Came};

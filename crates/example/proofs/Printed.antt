@@ -1,6 +1,6 @@
 -- The definitions print the example as the paper says: everything is computed, from the bytes to the text.
 use mathlib.Core.Path.{_≡_, refl}
-use Rattle.text.specs.Commas.{behindCommas, commas, numbersText, floatsText}
+use Rattle.text.specs.Commas.{afterCommas, commas, numbersText, floatsText}
 use Rattle.text.specs.Line.{lineOf, putOf, pushOf}
 use Rattle.text.specs.Number.{hexIn, floatText}
 use Rattle.journal_records.specs.Little.{leAt, floatAt, floatsAt}
@@ -23,7 +23,7 @@ use Rattle.example.specs.Example.{inBytes, times, settingsBytes, resetBy
 
 pub example-printed : textOf 0 exampleBytes ≡ exampleText
 unfolding
-    tick-opened behindCommas commas numbersText floatsText lineOf putOf pushOf hexIn floatText leAt floatAt
+    tick-opened afterCommas commas numbersText floatsText lineOf putOf pushOf hexIn floatText leAt floatAt
     floatsAt limitsOf calibrationOf settingsOf ackOf headOf scoresIn outcomeOf tickNumbers decodeOf isKnown
     bodyLen unknownKind bodyCut beforeSettings again codeNotListed sizeOutside floatNotFinite boxCrossed
     listFull notReady refusalTable judgedOf contentsOf lookAs lookOf broughtOf onRecord onLook

@@ -18,11 +18,11 @@ use Rattle.journal_refusals.proofs.Exactly.{numbers, cut-only}
 use Rattle.stream.specs.Stream.{Next, wait, halt, go, tell, End, awaits, halted, Settled, telling, settled}
 use Rattle.journal_reader.specs.State.{State}
 use Rattle.journal_reader.specs.Reading.{Instruction, begin, restart, tick, onBytes}
-use Rattle.stream.proofs.Stream.{joined, settled-wait, settled-halt, settled-still, Front, front}
+use Rattle.stream.proofs.Stream.{impossible, joined, settled-wait, settled-halt, settled-still, Front, front}
 use Rattle.journal_reader.proofs.Reading.{next-refused, halted-judged, waiting-judged}
 use Rattle.journal.specs.Tick.{Whole}
 use Rattle.journal.specs.Journal.{obey, obeyed, replayOf, startWhole, Ending, ended, refused, Meaning, endingOf, journalOf}
-use Rattle.journal.specs.Ends.{judgedAt, TurnedAway, LeftAsBefore, Ends, with-end, with-refusal}
+use Rattle.journal.specs.Ends.{judgedAt, RefusedAt, LeftAsBefore, Ends, with-end, with-refusal}
 use Rattle.journal.proofs.Replay.{replay-is, replay}
 
 abbrev Move : Type 0
@@ -40,22 +40,22 @@ at-place s p h = rw (drop-cons s p 0 h, add-one) refl
 -- a journal halts or waits where its reader does
 obey-moves : (w : Whole) (st : State) (n : ℕ) (i : Instruction) (y : Move) → obey w st n i ≡ y → (y ≡ wait → ⊥) × ((r : Refusal) → y ≡ halt r → ⊥)
 unfolding obey
-obey-moves w st n (begin x) y e = (λ p. (let z : _≡_ {A = ℕ} 0 1 = cc in omega arith), λ r p. (let z : _≡_ {A = ℕ} 0 1 = cc in omega arith))
-obey-moves w st n restart y e = (λ p. (let z : _≡_ {A = ℕ} 0 1 = cc in omega arith), λ r p. (let z : _≡_ {A = ℕ} 0 1 = cc in omega arith))
-obey-moves w st n (tick c) y e = (λ p. (let z : _≡_ {A = ℕ} 0 1 = cc in omega arith), λ r p. (let z : _≡_ {A = ℕ} 0 1 = cc in omega arith))
+obey-moves w st n (begin x) y e = (λ p. (impossible cc), λ r p. (impossible cc))
+obey-moves w st n restart y e = (λ p. (impossible cc), λ r p. (impossible cc))
+obey-moves w st n (tick c) y e = (λ p. (impossible cc), λ r p. (impossible cc))
 
 halts-as : (w : Whole) (x : Reads) (r : Refusal) → obeyed w x ≡ halt r → x ≡ halt r
 unfolding obeyed
-halts-as w wait r e = absurd (let z : _≡_ {A = ℕ} 0 1 = cc in omega arith)
+halts-as w wait r e = impossible cc
 halts-as w (halt r') r e = let q : r' ≡ r = cc in ap halt q
-halts-as w (go st n) r e = absurd (let z : _≡_ {A = ℕ} 0 1 = cc in omega arith)
+halts-as w (go st n) r e = impossible cc
 halts-as w (tell st n i) r e = absurd (obey-moves w st n i (obey w st n i) refl .1 r e)
 
 pub waits-as : (w : Whole) (x : Reads) → obeyed w x ≡ wait → x ≡ wait
 unfolding obeyed
 waits-as w wait e = refl
-waits-as w (halt r') e = absurd (let z : _≡_ {A = ℕ} 0 1 = cc in omega arith)
-waits-as w (go st n) e = absurd (let z : _≡_ {A = ℕ} 0 1 = cc in omega arith)
+waits-as w (halt r') e = impossible cc
+waits-as w (go st n) e = impossible cc
 waits-as w (tell st n i) e = absurd (obey-moves w st n i (obey w st n i) refl .0 e)
 
 module _ (w : Whole) (s : List ℕ) (p : ℕ) (h : p < length s) where
@@ -103,7 +103,7 @@ module _ (s : List ℕ) (a : Settled Whole Decided Refusal) (f : Front replayOf 
     left = ap (λ (m : Meaning). m .left) (meaning-is s a e) ∙ sym (ap (λ (m : Meaning). m .left) before-is);
   }
 
-  turned-before : (r : Refusal) → f .place < length s → judgedAt (a .state) s (f .place) ≡ Refused r → TurnedAway s r (f .place)
+  turned-before : (r : Refusal) → f .place < length s → judgedAt (a .state) s (f .place) ≡ Refused r → RefusedAt s r (f .place)
   turned-before r h c = record {
     inside = h;
     before = ap (λ (m : Meaning). m .ending) before-is;
@@ -122,20 +122,21 @@ module _ (s : List ℕ) (a : Settled Whole Decided Refusal) (e : settled replayO
       with-refusal r (f .place) (q ∙ ap (refused r) (place-is s a f)) (turned-before s a f r h c) (refused-before s a f e r)
 
 -- no refusal has been there before the end
-no-refusal : (s : List ℕ) → journalOf s .ending ≡ ended → ((r : Refusal) (p : ℕ) → TurnedAway s r p → journalOf s .ending ≡ refused r p)
+no-refusal : (s : List ℕ) → journalOf s .ending ≡ ended → ((r : Refusal) (p : ℕ) → RefusedAt s r p → journalOf s .ending ≡ refused r p)
     → (p : ℕ) → p < length s → journalOf (take p s) .ending ≡ ended → (x : Judged) → judgedAt (journalOf (take p s) .left) s p ≡ x → x ≡ Accepted
 no-refusal s e back p h b Accepted c = refl
 no-refusal s e back p h b (Refused r) c =
-    absurd (let q : ended ≡ refused r p = sym e ∙ back r p (record { inside = h; before = b; cause = c }) in let z : _≡_ {A = ℕ} 0 1 = cc in omega arith)
+    let q : ended ≡ refused r p = sym e ∙ back r p (record { inside = h; before = b; cause = c }) in
+    impossible cc
 
 -- ---- the other way: what the table refuses is refused, at its place
 
 -- a journal that ends with `ended` has settled with nothing left
 ended-by : (p : ℕ) (rest : List ℕ) (x : End Refusal) → endingOf p rest x ≡ ended → (rest ≡ []) × (x ≡ awaits)
 ended-by p [] awaits e = (refl, refl)
-ended-by p (k ∷ u) awaits e = absurd (let z : _≡_ {A = ℕ} 0 1 = cc in omega arith)
-ended-by p [] (halted r) e = absurd (let z : _≡_ {A = ℕ} 0 1 = cc in omega arith)
-ended-by p (k ∷ u) (halted r) e = absurd (let z : _≡_ {A = ℕ} 0 1 = cc in omega arith)
+ended-by p (k ∷ u) awaits e = impossible cc
+ended-by p [] (halted r) e = impossible cc
+ended-by p (k ∷ u) (halted r) e = impossible cc
 
 module _ (s : List ℕ) (p : ℕ) (h : p < length s) where
   abbrev up-to : Settled Whole Decided Refusal
@@ -169,7 +170,7 @@ module _ (s : List ℕ) (p : ℕ) (h : p < length s) where
       settles-at (halted r) r e (settled-halt replayOf (replay .there) (up-to .state) (drop p s) r n) (λ q k u. refl)
 
 -- what the table refuses is refused, with its number and its place
-pub turned-away-refused : (s : List ℕ) (r : Refusal) (p : ℕ) → TurnedAway s r p → journalOf s .ending ≡ refused r p
+pub turned-away-refused : (s : List ℕ) (r : Refusal) (p : ℕ) → RefusedAt s r p → journalOf s .ending ≡ refused r p
 unfolding journalOf
 turned-away-refused s r p t =
     let b = ended-by (length (take p s) - length (up-to s p (t .inside) .rest)) (up-to s p (t .inside) .rest) (up-to s p (t .inside) .end) (t .before) in
@@ -193,7 +194,7 @@ ends-by s [] (halted r) e g =
     absurd (never-halts (a .state) r (rw e at (rw g at (settled-still replayOf replay startWhole s))))
   where
     never-halts : (w : Whole) (r : Refusal) → replayOf w [] ≡ halt r → ⊥
-    never-halts w r q = let n = replay .idle w in let z : _≡_ {A = ℕ} 0 1 = cc in omega arith
+    never-halts w r q = let n = replay .idle w in impossible cc
 ends-by s (k ∷ u) (halted r) e g =
     let a = settled replayOf startWhole s in
     let f = front replayOf replay startWhole s in

@@ -23,7 +23,7 @@ use Rattle.journal_reader.proofs.What as K
 use Rattle.stream.specs.Stream.{Next, wait, halt, go, tell, Advanced, past, advanced, Reached, goesOn}
 use Rattle.journal_reader.specs.State.{State}
 use Rattle.journal_reader.specs.Reading.{Instruction, begin, restart, tick, bodyOf, onBytes, whatOf, readOf, listsRead}
-use Rattle.stream.proofs.Stream.{goes, tells-on, advanced-go, advanced-wait, advanced-halt, advanced-tell, Ahead, ahead, past-none, past-past, reached-one, reached-on}
+use Rattle.stream.proofs.Stream.{impossible, goes, tells-on, advanced-go, advanced-wait, advanced-halt, advanced-tell, Ahead, ahead, past-none, past-past, reached-one, reached-on}
 use Rattle.journal_reader.proofs.Reading.{machine, begins-is, resets-is}
 use Rattle.journal.specs.declared.tick.Run.{Run}
 use Rattle.journal.specs.declared.How.{How}
@@ -79,7 +79,7 @@ what-stops : (w : Whole) (y : Next State Instruction Refusal) → goesOn y ≡ f
 unfolding obeyed obey
 what-stops w wait g k = (refl, refl)
 what-stops w (halt r) g k = (refl, refl)
-what-stops w (go st n) g k = absurd (let z : _≡_ {A = ℕ} 0 1 = cc in omega arith)
+what-stops w (go st n) g k = impossible cc
 what-stops w (tell st n (begin s)) g k = absurd (miss others 2 tt k)
 what-stops w (tell st n restart) g k = absurd (miss others 3 tt k)
 what-stops w (tell st n (tick c)) g k = (refl, refl)
@@ -122,7 +122,7 @@ module _ (rd : Reader) (run : Run) (l : List Float) (s : List ℕ) (at : ℕ) (h
   }
     where
       no : false ≡ true → ⊥
-      no y = let f : _≡_ {A = ℕ} 0 1 = cc in omega arith
+      no y = impossible cc
 
   module _ (p : Progress) (l' : List Float) (e : p ≡ readOf (record { reader = rd; lists = l }) (drop at s)) (f : l' ≡ listsRead (record { reader = rd; lists = l }) (drop at s)) where
     pub read-within : at + p .used ≤ length s
@@ -158,7 +158,7 @@ module _ (w : Whole) (s : List ℕ) (at : ℕ) (v : Whole) (i : ℕ) (t : Reache
       }
     where
       no : true ≡ false → ⊥
-      no z = let f : _≡_ {A = ℕ} 0 1 = cc in omega arith
+      no z = impossible cc
 
 module _ (rd : Reader) (run : Run) (l : List Float) (s : List ℕ) (at : ℕ) (h : at ≤ length s)
     (p : Progress) (l' : List Float) (e : p ≡ readOf (record { reader = rd; lists = l }) (drop at s)) (f : l' ≡ listsRead (record { reader = rd; lists = l }) (drop at s)) where

@@ -1,4 +1,5 @@
--- A journal on the fuse (01-scope.md, Journal): what its instructions do to the run state, and the meaning of a whole list of bytes.
+-- A journal on the fuse (01-scope.md, Journal): what its instructions do to the run state, and the
+-- meaning of a whole list of bytes.
 use mathlib.Core.Bool.{true, false}
 use mathlib.Core.List.{List, [], _∷_}
 use mathlib.Core.Path.{_≡_}
@@ -18,7 +19,7 @@ use Rattle.stream.specs.Stream.{Next, wait, halt, go, tell, End, awaits, halted
 use Rattle.journal_reader.specs.declared.waiting.Reader.{Reader}
 use Rattle.journal_reader.specs.declared.What.{What}
 use Rattle.journal_reader.specs.declared.What.the-variants as W
-use Rattle.journal_reader.specs.State.{State, settingsCame, emptied, startReader}
+use Rattle.journal_reader.specs.State.{State, places, settingsCame, emptied, startReader}
 use Rattle.journal_reader.specs.Reading.{Instruction, begin, restart, tick, onBytes}
 use Rattle.journal.specs.declared.tick.Run.{Run}
 use Rattle.journal.specs.Tick.{decidedOf, tickedOf, Whole, wholeOf}
@@ -55,19 +56,22 @@ replayOf w s = obeyed w (onBytes (w .state) s)
 
 -- ---- a whole journal
 
--- before the first byte. There is no configuration yet, and no tick before the settings: zeros are in its place.
+-- before the first byte. There is no configuration yet, and no tick before the settings: zeros are
+-- in its place.
 unfoldable pub startRun : Run
 startRun = begunOf (settingsOf [])
 
 unfoldable pub startWhole : Whole
-startWhole = record { state = record { reader = startReader; lists = zeros 576 }; run = startRun }
+startWhole = record { state = record { reader = startReader; lists = zeros places }; run = startRun }
 
--- how a journal ends: at the end of the input, or with a refusal, at the place of its record's kind byte
+-- how a journal ends: at the end of the input, or with a refusal, at the place of its record's kind
+-- byte
 pub data Ending : Type 0 where
   ended : Ending
   refused : Refusal → ℕ → Ending
 
--- the meaning of a journal: its ticks' verdicts, how it ends, and what is left: run state, collected records and lists
+-- the meaning of a journal: its ticks' verdicts, how it ends, and what is left: run state,
+-- collected records and lists
 pub record Meaning : Type 0 where
   pub events : List Decided
   pub ending : Ending
@@ -86,7 +90,8 @@ journalOf s =
 
 -- ---- what the code answers
 
--- what comes next, where the journal goes no further by itself: the end of the bytes, a refusal, or a tick
+-- what comes next, where the journal goes no further by itself: the end of the bytes, a refusal, or
+-- a tick
 abbrev pub howOf : Next State Instruction Refusal → How
 howOf wait = Waits
 howOf (halt r) = Refuses r
@@ -95,7 +100,8 @@ howOf (tell st n (begin s)) = Waits
 howOf (tell st n restart) = Waits
 howOf (tell st n (tick c)) = Ticks (c .input)
 
--- all records up to the next tick: reader and fuse there, the bytes up to there, and what comes next
+-- all records up to the next tick: reader and fuse there, the bytes up to there, and what comes
+-- next
 unfoldable pub advancedOf : Whole → List ℕ → Advanced
 advancedOf w s =
     let a = advanced replayOf w s in

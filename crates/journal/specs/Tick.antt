@@ -1,4 +1,5 @@
--- A tick of a journal (01-scope.md, Journal): what it does to the run state, on all that was collected.
+-- A tick of a journal (01-scope.md, Journal): what it does to the run state, on all that was
+-- collected.
 use mathlib.Core.List.{List}
 use lib.Ieee.{Float}
 use Rattle.lictor_core.specs.declared.fuse.TickInput.{TickInput}

@@ -2,11 +2,18 @@
 ghost use mathlib.Core.Path.{_≡_};
 ghost use Prim.Native.Nat.{_<_};
 ghost use lib.ListN.{length};
-ghost use Rattle.journal_reader.specs.State.{valuesOf};
+ghost use Rattle.journal_refusals.specs.Causes.{capacities};
+ghost use Rattle.journal_reader.specs.State.{places, valuesOf};
 ghost use Rattle.journal_reader.specs.Reading.{broughtOf};
 ghost use Rattle.journal.specs.Tick.{decidedOf, wholeOf, journalTick};
+use journal_reader::waiting::PLACES;
 use journal_reader::waiting::Reader;
+use journal_refusals::AUX;
+use journal_refusals::CHUNK;
+use journal_refusals::EXT;
+use journal_refusals::POS;
 use journal_refusals::Seen;
+use journal_refusals::VEL;
 use lictor_core::envelope::FuseConfig;
 use lictor_core::fuse::FuseRt;
 use lictor_core::fuse::TickInput;
@@ -28,46 +35,46 @@ pub struct JournalTicked {
 
 // The values of a list.
 fn values(seen: Seen, lists: &[f64], c: usize) -> &[f64]
-    requires { ⌜ (c < 5) × (length (now lists) ≡ 576) ⌝ }
+    requires { ⌜ (c < length capacities) × (length (now lists) ≡ places) ⌝ }
     ensures { λ r. ⌜ now r ≡ valuesOf seen (now (lists .entry)) c ⌝ }
 {
     let counts = seen.counts;
     let n = lictor_core::num::least(counts[c], journal_refusals::capacity(c));
-    let a = journal_reader::waiting::base(c);
-    let e = a + n;
-    &lists[a..e]
+    let from = journal_reader::waiting::base(c);
+    let end = from + n;
+    &lists[from..end]
 }
 
-fn decide_on(rd: Reader, run: Run, lists: &[f64; 576], inp: TickInput) -> Decided
+fn decide_on(rd: Reader, run: Run, lists: &[f64; PLACES], inp: TickInput) -> Decided
     ensures { λ r. ⌜ r ≡ decidedOf run (broughtOf (record { reader = rd; lists = now (lists .entry) }) inp) ⌝ }
 {
-    let w = rd.waiting;
-    let seen = w.seen;
-    let out = rd.outcome;
+    let waiting = rd.waiting;
+    let seen = waiting.seen;
+    let outcome = rd.outcome;
     let config = run.config;
     let rt = run.rt;
-    let t = &lists[..];
+    let lent = &lists[..];
     decide(
         config,
         rt,
         inp,
-        out,
-        values(seen, t, 1),
-        values(seen, t, 2),
-        values(seen, t, 3),
-        values(seen, t, 4),
-        values(seen, t, 0),
+        outcome,
+        values(seen, lent, POS),
+        values(seen, lent, VEL),
+        values(seen, lent, AUX),
+        values(seen, lent, EXT),
+        values(seen, lent, CHUNK),
     )
 }
 
 // The tick that comes next, on all that was collected.
-pub fn tick(rd: Reader, run: Run, lists: &[f64; 576], inp: TickInput) -> JournalTicked
+pub fn tick(rd: Reader, run: Run, lists: &[f64; PLACES], inp: TickInput) -> JournalTicked
     ensures { λ r. ⌜ r ≡ journalTick (wholeOf rd run (now (lists .entry))) inp ⌝ }
 {
-    let d = decide_on(rd, run, lists, inp);
+    let decided = decide_on(rd, run, lists, inp);
     let config = run.config;
-    let rt = d.rt;
-    let verdict = d.verdict;
+    let rt = decided.rt;
+    let verdict = decided.verdict;
     let after = Run { config, rt };
     let reader = journal_reader::waiting::emptied(rd);
     JournalTicked {

@@ -2,9 +2,9 @@
 use mathlib.Core.Path.{_≡_, refl, sym, ap, subst}
 use mathlib.Core.List.{List, [], _∷_, _++_, map, append-assoc}
 use Prim.Native.Nat.{ℕ}
-use native.Mathlib.Omega.{arith}
 use Rattle.lictor_core.specs.declared.envelope.Settings.{Settings}
 use Rattle.journal_reader.specs.Reading.{Brought, Instruction, begin, restart, tick}
+use Rattle.stream.proofs.Stream.{impossible}
 use Rattle.journal_claims.specs.JournalStops.{Opens, EndsWith}
 
 -- one tick more
@@ -37,7 +37,7 @@ module _ (c : Brought) (later : List Instruction) where
   -- where the settings come first
   pub behind-settings : (before : List Instruction) (w : Settings) (rest : List Instruction) → before ++ (tick c ∷ later) ≡ begin w ∷ rest
       → EndsWith (before ++ (tick c ∷ later)) c later
-  behind-settings [] w rest e = absurd (let z : _≡_ {A = ℕ} 0 1 = cc in omega arith)
+  behind-settings [] w rest e = impossible cc
   behind-settings (begin s ∷ before) w rest e = find before [] (begin s) [] tt
   behind-settings (restart ∷ before) w rest e = find before [] restart [] tt
-  behind-settings (tick d ∷ before) w rest e = absurd (let z : _≡_ {A = ℕ} 0 1 = cc in omega arith)
+  behind-settings (tick d ∷ before) w rest e = impossible cc

@@ -31,6 +31,7 @@ use Rattle.journal_reader.specs.State.{State, ackWaits, headWaits, valueWaits, 
 use Rattle.journal_reader.specs.Reading.{Instruction, begin, restart, tick, onRecord, onBytes}
 use Rattle.journal_reader.proofs.Reading.{machine, next-refused, next-accepted}
 use Rattle.journal.specs.Journal.{startWhole}
+use Rattle.stream.proofs.Stream.{impossible}
 use Rattle.journal_claims.specs.Instructions.{instructionsOf}
 use Rattle.journal_claims.specs.JournalStops.{Bytes, NoSettings, SettledBy}
 
@@ -112,7 +113,7 @@ passed-by seen k b (not-this-row _ (not-this-row _ (not-this-row o (not-this-row
 
 both-false : (x : Bool) → (not false && not x) ≡ false → x ≡ true
 both-false true e = refl
-both-false false e = absurd (let z : _≡_ {A = ℕ} 0 1 = cc in omega arith)
+both-false false e = impossible cc
 
 kind-moves : (st : State) (k : ℕ) (b : List ℕ) (n : ℕ) → Bytes b → Passed (st .reader .waiting .seen) k b → (t : Bool) → eqb k settingsKind ≡ t
     → Moves st (onRecord st b n (decodeOf k b))
@@ -143,7 +144,7 @@ next-moves st (k ∷ u) h = judged-moves st k u (h .1) _ refl
 -- ---- all records
 
 not-both : {x : Bool} → x ≡ true → x ≡ false → ⊥
-not-both p q = let z : _≡_ {A = ℕ} 0 1 = cc in omega arith
+not-both p q = impossible cc
 
 -- after the settings
 module _ (f : ℕ) (ih : (st : State) (s : List ℕ) → Bytes s → came st ≡ true → All NoSettings (settle onBytes f st s .told)) where

@@ -31,7 +31,7 @@ use Rattle.journal_reader.specs.declared.What.{What}
 use Rattle.journal_reader.specs.declared.What.the-variants as W
 use Rattle.journal_reader.specs.State.{State, settingsCame, emptied, inputOf}
 use Rattle.journal_reader.specs.Reading.{Instruction, begin, restart, tick, lookAs, lookOf, broughtOf, withReader, onRecord, bodyOf, onLook, onBytes, whatOf}
-use Rattle.stream.proofs.Stream.{settled-still}
+use Rattle.stream.proofs.Stream.{impossible, settled-still}
 
 abbrev Move : Type 0
 Move = Next State Instruction Refusal
@@ -49,13 +49,13 @@ record-length st b n (Tick t) = refl
 -- a record that is not refused does not wait
 record-moves : (st : State) (b : List ℕ) (n : ℕ) (r : Record) → onRecord st b n r ≡ wait → ⊥
 unfolding onRecord
-record-moves st b n Settings e = let z : _≡_ {A = ℕ} 0 1 = cc in omega arith
-record-moves st b n Reset e = let z : _≡_ {A = ℕ} 0 1 = cc in omega arith
-record-moves st b n (Ack a) e = let z : _≡_ {A = ℕ} 0 1 = cc in omega arith
-record-moves st b n (Head h) e = let z : _≡_ {A = ℕ} 0 1 = cc in omega arith
-record-moves st b n (Value c x) e = let z : _≡_ {A = ℕ} 0 1 = cc in omega arith
-record-moves st b n Outcome e = let z : _≡_ {A = ℕ} 0 1 = cc in omega arith
-record-moves st b n (Tick t) e = let z : _≡_ {A = ℕ} 0 1 = cc in omega arith
+record-moves st b n Settings e = impossible cc
+record-moves st b n Reset e = impossible cc
+record-moves st b n (Ack a) e = impossible cc
+record-moves st b n (Head h) e = impossible cc
+record-moves st b n (Value c x) e = impossible cc
+record-moves st b n Outcome e = impossible cc
+record-moves st b n (Tick t) e = impossible cc
 
 -- the body of a record of kind k, as far as it came
 abbrev body : ℕ → List ℕ → List ℕ
@@ -91,7 +91,7 @@ module _ (st : State) (k : ℕ) (u : List ℕ) where
   taken-length (Refused r) e p = absurd (let z : _≡_ {A = Bool} true false = sym p ∙ ap takes (next-refused r e) ∙ refused-takes r (isCutBody r) in no z)
     where
       no : true ≡ false → ⊥
-      no z = let f : _≡_ {A = ℕ} 0 1 = cc in omega arith
+      no z = impossible cc
   taken-length Accepted e p = ap size (next-accepted e) ∙ record-length st (body k u) (suc (bodyLen journalKinds k)) (decodeOf k (body k u))
 
   -- and is there whole
@@ -99,7 +99,7 @@ module _ (st : State) (k : ℕ) (u : List ℕ) where
   taken-by (Refused r) e p = absurd (let z : _≡_ {A = Bool} true false = sym p ∙ ap takes (next-refused r e) ∙ refused-takes r (isCutBody r) in no z)
     where
       no : true ≡ false → ⊥
-      no z = let f : _≡_ {A = ℕ} 0 1 = cc in omega arith
+      no z = impossible cc
   taken-by Accepted e p = omega (arith, accepted-whole (seenOf st) k (body k u) journalKinds e, length-take (bodyLen journalKinds k) u)
 
   is-cut : (bodyLen journalKinds k ≤ length u → ⊥) → bodyCut journalKinds (seenOf st) k (body k u) ≡ true
@@ -135,7 +135,7 @@ stands-by st (k ∷ u) t w = more-by st k u t (decLe _ _) (unknownKind journalKi
 
 taken : (st : State) (s : List ℕ) → takes (onBytes st s) ≡ true → (0 < size (onBytes st s)) × (size (onBytes st s) ≤ length s)
 unfolding onBytes lookOf onLook
-taken st [] p = absurd (let f : _≡_ {A = ℕ} 0 1 = cc in omega arith)
+taken st [] p = impossible cc
 taken st (k ∷ u) p =
     let l : size (onBytes st (k ∷ u)) ≡ suc (bodyLen journalKinds k) = taken-length st k u (judged st k u) refl p in
     (omega arith, omega (arith, taken-by st k u (judged st k u) refl p))
@@ -143,7 +143,7 @@ taken st (k ∷ u) p =
 -- what is taken is all that was looked at
 enough : (st : State) (s : List ℕ) → takes (onBytes st s) ≡ true → onBytes st (take (size (onBytes st s)) s) ≡ onBytes st s
 unfolding onBytes lookOf onLook
-enough st [] p = absurd (let f : _≡_ {A = ℕ} 0 1 = cc in omega arith)
+enough st [] p = impossible cc
 enough st (k ∷ u) p =
     let n = bodyLen journalKinds k in
     let l : size (onBytes st (k ∷ u)) ≡ suc n = taken-length st k u (judged st k u) refl p in
@@ -166,7 +166,7 @@ all-under m (x ∷ l) = cond (leb x m) (all-under m l) false
 under-by : (m x : ℕ) (l : List ℕ) (t : Bool) → leb x m ≡ t → all-under m (x ∷ l) ≡ true → (x ≤ m) × (all-under m l ≡ true)
 unfolding all-under
 under-by m x l true e a = (leb-true x m e, rw e at a)
-under-by m x l false e a = absurd (let f : false ≡ true = rw e at a in let z : _≡_ {A = ℕ} 0 1 = cc in omega arith)
+under-by m x l false e a = let f : false ≡ true = rw e at a in impossible cc
 
 under : (m : ℕ) (l : List ℕ) (k : ℕ) → all-under m l ≡ true → getD l k 0 ≤ m
 under m [] k a = omega arith
@@ -178,7 +178,7 @@ unfolding bodyLen all-under
 bodies-short k = under 257 (0 ∷ journalKinds) k refl
 
 not-wait-halt : (x : Move) (r : Refusal) → x ≡ wait → x ≡ halt r → ⊥
-not-wait-halt x r p q = let z : _≡_ {A = ℕ} 0 1 = cc in omega arith
+not-wait-halt x r p q = impossible cc
 
 -- a record that is there whole does not wait
 whole-moves : (st : State) (k : ℕ) (u : List ℕ) → bodyLen journalKinds k ≤ length u → (x : Judged) → judged st k u ≡ x → onBytes st (k ∷ u) ≡ wait → ⊥
@@ -204,7 +204,7 @@ rest-by : (st : State) (s : List ℕ) (x : End Refusal) → settled onBytes st s
 rest-by st s awaits e p =
     let w : onBytes (settled onBytes st s .state) (settled onBytes st s .rest) ≡ wait = rw e at (settled-still onBytes machine st s) in
     waits-short (settled onBytes st s .state) (settled onBytes st s .rest) w
-rest-by st s (halted r) e p = absurd (let z : _≡_ {A = ℕ} 0 1 = cc in omega arith)
+rest-by st s (halted r) e p = impossible cc
 
 pub rest-short : (st : State) (s : List ℕ) → settled onBytes st s .end ≡ awaits → length (settled onBytes st s .rest) ≤ 257
 rest-short st s e = rest-by st s (settled onBytes st s .end) refl e
@@ -213,21 +213,21 @@ rest-short st s e = rest-by st s (settled onBytes st s .end) refl e
 
 record-not-halted : (st : State) (b : List ℕ) (n : ℕ) (x : Record) (r : Refusal) → onRecord st b n x ≡ halt r → ⊥
 unfolding onRecord
-record-not-halted st b n Settings r e = let z : _≡_ {A = ℕ} 0 1 = cc in omega arith
-record-not-halted st b n Reset r e = let z : _≡_ {A = ℕ} 0 1 = cc in omega arith
-record-not-halted st b n (Ack a) r e = let z : _≡_ {A = ℕ} 0 1 = cc in omega arith
-record-not-halted st b n (Head h) r e = let z : _≡_ {A = ℕ} 0 1 = cc in omega arith
-record-not-halted st b n (Value c x) r e = let z : _≡_ {A = ℕ} 0 1 = cc in omega arith
-record-not-halted st b n Outcome r e = let z : _≡_ {A = ℕ} 0 1 = cc in omega arith
-record-not-halted st b n (Tick t) r e = let z : _≡_ {A = ℕ} 0 1 = cc in omega arith
+record-not-halted st b n Settings r e = impossible cc
+record-not-halted st b n Reset r e = impossible cc
+record-not-halted st b n (Ack a) r e = impossible cc
+record-not-halted st b n (Head h) r e = impossible cc
+record-not-halted st b n (Value c x) r e = impossible cc
+record-not-halted st b n Outcome r e = impossible cc
+record-not-halted st b n (Tick t) r e = impossible cc
 
 halts-for : (r r' : Refusal) (t : Bool) → _≡_ {A = Move} (cond t wait (halt r')) (halt r) → r' ≡ r
-halts-for r r' true e = absurd (let z : _≡_ {A = ℕ} 0 1 = cc in omega arith)
+halts-for r r' true e = impossible cc
 halts-for r r' false e = cc
 
 waits-for : (r : Refusal) (t : Bool) → isCutBody r ≡ t → _≡_ {A = Move} (cond t wait (halt r)) wait → r ≡ CutBody
 waits-for r true c e = cut-only r c
-waits-for r false c e = absurd (let z : _≡_ {A = ℕ} 0 1 = cc in omega arith)
+waits-for r false c e = impossible cc
 
 module _ (st : State) (k : ℕ) (u : List ℕ) where
   halted-by : (r : Refusal) (x : Judged) → judged st k u ≡ x → onBytes st (k ∷ u) ≡ halt r → judged st k u ≡ Refused r
@@ -252,33 +252,33 @@ record-begins : (st : State) (b : List ℕ) (n : ℕ) (x : Record) → whatOf (o
     → onRecord st b n x ≡ tell (withReader st (settingsCame (st .reader))) n (begin (settingsOf b))
 unfolding onRecord
 record-begins st b n Settings e = refl
-record-begins st b n Reset e = absurd (let z : _≡_ {A = ℕ} 0 1 = cc in omega arith)
-record-begins st b n (Ack a) e = absurd (let z : _≡_ {A = ℕ} 0 1 = cc in omega arith)
-record-begins st b n (Head h) e = absurd (let z : _≡_ {A = ℕ} 0 1 = cc in omega arith)
-record-begins st b n (Value c v) e = absurd (let z : _≡_ {A = ℕ} 0 1 = cc in omega arith)
-record-begins st b n Outcome e = absurd (let z : _≡_ {A = ℕ} 0 1 = cc in omega arith)
-record-begins st b n (Tick t) e = absurd (let z : _≡_ {A = ℕ} 0 1 = cc in omega arith)
+record-begins st b n Reset e = impossible cc
+record-begins st b n (Ack a) e = impossible cc
+record-begins st b n (Head h) e = impossible cc
+record-begins st b n (Value c v) e = impossible cc
+record-begins st b n Outcome e = impossible cc
+record-begins st b n (Tick t) e = impossible cc
 
 record-resets : (st : State) (b : List ℕ) (n : ℕ) (x : Record) → whatOf (onRecord st b n x) ≡ W.Resets
     → onRecord st b n x ≡ tell (withReader st (emptied (st .reader))) n restart
 unfolding onRecord
-record-resets st b n Settings e = absurd (let z : _≡_ {A = ℕ} 0 1 = cc in omega arith)
+record-resets st b n Settings e = impossible cc
 record-resets st b n Reset e = refl
-record-resets st b n (Ack a) e = absurd (let z : _≡_ {A = ℕ} 0 1 = cc in omega arith)
-record-resets st b n (Head h) e = absurd (let z : _≡_ {A = ℕ} 0 1 = cc in omega arith)
-record-resets st b n (Value c v) e = absurd (let z : _≡_ {A = ℕ} 0 1 = cc in omega arith)
-record-resets st b n Outcome e = absurd (let z : _≡_ {A = ℕ} 0 1 = cc in omega arith)
-record-resets st b n (Tick t) e = absurd (let z : _≡_ {A = ℕ} 0 1 = cc in omega arith)
+record-resets st b n (Ack a) e = impossible cc
+record-resets st b n (Head h) e = impossible cc
+record-resets st b n (Value c v) e = impossible cc
+record-resets st b n Outcome e = impossible cc
+record-resets st b n (Tick t) e = impossible cc
 
 record-ticks : (st : State) (b : List ℕ) (n : ℕ) (x : Record) (i : TickInput) → whatOf (onRecord st b n x) ≡ W.Ticks i
     → onRecord st b n x ≡ tell (withReader st (emptied (st .reader))) n (tick (broughtOf st i))
 unfolding onRecord broughtOf
-record-ticks st b n Settings i e = absurd (let z : _≡_ {A = ℕ} 0 1 = cc in omega arith)
-record-ticks st b n Reset i e = absurd (let z : _≡_ {A = ℕ} 0 1 = cc in omega arith)
-record-ticks st b n (Ack a) i e = absurd (let z : _≡_ {A = ℕ} 0 1 = cc in omega arith)
-record-ticks st b n (Head h) i e = absurd (let z : _≡_ {A = ℕ} 0 1 = cc in omega arith)
-record-ticks st b n (Value c v) i e = absurd (let z : _≡_ {A = ℕ} 0 1 = cc in omega arith)
-record-ticks st b n Outcome i e = absurd (let z : _≡_ {A = ℕ} 0 1 = cc in omega arith)
+record-ticks st b n Settings i e = impossible cc
+record-ticks st b n Reset i e = impossible cc
+record-ticks st b n (Ack a) i e = impossible cc
+record-ticks st b n (Head h) i e = impossible cc
+record-ticks st b n (Value c v) i e = impossible cc
+record-ticks st b n Outcome i e = impossible cc
 record-ticks st b n (Tick t) i e =
     let q : inputOf (st .reader .waiting) t ≡ i = cc in
     ap (λ (x : TickInput). tell (withReader st (emptied (st .reader))) n (tick (broughtOf st x))) q
@@ -302,7 +302,7 @@ accepted-by st k u (Refused r) e y =
     absurd (let z : _≡_ {A = Bool} true false = sym y ∙ ap (λ (n : Move). instructs (whatOf n)) (next-refused st k u r e) ∙ refused-instructs r (isCutBody r) in no z)
   where
     no : true ≡ false → ⊥
-    no z = let f : _≡_ {A = ℕ} 0 1 = cc in omega arith
+    no z = impossible cc
 
 -- the record at the front of u, with its body
 abbrev at-front : State → List ℕ → Move
@@ -312,7 +312,7 @@ at-front st u =
 
 instructs-by : (st : State) (u : List ℕ) → instructs (whatOf (onBytes st u)) ≡ true → onBytes st u ≡ at-front st u
 unfolding onBytes lookOf onLook instructs
-instructs-by st [] y = absurd (let z : _≡_ {A = ℕ} 0 1 = cc in omega arith)
+instructs-by st [] y = impossible cc
 instructs-by st (k ∷ u) y = next-accepted st k u (accepted-by st k u (judged st k u) refl y)
 
 module _ (st : State) (u : List ℕ) where

@@ -39,11 +39,11 @@ use Rattle.journal_reader.specs.declared.What.{What}
 use Rattle.journal_reader.specs.declared.What.the-variants as W
 use Rattle.journal_reader.specs.declared.Took.{Took}
 use Rattle.journal_reader.specs.declared.Stretch.{Stretch}
-use Rattle.journal_reader.specs.State.{State, bases, ackWaits, headWaits, valueWaits, stored, outcomeWaits, inputOf}
+use Rattle.journal_reader.specs.State.{State, bases, places, ackWaits, headWaits, valueWaits, stored, outcomeWaits, inputOf}
 use Rattle.stream.specs.Stream.{go, goesOn, Reached}
 use Rattle.journal_reader.specs.Reading.{Instruction, lookAs, lookOf, broughtOf, onRecord, onLook, onBytes, whatOf, bodyOf}
 use Rattle.journal_reader.specs.Steps.{stateWith, Room, isSmall, looksSmall, Added, TookOne, Collected, Instructs, TookStretch}
-use Rattle.stream.proofs.Stream.{goes, reached-none, reached-one, reached-on}
+use Rattle.stream.proofs.Stream.{impossible, goes, reached-none, reached-one, reached-on}
 use Rattle.journal_reader.proofs.Look as K
 use Rattle.journal_reader.proofs.Reading.{machine}
 
@@ -81,7 +81,7 @@ none-found (L.Found r n) k = absurd (miss (0 ∷ 1 ∷ []) 2 tt k)
 -- ---- records at a place
 
 -- each list lies in the lent memory
-pub list-fits : (c : ℕ) → c < 5 → getD bases c 0 + getD capacities c 0 ≤ 576
+pub list-fits : (c : ℕ) → c < length capacities → getD bases c 0 + getD capacities c 0 ≤ places
 list-fits zero p = omega arith
 list-fits (suc zero) p = omega arith
 list-fits (suc (suc zero)) p = omega arith
@@ -90,7 +90,7 @@ list-fits (suc (suc (suc (suc zero)))) p = omega arith
 list-fits (suc (suc (suc (suc (suc c))))) p = absurd (omega arith)
 
 -- so does the place of a value that has room
-pub room-fits : (c n : ℕ) → c < 5 → n < getD capacities c 0 → getD bases c 0 + n < 576
+pub room-fits : (c n : ℕ) → c < length capacities → n < getD capacities c 0 → getD bases c 0 + n < places
 room-fits c n p q = omega (arith, list-fits c p)
 
 -- ---- the record at a place
@@ -134,7 +134,7 @@ module _ (w : Waiting) (l : List Float) (at n : ℕ) (x : Record) where
   }
     where
       no : true ≡ false → ⊥
-      no y = let f : _≡_ {A = ℕ} 0 1 = cc in omega arith
+      no y = impossible cc
 
   pub added-ack : (a : VerifiedAck) (w' : Waiting) → x ≡ Ack a → w' ≡ ackWaits w a → Added w l at n x (record { waiting = w'; at = at + n + 1; look = L.Waits; more = true }) l
   unfolding onRecord
@@ -162,7 +162,7 @@ module _ (w : Waiting) (l : List Float) (at n : ℕ) (x : Record) where
   }
     where
       no : false ≡ true → ⊥
-      no y = let f : _≡_ {A = ℕ} 0 1 = cc in omega arith
+      no y = impossible cc
 
 -- a record that is found is there whole, and if it is a value, its list has room
 pub record FoundIs (seen : Seen) (s : List ℕ) (x : Record) (n : ℕ) : Type 0 where
@@ -185,8 +185,8 @@ room-of seen k b e =
     (room-cond seen (eqb k 6) _ _ (λ p. tt) tt)))))
 
 refused-not-found : (r : Refusal) (t : Bool) (x : Record) (n : ℕ) → cond t L.Waits (L.Refuses r) ≡ L.Found x n → ⊥
-refused-not-found r true x n e = let z : _≡_ {A = ℕ} 0 1 = cc in omega arith
-refused-not-found r false x n e = let z : _≡_ {A = ℕ} 0 1 = cc in omega arith
+refused-not-found r true x n e = impossible cc
+refused-not-found r false x n e = impossible cc
 
 found-by : (seen : Seen) (k : ℕ) (u : List ℕ) (x : Record) (n : ℕ) (j : Judged) → judgedOf journalKinds seen k (take (bodyLen journalKinds k) u) ≡ j
     → lookAs k (take (bodyLen journalKinds k) u) j ≡ L.Found x n → FoundIs seen (k ∷ u) x n
@@ -203,7 +203,7 @@ found-by seen k u x n Accepted e f =
 
 pub found-is : (seen : Seen) (s : List ℕ) (x : Record) (n : ℕ) → lookOf seen s ≡ L.Found x n → FoundIs seen s x n
 unfolding lookOf
-found-is seen [] x n e = absurd (let z : _≡_ {A = ℕ} 0 1 = cc in omega arith)
+found-is seen [] x n e = impossible cc
 found-is seen (k ∷ u) x n e = found-by seen k u x n (judgedOf journalKinds seen k (take (bodyLen journalKinds k) u)) refl e
 
 module _ (w : Waiting) (l : List Float) (s : List ℕ) (at : ℕ) where
@@ -240,7 +240,7 @@ module _ (w : Waiting) (l : List Float) (s : List ℕ) (at : ℕ) where
   }
     where
       no : false ≡ true → ⊥
-      no y = let f : _≡_ {A = ℕ} 0 1 = cc in omega arith
+      no y = impossible cc
 
 -- ---- one small record
 
@@ -293,7 +293,7 @@ module _ (rd : Reader) (l : List Float) (s : List ℕ) (at n : ℕ) (x : Record)
   }
     where
       no : true ≡ false → ⊥
-      no y = let f : _≡_ {A = ℕ} 0 1 = cc in omega arith
+      no y = impossible cc
 
   -- the others say what they are
   instructs : (v : What) → goesOn (onRecord here (bodyOf n (drop at s)) (suc n) x) ≡ false → v ≡ whatOf (onRecord here (bodyOf n (drop at s)) (suc n) x)
@@ -308,7 +308,7 @@ module _ (rd : Reader) (l : List Float) (s : List ℕ) (at n : ℕ) (x : Record)
   }
     where
       no : false ≡ true → ⊥
-      no y = let f : _≡_ {A = ℕ} 0 1 = cc in omega arith
+      no y = impossible cc
 
   pub instructs-settings : x ≡ Settings → Instructs rd l s at n x (record { reader = rd; at = at; what = W.Begins; more = false })
   unfolding onRecord
@@ -338,7 +338,7 @@ module _ (w : Waiting) (o : O.Outcome) (l : List Float) (s : List ℕ) (at : ℕ
   turned-here v e f = record { reached = k .reached o; further = λ y. absurd (no y); stops = λ y. e; what = λ y. f }
     where
       no : false ≡ true → ⊥
-      no y = let f : _≡_ {A = ℕ} 0 1 = cc in omega arith
+      no y = impossible cc
 
   pub turned-waits : t .look ≡ L.Waits → TookStretch (stateWith w o l) s at (record { reader = came .reader; at = t .at; what = W.Waits; more = false }) l'
   unfolding onLook
@@ -370,7 +370,7 @@ module _ (w : Waiting) (o : O.Outcome) (l : List Float) (s : List ℕ) (at : ℕ
         }
       where
         no : true ≡ false → ⊥
-        no z = let f : _≡_ {A = ℕ} 0 1 = cc in omega arith
+        no z = impossible cc
     found-by-turn r i false y =
         let q = then-is (L.Found x n) e in
         record {
@@ -381,7 +381,7 @@ module _ (w : Waiting) (o : O.Outcome) (l : List Float) (s : List ℕ) (at : ℕ
         }
       where
         no : false ≡ true → ⊥
-        no z = let f : _≡_ {A = ℕ} 0 1 = cc in omega arith
+        no z = impossible cc
 
     pub turned-found : (r : Stretch) → Instructs (came .reader) l' s (t .at) n x r → TookStretch (stateWith w o l) s at r l'
     turned-found r i = found-by-turn r i (r .more) refl

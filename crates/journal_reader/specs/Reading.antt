@@ -1,4 +1,5 @@
--- What a journal's bytes say, record by record (01-scope.md, Journal): instructions for the fuse. The run state has no part in it.
+-- What a journal's bytes say, record by record (01-scope.md, Journal): instructions for the fuse.
+-- The run state has no part in it.
 use mathlib.Core.Bool.{cond}
 use mathlib.Core.List.{List, [], _∷_}
 use Prim.Native.Nat.{ℕ, suc}
@@ -16,6 +17,7 @@ use Rattle.journal_refusals.specs.declared.Seen.{Seen}
 use Rattle.journal_refusals.specs.declared.Refusal.{Refusal}
 use Rattle.journal_refusals.specs.declared.Judged.{Judged}
 use Rattle.journal_refusals.specs.declared.Judged.the-variants.{Accepted, Refused}
+use Rattle.journal_refusals.specs.Causes.{chunkList, posList, velList, auxList, extList}
 use Rattle.journal_refusals.specs.Table.{isCutBody, judgedOf}
 use Rattle.journal_reader.specs.declared.waiting.Reader.{Reader}
 use Rattle.journal_reader.specs.declared.Look.{Look}
@@ -28,7 +30,8 @@ use Rattle.journal_reader.specs.State.{State, ackWaits, headWaits, value
 
 -- ---- the record at the front
 
--- one that is refused, or cut by the end of the bytes at hand, which is no refusal before the journal's end; or a record, and the length of its body
+-- One that is refused, or cut by the end of the bytes at hand, which is no refusal before the
+-- journal's end; or a record, and the length of its body.
 unfoldable pub lookAs : ℕ → List ℕ → Judged → Look
 lookAs k b (Refused r) = cond (isCutBody r) L.Waits (L.Refuses r)
 lookAs k b Accepted = L.Found (decodeOf k b) (bodyLen journalKinds k)
@@ -55,24 +58,25 @@ pub data Instruction : Type 0 where
   restart : Instruction
   tick : Brought → Instruction
 
--- a tick uses all that was collected: lists 0 chunk, 1 pos, 2 vel, 3 aux, 4 ext
+-- a tick uses all that was collected
 unfoldable pub broughtOf : State → TickInput → Brought
 broughtOf st input =
     let seen = st .reader .waiting .seen in
     record {
       input = input;
       outcome = st .reader .outcome;
-      pos = valuesOf seen (st .lists) 1;
-      vel = valuesOf seen (st .lists) 2;
-      aux = valuesOf seen (st .lists) 3;
-      ext = valuesOf seen (st .lists) 4;
-      chunk = valuesOf seen (st .lists) 0;
+      pos = valuesOf seen (st .lists) posList;
+      vel = valuesOf seen (st .lists) velList;
+      aux = valuesOf seen (st .lists) auxList;
+      ext = valuesOf seen (st .lists) extList;
+      chunk = valuesOf seen (st .lists) chunkList;
     }
 
 abbrev pub withReader : State → Reader → State
 withReader st r = record { reader = r; lists = st .lists }
 
--- a record of n bytes, with body b, that is not refused. Settings, a reset and a tick instruct the fuse; a reset and a tick empty what was collected; the others wait.
+-- A record of n bytes, with body b, that is not refused. Settings, a reset and a tick instruct the
+-- fuse; a reset and a tick empty what was collected; the others wait.
 unfoldable pub onRecord : State → List ℕ → ℕ → Record → Next State Instruction Refusal
 onRecord st b n Settings = tell (withReader st (settingsCame (st .reader))) n (begin (settingsOf b))
 onRecord st b n Reset = tell (withReader st (emptied (st .reader))) n restart
@@ -102,7 +106,7 @@ onBytes st s = onLook st s (lookOf (st .reader .waiting .seen) s)
 
 -- ---- what the code answers
 
--- what comes next. (Settings hold arrays, and are beside it: in the body of the record that comes next.)
+-- what comes next (settings hold arrays, and stay in the body of the record that comes next)
 abbrev pub whatOf : Next State Instruction Refusal → What
 whatOf wait = Waits
 whatOf (halt r) = Refuses r
@@ -111,7 +115,7 @@ whatOf (tell st n (begin s)) = Begins
 whatOf (tell st n restart) = Resets
 whatOf (tell st n (tick c)) = Ticks (c .input)
 
--- the reader takes all records up to the next instruction: the reader there, the bytes up to there, and what comes next
+-- all records up to the next instruction: the reader there, the bytes up to there, what comes next
 unfoldable pub readOf : State → List ℕ → Progress
 readOf st s =
     let a = advanced onBytes st s in

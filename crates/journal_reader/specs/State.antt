@@ -1,8 +1,9 @@
--- What a reader of a journal holds between records (01-scope.md, Journal): what waits for the next tick, and the lent memory of the collected values.
+-- What a reader of a journal holds between records (01-scope.md, Journal): what waits for the next
+-- tick, and the lent memory of the collected values.
 use mathlib.Core.Bool.{true, false, cond}
 use mathlib.Core.List.{List, [], _∷_}
-use Prim.Native.Nat.{ℕ, _+_, min}
-use lib.ListN.{getD, set, take, drop, replicate}
+use Prim.Native.Nat.{ℕ, _+_, _*_, min}
+use lib.ListN.{length, getD, set, take, drop, replicate}
 use lib.Ieee.{Float}
 use Rattle.lictor_core.specs.declared.ack.VerifiedAck.{VerifiedAck}
 use Rattle.lictor_core.specs.declared.ack.MaybeAck.the-variants.{NoAck, Given}
@@ -14,18 +15,22 @@ use Rattle.journal_records.specs.declared.TickNumbers.{TickNumbers}
 use Rattle.journal_records.specs.Body.{ackOf, headOf}
 use Rattle.journal_records.specs.Long.{outcomeOf}
 use Rattle.journal_refusals.specs.declared.Seen.{Seen}
-use Rattle.journal_refusals.specs.Causes.{capacities, countOf}
+use Rattle.journal_refusals.specs.Causes.{chunkRoom, listRoom, capacities, countOf}
 use Rattle.journal_reader.specs.declared.waiting.Waiting.{Waiting}
 use Rattle.journal_reader.specs.declared.waiting.Reader.{Reader}
 
--- the reader, and the lent memory: 512 places for the chunk's values, then 16 each for pos, vel, aux and ext
+-- the reader, and the lent memory of the lists: chunk, pos, vel, aux and ext, one after the other
 pub record State : Type 0 where
   pub reader : Reader
   pub lists : List Float
 
 -- where each list begins
 abbrev pub bases : List ℕ
-bases = 0 ∷ 512 ∷ 528 ∷ 544 ∷ 560 ∷ []
+bases = 0 ∷ chunkRoom ∷ (chunkRoom + listRoom) ∷ (chunkRoom + 2 * listRoom) ∷ (chunkRoom + 3 * listRoom) ∷ []
+
+-- how many places they have
+abbrev pub places : ℕ
+places = chunkRoom + 4 * listRoom
 
 -- ---- what has been seen
 
@@ -45,9 +50,10 @@ seenOutcome n = record { settings = n .settings; ack = n .ack; head = n .head; o
 abbrev pub seenValue : Seen → ℕ → Seen
 seenValue n c = record { settings = n .settings; ack = n .ack; head = n .head; outcome = n .outcome; counts = set (n .counts) c (countOf n c + 1) }
 
--- nothing waits any more: the counts are 0. The values in the lent memory stay as they were, and so do the places of an ack, a head and an outcome.
+-- Nothing waits any more: the counts are 0. The values in the lent memory stay as they were, and so
+-- do the places of an ack, a head and an outcome.
 abbrev pub seenNone : Seen → Seen
-seenNone n = record { settings = n .settings; ack = false; head = false; outcome = false; counts = replicate 5 0 }
+seenNone n = record { settings = n .settings; ack = false; head = false; outcome = false; counts = replicate (length capacities) 0 }
 
 -- ---- what waits
 
@@ -83,7 +89,7 @@ emptied r = withWaiting r (withSeen (r .waiting) (seenNone (r .waiting .seen)))
 unfoldable pub startReader : Reader
 startReader = record {
   waiting = record {
-    seen = record { settings = false; ack = false; head = false; outcome = false; counts = replicate 5 0 };
+    seen = record { settings = false; ack = false; head = false; outcome = false; counts = replicate (length capacities) 0 };
     ack = ackOf [];
     head = headOf [];
   };
@@ -96,7 +102,8 @@ startReader = record {
 unfoldable pub valuesOf : Seen → List Float → ℕ → List Float
 valuesOf n l c = take (min (countOf n c) (getD capacities c 0)) (drop (getD bases c 0) l)
 
--- the numbers of a tick's input: those of its record, and the head and the acknowledgement that wait
+-- the numbers of a tick's input: those of its record, and the head and the acknowledgement that
+-- wait
 unfoldable pub inputOf : Waiting → TickNumbers → TickInput
 inputOf w n = record {
   t = n .t;

@@ -1,5 +1,6 @@
--- What the reader's own functions promise each other: one record, a run of records that only wait, one turn of the reader.
--- It joins the code of `reader` to specs/Reading, and states nothing of the papers.
+-- What the reader's own functions promise each other: one record, a run of records that only wait,
+-- one turn of the reader. It joins the code of `reader` to specs/Reading, and states nothing of the
+-- papers.
 use mathlib.Core.Bool.{Bool, true, false}
 use mathlib.Core.List.{List}
 use mathlib.Core.Path.{_≡_}
@@ -9,7 +10,6 @@ use lib.Ieee.{Float}
 use Rattle.lictor_core.specs.declared.outcome.Outcome as O
 use Rattle.journal_records.specs.declared.Record.{Record}
 use Rattle.journal_records.specs.declared.Record.the-variants.{Settings, Reset, Ack, Head, Value, Outcome, Tick}
-use Rattle.journal_refusals.specs.declared.Refusal.{Refusal}
 use Rattle.journal_refusals.specs.declared.Seen.{Seen}
 use Rattle.journal_refusals.specs.Causes.{capacities, countOf}
 use Rattle.journal_reader.specs.declared.waiting.Waiting.{Waiting}
@@ -20,7 +20,7 @@ use Rattle.journal_reader.specs.declared.Took.{Took}
 use Rattle.journal_reader.specs.declared.Stretch.{Stretch}
 use Rattle.stream.specs.Stream.{go, goesOn, Reached}
 use Rattle.journal_reader.specs.State.{State}
-use Rattle.journal_reader.specs.Reading.{Instruction, lookOf, bodyOf, onRecord, onBytes, whatOf}
+use Rattle.journal_reader.specs.Reading.{lookOf, bodyOf, onRecord, onBytes, whatOf}
 
 abbrev pub stateWith : Waiting → O.Outcome → List Float → State
 stateWith w o l = record { reader = record { waiting = w; outcome = o }; lists = l }
@@ -31,7 +31,7 @@ Room seen Settings = Unit
 Room seen Reset = Unit
 Room seen (Ack a) = Unit
 Room seen (Head h) = Unit
-Room seen (Value c x) = (c < 5) × (countOf seen c < getD capacities c 0)
+Room seen (Value c x) = (c < length capacities) × (countOf seen c < getD capacities c 0)
 Room seen Outcome = Unit
 Room seen (Tick t) = Unit
 
@@ -50,7 +50,8 @@ looksSmall L.Waits = false
 looksSmall (L.Refuses r) = false
 looksSmall (L.Found r n) = isSmall r
 
--- a record at place `at`, with a body of n bytes, was added to what waits, or it is not of the small kinds
+-- a record at place `at`, with a body of n bytes, was added to what waits, or it is not of the
+-- small kinds
 pub record Added (w : Waiting) (l : List Float) (at n : ℕ) (x : Record) (r : Took) (l' : List Float) : Type 0 where
   pub waits : r .more ≡ true → (o : O.Outcome) (b : List ℕ) → onRecord (stateWith w o l) b (suc n) x ≡ go (stateWith (r .waiting) o l') (suc n)
   pub past : r .more ≡ true → r .at ≡ at + suc n
@@ -60,7 +61,8 @@ pub record Added (w : Waiting) (l : List Float) (at n : ℕ) (x : Record) (r : T
   pub same-lists : r .more ≡ false → l' ≡ l
   pub same-place : r .more ≡ false → r .at ≡ at
 
--- the record at place `at` of s was added to what waits, or it is none of the small kinds, and `look` says what it is
+-- the record at place `at` of s was added to what waits, or it is none of the small kinds, and
+-- `look` says what it is
 pub record TookOne (w : Waiting) (l : List Float) (s : List ℕ) (at : ℕ) (r : Took) (l' : List Float) : Type 0 where
   pub waits : r .more ≡ true → (o : O.Outcome) → onBytes (stateWith w o l) (drop at s) ≡ go (stateWith (r .waiting) o l') (r .at - at)
   pub from : at ≤ r .at
@@ -70,7 +72,8 @@ pub record TookOne (w : Waiting) (l : List Float) (s : List ℕ) (at : ℕ) (r :
   pub same-lists : r .more ≡ false → l' ≡ l
   pub same-place : r .more ≡ false → r .at ≡ at
 
--- all small records from place `at` on were added, whatever outcome waits, and what is after them is none
+-- all small records from place `at` on were added, whatever outcome waits, and what is after them
+-- is none
 pub record Collected (w : Waiting) (l : List Float) (s : List ℕ) (at : ℕ) (r : Took) (l' : List Float) : Type 0 where
   pub reached : (o : O.Outcome) → Reached onBytes (stateWith w o l) s at (stateWith (r .waiting) o l') (r .at)
   pub other : looksSmall (r .look) ≡ false

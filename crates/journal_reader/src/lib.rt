@@ -1,5 +1,5 @@
-// Reads a journal, in parts of any sizes: bytes to instructions for the fuse.
-pub mod waiting;
+// Reads a journal, in parts of any sizes: from bytes to records to instructions for the fuse.
+pub mod waiting; // what waits for a tick
 
 ghost use mathlib.Core.Bool.{false};
 ghost use mathlib.Core.List.{[]};
@@ -12,6 +12,7 @@ ghost use Rattle.journal_refusals.specs.Table.{isCutBody};
 ghost use Rattle.journal_reader.specs.State.{valueWaits, stored};
 ghost use Rattle.journal_reader.specs.Reading.{lookAs, lookOf, readOf, listsRead};
 ghost use Rattle.journal_reader.specs.Steps.{Room, isSmall, Added, TookOne, Collected, Instructs, TookStretch};
+use crate::waiting::PLACES;
 use crate::waiting::Reader;
 use crate::waiting::Waiting;
 use journal_records::Record;
@@ -48,7 +49,7 @@ pub struct Progress {
 fn is_cut_body(r: Refusal) -> bool
     ensures { λ t. ⌜ t ≡ isCutBody r ⌝ }
 {
-    journal_refusals::number(r) == 6
+    journal_refusals::number(r) == journal_refusals::number(Refusal::CutBody)
 }
 
 fn refused_as(r: Refusal) -> Look
@@ -80,19 +81,19 @@ fn look_at(seen: Seen, s: &[u8], at: usize) -> Look
     if s.len() <= at {
         return Look::Waits;
     }
-    let k = s[at];
-    let a = at + 1;
-    let n = journal_records::body_len(k);
-    let e = a + lictor_core::num::least(n, s.len() - a);
-    let b = &s[a..e];
-    let j = journal_refusals::judge(seen, k, b);
-    look_as(k, b, j)
+    let kind = s[at];
+    let from = at + 1;
+    let len = journal_records::body_len(kind);
+    let end = from + lictor_core::num::least(len, s.len() - from);
+    let body = &s[from..end];
+    let judged = journal_refusals::judge(seen, kind, body);
+    look_as(kind, body, judged)
 }
 
 // ---- records that only wait
 
 fn with_value(w: Waiting, c: u8) -> Waiting
-    requires { ⌜ (c < 5) × (countOf (w .seen) c < getD capacities c 0) ⌝ }
+    requires { ⌜ (c < length capacities) × (countOf (w .seen) c < getD capacities c 0) ⌝ }
     ensures { λ r. ⌜ r ≡ valueWaits w c ⌝ }
 {
     let i = c as usize;
@@ -106,8 +107,8 @@ fn with_value(w: Waiting, c: u8) -> Waiting
 }
 
 // Puts a value after those that its list has.
-fn store(lists: &mut [f64; 576], seen: Seen, c: u8, x: f64) -> usize
-    requires { ⌜ (c < 5) × (countOf seen c < getD capacities c 0) ⌝ }
+fn store(lists: &mut [f64; PLACES], seen: Seen, c: u8, x: f64) -> usize
+    requires { ⌜ (c < length capacities) × (countOf seen c < getD capacities c 0) ⌝ }
     ensures { λ r. ⌜ now (lists .exit) ≡ stored (now (lists .entry)) seen c x ⌝ }
 {
     let i = c as usize;
@@ -125,23 +126,23 @@ struct Took {
 }
 
 // Adds the record at a place to what waits, where it is small.
-fn add(w: Waiting, lists: &mut [f64; 576], at: usize, n: usize, x: Record) -> Took
+fn add(w: Waiting, lists: &mut [f64; PLACES], at: usize, n: usize, x: Record) -> Took
     requires { ⌜ at + n + 1 < 2 ^ 64 ⌝ }
     requires { ⌜ Room (w .seen) x ⌝ }
     ensures { λ r. ⌜ Added w (now (lists .entry)) at n x r (now (lists .exit)) ⌝ }
 {
     let seen = w.seen;
-    let e = at + n + 1;
+    let end = at + n + 1;
     match x {
         Record::Ack(a) => Took {
             waiting: crate::waiting::with_ack(w, a),
-            at: e,
+            at: end,
             look: Look::Waits,
             more: true,
         },
         Record::Head(h) => Took {
             waiting: crate::waiting::with_head(w, h),
-            at: e,
+            at: end,
             look: Look::Waits,
             more: true,
         },
@@ -149,7 +150,7 @@ fn add(w: Waiting, lists: &mut [f64; 576], at: usize, n: usize, x: Record) -> To
             store(lists, seen, c, v);
             Took {
                 waiting: with_value(w, c),
-                at: e,
+                at: end,
                 look: Look::Waits,
                 more: true,
             }
@@ -163,7 +164,7 @@ fn add(w: Waiting, lists: &mut [f64; 576], at: usize, n: usize, x: Record) -> To
     }
 }
 
-fn take_one(w: Waiting, lists: &mut [f64; 576], s: &[u8], at: usize) -> Took
+fn take_one(w: Waiting, lists: &mut [f64; PLACES], s: &[u8], at: usize) -> Took
     ensures { λ r. ⌜ TookOne w (now (lists .entry)) (now (s .entry)) at r (now (lists .exit)) ⌝ }
 {
     let seen = w.seen;
@@ -180,22 +181,22 @@ fn take_one(w: Waiting, lists: &mut [f64; 576], s: &[u8], at: usize) -> Took
 }
 
 // Takes all small records from a place on.
-fn collect(w: Waiting, lists: &mut [f64; 576], s: &[u8], at: usize) -> Took
+fn collect(w: Waiting, lists: &mut [f64; PLACES], s: &[u8], at: usize) -> Took
     requires { ⌜ at ≤ length (now s) ⌝ }
     ensures { λ r. ⌜ Collected w (now (lists .entry)) (now (s .entry)) at r (now (lists .exit)) ⌝ }
 {
-    let mut t = Took {
+    let mut took = Took {
         waiting: w,
         at,
         look: Look::Waits,
         more: true,
     };
-    while t.more {
-        let next = t.waiting;
-        let i = t.at;
-        t = take_one(next, lists, s, i);
+    while took.more {
+        let next = took.waiting;
+        let i = took.at;
+        took = take_one(next, lists, s, i);
     }
-    t
+    took
 }
 
 // ---- records that instruct
@@ -208,20 +209,20 @@ struct Stretch {
 }
 
 // A record that is not small.
-fn instruct(rd: Reader, lists: &[f64; 576], s: &[u8], at: usize, n: usize, x: Record) -> Stretch
+fn instruct(rd: Reader, lists: &[f64; PLACES], s: &[u8], at: usize, n: usize, x: Record) -> Stretch
     requires { ⌜ at + n < length (now s) ⌝ }
     requires { ⌜ isSmall x ≡ false ⌝ }
     ensures { λ r. ⌜ Instructs rd (now (lists .entry)) (now (s .entry)) at n x r ⌝ }
 {
-    let w = rd.waiting;
+    let waiting = rd.waiting;
     match x {
         Record::Outcome => {
-            let a = at + 1;
-            let e = a + n;
-            let o = journal_records::long::read_outcome(&s[a..e]);
+            let from = at + 1;
+            let end = from + n;
+            let outcome = journal_records::long::read_outcome(&s[from..end]);
             Stretch {
-                reader: crate::waiting::with_outcome(rd, o),
-                at: e,
+                reader: crate::waiting::with_outcome(rd, outcome),
+                at: end,
                 what: What::Waits,
                 more: true,
             }
@@ -241,7 +242,7 @@ fn instruct(rd: Reader, lists: &[f64; 576], s: &[u8], at: usize, n: usize, x: Re
         Record::Tick(t) => Stretch {
             reader: rd,
             at,
-            what: What::Ticks(crate::waiting::input_of(w, t)),
+            what: What::Ticks(crate::waiting::input_of(waiting, t)),
             more: false,
         },
         Record::Ack(_) | Record::Head(_) | Record::Value(_, _) => Stretch {
@@ -254,54 +255,55 @@ fn instruct(rd: Reader, lists: &[f64; 576], s: &[u8], at: usize, n: usize, x: Re
 }
 
 // All small records from a place on, and the one after them.
-fn take_stretch(rd: Reader, lists: &mut [f64; 576], s: &[u8], at: usize) -> Stretch
+fn take_stretch(rd: Reader, lists: &mut [f64; PLACES], s: &[u8], at: usize) -> Stretch
     requires { ⌜ at ≤ length (now s) ⌝ }
     ensures { λ r. ⌜ TookStretch (record { reader = rd; lists = now (lists .entry) }) (now (s .entry)) at r (now (lists .exit)) ⌝ }
 {
     let w = rd.waiting;
     let outcome = rd.outcome;
-    let t = collect(w, lists, s, at);
-    let waiting = t.waiting;
-    let i = t.at;
-    let look = t.look;
+    let took = collect(w, lists, s, at);
+    let waiting = took.waiting;
+    let next = took.at;
+    let look = took.look;
     let reader = Reader { waiting, outcome };
     match look {
-        Look::Found(x, n) => instruct(reader, lists, s, i, n, x),
+        Look::Found(x, n) => instruct(reader, lists, s, next, n, x),
         Look::Waits => Stretch {
             reader,
-            at: i,
+            at: next,
             what: What::Waits,
             more: false,
         },
         Look::Refuses(r) => Stretch {
             reader,
-            at: i,
+            at: next,
             what: What::Refuses(r),
             more: false,
         },
     }
 }
 
-// Takes all records up to the next that instructs the fuse, that is refused or that is not there whole, and says what comes there.
-pub fn read(rd: Reader, lists: &mut [f64; 576], s: &[u8]) -> Progress
+// Takes all records up to the next that instructs the fuse, that is refused or that is not
+// there whole, and says what comes there.
+pub fn read(rd: Reader, lists: &mut [f64; PLACES], s: &[u8]) -> Progress
     ensures { λ r. ⌜ (r ≡ readOf (record { reader = rd; lists = now (lists .entry) }) (now (s .entry))) × (now (lists .exit) ≡ listsRead (record { reader = rd; lists = now (lists .entry) }) (now (s .entry))) ⌝ }
 {
-    let mut t = Stretch {
+    let mut stretch = Stretch {
         reader: rd,
         at: 0,
         what: What::Waits,
         more: true,
     };
-    while t.more {
-        let next = t.reader;
-        let i = t.at;
-        t = take_stretch(next, lists, s, i);
+    while stretch.more {
+        let next = stretch.reader;
+        let i = stretch.at;
+        stretch = take_stretch(next, lists, s, i);
     }
-    let reader = t.reader;
-    let what = t.what;
+    let reader = stretch.reader;
+    let what = stretch.what;
     Progress {
         reader,
-        used: t.at,
+        used: stretch.at,
         what,
     }
 }

@@ -1,4 +1,5 @@
-// What waits for a tick: the records of a journal that were collected since the last tick or reset; and whether its settings came.
+// What waits for a tick: the records that were collected since the last tick or reset;
+// and whether the settings came.
 ghost use mathlib.Core.Bool.{cond};
 ghost use mathlib.Core.Path.{_≡_};
 ghost use lib.ListN.{getD};
@@ -6,7 +7,14 @@ ghost use Rattle.lictor_core.specs.declared.ack.MaybeAck.the-variants as MaybeA
 ghost use Rattle.lictor_core.specs.declared.chunk.MaybeChunk.the-variants as MaybeChunk;
 ghost use Rattle.journal_reader.specs.State.{bases, ackWaits, headWaits, outcomeWaits, settingsCame, emptied as State·emptied, startReader, inputOf};
 use journal_records::TickNumbers;
+use journal_refusals::AUX;
+use journal_refusals::CHUNK_ROOM;
+use journal_refusals::EXT;
+use journal_refusals::LIST_ROOM;
+use journal_refusals::LISTS;
+use journal_refusals::POS;
 use journal_refusals::Seen;
+use journal_refusals::VEL;
 use lictor_core::ack::AckDecision;
 use lictor_core::ack::MaybeAck;
 use lictor_core::ack::VerifiedAck;
@@ -29,15 +37,26 @@ pub struct Reader {
     pub outcome: Outcome,
 }
 
-// Where a list begins in the lent memory, 0 for one that is not listed.
+// Where the lists begin in the lent memory, one after the other, and how many places they have.
+const POS_BASE: usize = CHUNK_ROOM;
+
+const VEL_BASE: usize = POS_BASE + LIST_ROOM;
+
+const AUX_BASE: usize = VEL_BASE + LIST_ROOM;
+
+const EXT_BASE: usize = AUX_BASE + LIST_ROOM;
+
+pub const PLACES: usize = EXT_BASE + LIST_ROOM;
+
+// Where a list begins, 0 for the chunk's and for one that is not listed.
 pub fn base(c: usize) -> usize
     ensures { λ r. ⌜ r ≡ getD bases c 0 ⌝ }
 {
     match c {
-        1 => 512,
-        2 => 528,
-        3 => 544,
-        4 => 560,
+        POS => POS_BASE,
+        VEL => VEL_BASE,
+        AUX => AUX_BASE,
+        EXT => EXT_BASE,
         _ => 0,
     }
 }
@@ -132,7 +151,7 @@ pub fn emptied(rd: Reader) -> Reader
     seen.ack = false;
     seen.head = false;
     seen.outcome = false;
-    seen.counts = [0; 5];
+    seen.counts = [0; LISTS];
     waiting.seen = seen;
     let outcome = rd.outcome;
     Reader { waiting, outcome }
@@ -147,7 +166,7 @@ pub fn start() -> Reader
         ack: false,
         head: false,
         outcome: false,
-        counts: [0; 5],
+        counts: [0; LISTS],
     };
     let decision = AckDecision::Resume;
     let ack = VerifiedAck {

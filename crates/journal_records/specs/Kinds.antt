@@ -1,8 +1,9 @@
--- The framing of a journal (01-scope.md, Journal): the kind byte tells how long the body after it is. Which kinds there are, and how long their bodies, is a list
--- that everything above takes as a parameter: the lengths of the bodies of kinds 1, 2, 3 and so on.
+-- The framing of a journal (01-scope.md, Journal): the kind byte tells how long the body after it
+-- is. Which kinds there are is a list that everything above takes as a parameter: the lengths of
+-- the bodies of kinds 1, 2, 3 and so on.
 use mathlib.Core.Bool.{Bool, _&&_}
 use mathlib.Core.List.{List, [], _∷_}
-use Prim.Native.Nat.{ℕ, _-_}
+use Prim.Native.Nat.{ℕ}
 use lib.Dec.{ltb, leb}
 use lib.ListN.{length, getD}
 

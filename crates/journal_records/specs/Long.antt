@@ -1,20 +1,14 @@
--- What the bodies of the two long records hold, settings and outcome, field by field in the order of 01-scope.md, Journal. Each reader is there for any list of bytes (a byte past the end is 0).
-use mathlib.Core.Bool.{Bool}
+-- What the bodies of settings and outcome hold, in the order of 01-scope.md, Journal.
 use mathlib.Core.List.{List}
 use Prim.Native.Nat.{ℕ}
-use lib.Dec.{eqb}
-use Rattle.journal_records.specs.Little.{byteAt, leAt, floatAt, floatsAt}
+use Rattle.journal_records.specs.Little.{byteAt, leAt, floatAt, floatsAt, flag}
 use Rattle.lictor_core.specs.declared.envelope.Hysteresis.{Hysteresis}
 use Rattle.lictor_core.specs.declared.envelope.Calibration.{Calibration}
 use Rattle.lictor_core.specs.declared.envelope.Settings.{Settings}
 use Rattle.lictor_core.specs.declared.scores.Scores.{Scores}
 use Rattle.lictor_core.specs.declared.outcome.Outcome.{Outcome}
 
--- a flag is 0 or 1; any other number is refused before
-abbrev pub flag : ℕ → Bool
-flag n = eqb n 1
-
--- kind 1 has its limits in several places of its 220 bytes
+-- settings have their limits in several places of their 220 bytes
 unfoldable pub limitsOf : List ℕ → Hysteresis
 limitsOf b = record {
   k = byteAt b 6;
@@ -35,7 +29,8 @@ limitsOf b = record {
 unfoldable pub calibrationOf : List ℕ → Calibration
 calibrationOf b = record { mask = leAt b 32 4; tau = floatAt b 84 }
 
--- kind 1: 12 single bytes (0 to 11), six 16-bit numbers (12 to 23), three of 32 bits (24 to 35), one of 64 (36 to 43), and 22 floats (44 to 219)
+-- settings: 12 single bytes (0 to 11), six numbers of 16 bits (12 to 23), three of 32 (24 to 35),
+-- one of 64 (36 to 43) and 22 floats (44 to 219)
 unfoldable pub settingsOf : List ℕ → Settings
 settingsOf b = record {
   mode = byteAt b 0;
@@ -60,7 +55,8 @@ settingsOf b = record {
 unfoldable pub scoresIn : List ℕ → Scores
 scoresIn b = record { z = floatsAt b 33 12; s = floatAt b 17; valid = leAt b 25 4; fired = leAt b 29 4 }
 
--- kind 6: trips, clamped_dims, feasible flag, margin, s, valid, fired, z (12), policy row (8), clamped row (8)
+-- outcome: trips, clamped_dims, feasible flag, margin, s, valid, fired, z (12), policy row (8),
+-- clamped row (8)
 unfoldable pub outcomeOf : List ℕ → Outcome
 outcomeOf b = record {
   trips = leAt b 0 4;

@@ -1,16 +1,17 @@
-// The records of a journal: how long a body is by its kind, and what it holds. Each reader takes the body alone, a part of the journal's bytes.
-pub mod little;
-pub mod long;
+// The records of a journal by kind: how long a body is, and what it holds.
+// Each reader takes the body alone, a part of the journal's bytes.
+pub mod little; // little-endian numbers
+pub mod long; // the two long records, settings and outcome
 
 ghost use mathlib.Core.Path.{_≡_};
 ghost use Rattle.journal_records.specs.Kinds.{journalKinds, isKnown, bodyLen};
 ghost use Rattle.journal_records.specs.Body.{ackOf, headOf, tickNumbers, decodeOf};
 use crate::little::byte;
 use crate::little::f64_at;
+use crate::little::flag_set;
 use crate::little::le16;
 use crate::little::le32;
 use crate::little::le64;
-use crate::long::set;
 use lictor_core::ack::VerifiedAck;
 use lictor_core::chunk::ChunkHead;
 use lictor_core::state::Time;
@@ -24,7 +25,7 @@ pub struct TickNumbers {
     pub has_vel: bool,
 }
 
-// A decoded record. Settings and outcome hold arrays, and are beside it: `read_settings`, `read_outcome` in the crate journal_records::long.
+// A decoded record. Settings and outcome hold arrays, so `long` reads them apart.
 pub enum Record {
     Settings,
     Reset,
@@ -35,8 +36,22 @@ pub enum Record {
     Tick(TickNumbers),
 }
 
-// Kinds are numbered from 1 to this one.
-const KINDS: u8 = 7;
+// The kinds, numbered from 1 to KINDS.
+pub const SETTINGS: u8 = 1;
+
+pub const RESET: u8 = 2;
+
+pub const ACK: u8 = 3;
+
+pub const HEAD: u8 = 4;
+
+pub const VALUE: u8 = 5;
+
+pub const OUTCOME: u8 = 6;
+
+pub const TICK: u8 = 7;
+
+const KINDS: u8 = TICK;
 
 // Whether a kind is listed.
 pub fn is_known(k: u8) -> bool
@@ -50,17 +65,17 @@ pub fn body_len(k: u8) -> usize
     ensures { λ r. ⌜ r ≡ bodyLen journalKinds k ⌝ }
 {
     match k {
-        1 => 220,
-        3 => 14,
-        4 => 14,
-        5 => 9,
-        6 => 257,
-        7 => 9,
+        SETTINGS => 220,
+        ACK => 14,
+        HEAD => 14,
+        VALUE => 9,
+        OUTCOME => 257,
+        TICK => 9,
         _ => 0,
     }
 }
 
-// Kind 3.
+// The body of an ACK.
 fn read_ack(b: &[u8]) -> VerifiedAck
     ensures { λ r. ⌜ r ≡ ackOf (now (b .entry)) ⌝ }
 {
@@ -73,7 +88,7 @@ fn read_ack(b: &[u8]) -> VerifiedAck
     }
 }
 
-// Kind 4.
+// The body of a HEAD.
 fn read_head(b: &[u8]) -> ChunkHead
     ensures { λ r. ⌜ r ≡ headOf (now (b .entry)) ⌝ }
 {
@@ -86,7 +101,7 @@ fn read_head(b: &[u8]) -> ChunkHead
     }
 }
 
-// Kind 7.
+// The body of a TICK.
 fn read_tick(b: &[u8]) -> TickNumbers
     ensures { λ r. ⌜ r ≡ tickNumbers (now (b .entry)) ⌝ }
 {
@@ -94,8 +109,8 @@ fn read_tick(b: &[u8]) -> TickNumbers
         t: le32(b, 0),
         idx: le16(b, 4),
         missed_ticks: byte(b, 6),
-        schema_fault: set(byte(b, 7)),
-        has_vel: set(byte(b, 8)),
+        schema_fault: flag_set(byte(b, 7)),
+        has_vel: flag_set(byte(b, 8)),
     }
 }
 
@@ -104,12 +119,12 @@ pub fn decode(k: u8, b: &[u8]) -> Record
     ensures { λ r. ⌜ r ≡ decodeOf k (now (b .entry)) ⌝ }
 {
     match k {
-        1 => Record::Settings,
-        2 => Record::Reset,
-        3 => Record::Ack(read_ack(b)),
-        4 => Record::Head(read_head(b)),
-        5 => Record::Value(byte(b, 0), f64_at(b, 1)),
-        6 => Record::Outcome,
+        SETTINGS => Record::Settings,
+        RESET => Record::Reset,
+        ACK => Record::Ack(read_ack(b)),
+        HEAD => Record::Head(read_head(b)),
+        VALUE => Record::Value(byte(b, 0), f64_at(b, 1)),
+        OUTCOME => Record::Outcome,
         _ => Record::Tick(read_tick(b)),
     }
 }

@@ -1,8 +1,9 @@
-// Numbers in little-endian order, at any place of a slice of bytes. A byte past the end of the slice counts as 0.
+// Numbers in little-endian order, at any place of a slice of bytes.
+// A byte past the end of the slice counts as 0.
 ghost use mathlib.Core.Path.{_≡_};
 ghost use Prim.Native.Nat.{_+_, _<_, _≤_};
 ghost use lib.ListN.{length};
-ghost use Rattle.journal_records.specs.Little.{byteAt, leAt, floatAt};
+ghost use Rattle.journal_records.specs.Little.{byteAt, leAt, floatAt, flag};
 
 fn wide(x: u8) -> u64
     ensures { λ r. ⌜ (r ≡ x) × (r < 256) ⌝ }
@@ -15,6 +16,13 @@ pub fn byte(s: &[u8], at: usize) -> u8
     ensures { λ r. ⌜ r ≡ byteAt (now (s .entry)) at ⌝ }
 {
     if at < s.len() { s[at] } else { 0 }
+}
+
+// Whether a flag is set.
+pub fn flag_set(n: u8) -> bool
+    ensures { λ r. ⌜ r ≡ flag n ⌝ }
+{
+    n == 1
 }
 
 // The n bytes from place at on, which are all there.

@@ -1,24 +1,18 @@
-// The two long records of a journal, settings and outcome: what their bodies hold. Each reader takes the body alone, a part of the journal's bytes.
+// The two long records of a journal, settings and outcome: what their bodies hold.
 ghost use mathlib.Core.Path.{_≡_};
 ghost use Prim.Native.Nat.{_≤_};
 ghost use lib.ListN.{length};
 ghost use Rattle.journal_records.specs.Little.{floatsAt};
-ghost use Rattle.journal_records.specs.Long.{flag, limitsOf, calibrationOf, settingsOf, scoresIn, outcomeOf};
+ghost use Rattle.journal_records.specs.Long.{limitsOf, calibrationOf, settingsOf, scoresIn, outcomeOf};
 use crate::little::byte;
 use crate::little::f64_at;
+use crate::little::flag_set;
 use crate::little::le16;
 use crate::little::le32;
 use crate::little::le64;
 use lictor_core::envelope::Calibration;
 use lictor_core::envelope::Hysteresis;
 use lictor_core::scores::Scores;
-
-// Whether a flag is set.
-pub fn set(n: u8) -> bool
-    ensures { λ r. ⌜ r ≡ flag n ⌝ }
-{
-    n == 1
-}
 
 // Floats from a place on, as many as there is room for.
 fn fill(b: &[u8], at: usize, out: &mut [f64])
@@ -70,7 +64,7 @@ fn read_calibration(b: &[u8]) -> Calibration
     }
 }
 
-// The settings, kind 1.
+// The body of SETTINGS.
 pub fn read_settings(b: &[u8]) -> lictor_core::envelope::Settings
     ensures { λ r. ⌜ r ≡ settingsOf (now (b .entry)) ⌝ }
 {
@@ -112,7 +106,7 @@ fn read_scores(b: &[u8]) -> Scores
     }
 }
 
-// The outcome, kind 6.
+// The body of an OUTCOME.
 pub fn read_outcome(b: &[u8]) -> lictor_core::outcome::Outcome
     ensures { λ r. ⌜ r ≡ outcomeOf (now (b .entry)) ⌝ }
 {
@@ -122,7 +116,7 @@ pub fn read_outcome(b: &[u8]) -> lictor_core::outcome::Outcome
     lictor_core::outcome::Outcome {
         trips: le32(b, 0),
         clamped_dims: le32(b, 4),
-        feasible: set(byte(b, 8)),
+        feasible: flag_set(byte(b, 8)),
         margin: f64_at(b, 9),
         scores,
         policy,

@@ -6,6 +6,7 @@ use Prim.Native.Nat.{ℕ, _≤_}
 use native.Mathlib.Omega.{arith}
 use Rattle.lictor_core.specs.FirstThat.{firstThat}
 use Rattle.lictor_core.proofs.FirstThat.{first-is}
+use Rattle.stream.proofs.Stream.{impossible}
 use Rattle.journal_refusals.specs.declared.Seen.{Seen}
 use Rattle.journal_refusals.specs.declared.Refusal.{Refusal}
 use Rattle.journal_refusals.specs.declared.Refusal.the-variants.{UnknownKind, CutBody, BeforeSettings, Again, BadCode, BadSize, NotFinite, BoxCrossed, ListFull, NotReady}
@@ -25,7 +26,7 @@ module _ (seen : Seen) (k : ℕ) (b : List ℕ) where
   -- refused for r: the first row that applies answers r
   pub refused-so : (t : List Row) (r : Refusal) → firstRow t seen k b ≡ Refused r → Decides seen k b t r
   unfolding firstThat
-  refused-so [] r e = absurd (let z : _≡_ {A = ℕ} 0 1 = cc in omega arith)
+  refused-so [] r e = impossible cc
   refused-so (w ∷ ws) r e = decides-by w ws r (refused-so ws r) (w .cause seen k b) refl e
 
   -- and the other way round
@@ -35,7 +36,7 @@ module _ (seen : Seen) (k : ℕ) (b : List ℕ) where
 
   passes-by : (w : Row) (ws : List Row) → (firstRow ws seen k b ≡ Accepted → Passes seen k b ws) → (t : Bool) → w .cause seen k b ≡ t
       → firstRow (w ∷ ws) seen k b ≡ Accepted → Passes seen k b (w ∷ ws)
-  passes-by w ws ih true c e = absurd (let z : _≡_ {A = ℕ} 0 1 = cc (first w ws true c) in omega arith)
+  passes-by w ws ih true c e = impossible (cc (first w ws true c))
   passes-by w ws ih false c e = not-this-row c (ih (sym (first w ws false c) ∙ e))
 
   -- accepted: no row applies
@@ -63,13 +64,13 @@ numbers NotReady = (omega arith, omega arith)
 
 -- only the cut body can be undone by more bytes
 pub cut-only : (r : Refusal) → isCutBody r ≡ true → r ≡ CutBody
-cut-only UnknownKind e = absurd (let z : _≡_ {A = ℕ} 0 1 = cc in omega arith)
+cut-only UnknownKind e = impossible cc
 cut-only CutBody e = refl
-cut-only BeforeSettings e = absurd (let z : _≡_ {A = ℕ} 0 1 = cc in omega arith)
-cut-only Again e = absurd (let z : _≡_ {A = ℕ} 0 1 = cc in omega arith)
-cut-only BadCode e = absurd (let z : _≡_ {A = ℕ} 0 1 = cc in omega arith)
-cut-only BadSize e = absurd (let z : _≡_ {A = ℕ} 0 1 = cc in omega arith)
-cut-only NotFinite e = absurd (let z : _≡_ {A = ℕ} 0 1 = cc in omega arith)
-cut-only BoxCrossed e = absurd (let z : _≡_ {A = ℕ} 0 1 = cc in omega arith)
-cut-only ListFull e = absurd (let z : _≡_ {A = ℕ} 0 1 = cc in omega arith)
-cut-only NotReady e = absurd (let z : _≡_ {A = ℕ} 0 1 = cc in omega arith)
+cut-only BeforeSettings e = impossible cc
+cut-only Again e = impossible cc
+cut-only BadCode e = impossible cc
+cut-only BadSize e = impossible cc
+cut-only NotFinite e = impossible cc
+cut-only BoxCrossed e = impossible cc
+cut-only ListFull e = impossible cc
+cut-only NotReady e = impossible cc

@@ -4,12 +4,12 @@ use mathlib.Core.Bool.{Bool, true, false, not, _&&_}
 use mathlib.Core.List.{List, [], _∷_}
 use mathlib.Core.Path.{_≡_, refl, sym, ap, _∙_}
 use Prim.Native.Nat.{ℕ, zero, suc, _≤_, _<_}
-use native.Mathlib.Omega.{arith}
 use borrow.Author.Tests.{ltb-false, leb-false, not-true}
 use lib.ListN.{length, getD, drop}
 use Rattle.journal_records.specs.Little.{byteAt}
 use Rattle.journal_records.specs.Kinds.{bodyLen, journalKinds}
 use Rattle.lictor_core.specs.FirstThat.{firstThat}
+use Rattle.stream.proofs.Stream.{impossible}
 use Rattle.journal_refusals.specs.declared.Seen.{Seen}
 use Rattle.journal_refusals.specs.declared.Refusal.{Refusal}
 use Rattle.journal_refusals.specs.declared.Refusal.the-variants.{UnknownKind, CutBody}
@@ -25,7 +25,7 @@ and-left false y e = e
 
 and-right : (x y : Bool) → (x && y) ≡ true → y ≡ true
 and-right true y e = e
-and-right false y e = absurd (let z : _≡_ {A = ℕ} 0 1 = cc in omega arith)
+and-right false y e = impossible cc
 
 module _ (seen : Seen) (k : ℕ) (b : List ℕ) where
   pub judged-unknown : (kinds : List ℕ) → unknownKind kinds seen k b ≡ true → judgedOf kinds seen k b ≡ Refused UnknownKind
@@ -53,7 +53,7 @@ module _ (seen : Seen) (k : ℕ) (b : List ℕ) where
   -- so does what the first of them answers
   answered : (p : Refusal → Bool) (t : List Row) (r : Refusal) → answers p t ≡ true → firstRow t seen k b ≡ Refused r → p r ≡ true
   unfolding firstThat
-  answered p [] r a e = absurd (let z : _≡_ {A = ℕ} 0 1 = cc in omega arith)
+  answered p [] r a e = impossible cc
   answered p (w ∷ ws) r a e = answers-by p w ws r (answered p ws r) (w .cause seen k b) refl a e
 
   not-cut-by : (kinds : List ℕ) (r : Refusal) (t : Bool) → unknownKind kinds seen k b ≡ t → bodyCut kinds seen k b ≡ false → judgedOf kinds seen k b ≡ Refused r → not (isCutBody r) ≡ true

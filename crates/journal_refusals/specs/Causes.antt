@@ -1,5 +1,6 @@
--- The causes that refuse a record (01-scope.md, Journal, the table). A cause looks at what has been seen, at the record's kind and at its body as far as it came, and at
--- nothing else: at no run state, at no value of a list (at their counts only) and at no byte after the record.
+-- The causes that refuse a record (01-scope.md, Journal, the table). A cause looks at what has been
+-- seen, at the record's kind and at its body as far as it came, and at nothing else: at no run
+-- state, at no value of a list (at their counts only) and at no byte after the record.
 use mathlib.Core.Bool.{Bool, false, cond, not, _&&_, _||_}
 use mathlib.Core.List.{List, [], _∷_}
 use Prim.Native.Nat.{ℕ}
@@ -11,15 +12,31 @@ use Rattle.journal_records.specs.Kinds.{isKnown, bodyLen, settingsKind, ackKind
 use Rattle.journal_records.specs.Long.{settingsOf}
 use Rattle.journal_refusals.specs.declared.Seen.{Seen}
 
--- the lists of values by their codes: chunk, pos, vel, aux, ext; how many values each can hold
-abbrev pub capacities : List ℕ
-capacities = 512 ∷ 16 ∷ 16 ∷ 16 ∷ 16 ∷ []
-
+-- the lists of values, by their codes
 abbrev pub chunkList : ℕ
 chunkList = 0
 
+abbrev pub posList : ℕ
+posList = 1
+
 abbrev pub velList : ℕ
 velList = 2
+
+abbrev pub auxList : ℕ
+auxList = 3
+
+abbrev pub extList : ℕ
+extList = 4
+
+-- how many values the chunk's list can hold, and each of the others
+abbrev pub chunkRoom : ℕ
+chunkRoom = 512
+
+abbrev pub listRoom : ℕ
+listRoom = 16
+
+abbrev pub capacities : List ℕ
+capacities = chunkRoom ∷ listRoom ∷ listRoom ∷ listRoom ∷ listRoom ∷ []
 
 -- how many values of list c wait
 abbrev pub countOf : Seen → ℕ → ℕ
@@ -29,11 +46,11 @@ countOf seen c = getD (seen .counts) c 0
 abbrev pub notBelow : ℕ → ℕ → Bool
 notBelow count n = leb count n
 
--- kind not listed
+-- row 1: a kind that is not listed
 unfoldable pub unknownKind : List ℕ → Seen → ℕ → List ℕ → Bool
 unknownKind kinds seen k b = not (isKnown kinds k)
 
--- body cut by the end
+-- row 2: a body that the end cuts
 unfoldable pub bodyCut : List ℕ → Seen → ℕ → List ℕ → Bool
 bodyCut kinds seen k b = ltb (length b) (bodyLen kinds k)
 
@@ -50,7 +67,8 @@ again seen k b =
     (cond (eqb k outcomeKind) (seen .outcome)
     false)))
 
--- a code or flag not listed: those of the settings, the decision, the list, the feasible flag, the schema and the velocity flag
+-- row 5: a code or flag that is not listed: those of the settings, the decision, the list, the
+-- feasible flag, the schema and the velocity flag
 unfoldable pub codeNotListed : Seen → ℕ → List ℕ → Bool
 codeNotListed seen k b =
     cond (eqb k settingsKind) (badCode (settingsOf b))
@@ -76,7 +94,8 @@ boxCrossed seen k b = cond (eqb k settingsKind) (badBox (settingsOf b)) false
 unfoldable pub listFull : Seen → ℕ → List ℕ → Bool
 listFull seen k b = cond (eqb k valueKind) (leb (getD capacities (byteAt b 0) 0) (countOf seen (byteAt b 0))) false
 
--- row 10, of a tick: no outcome waits for it, or values wait that it cannot take (a chunk's with no head, a velocity's with its flag off)
+-- row 10, of a tick: no outcome waits for it, or values wait that it cannot take (a chunk's with no
+-- head, a velocity's with its flag off)
 unfoldable pub notReady : Seen → ℕ → List ℕ → Bool
 notReady seen k b =
     cond (eqb k tickKind)

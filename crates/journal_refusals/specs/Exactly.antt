@@ -1,5 +1,6 @@
--- What the table says, row by row: a record is refused for r exactly where the first row that applies answers r, and accepted exactly where none applies.
--- (00-demands.md, Demand 1; 01-scope.md, Journal, the table and its order.) Proved in proofs/Exactly.
+-- What the table says, row by row: a record is refused for r exactly where the first row that
+-- applies answers r, and accepted exactly where none applies. (00-demands.md, Demand 1;
+-- 01-scope.md, Journal, the table and its order.) Proved in proofs/Exactly.
 use mathlib.Core.Bool.{true, false}
 use mathlib.Core.List.{List, [], _∷_}
 use mathlib.Core.Path.{_≡_}

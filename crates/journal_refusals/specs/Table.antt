@@ -1,4 +1,5 @@
--- The refusal table: ten rows in the order of 01-scope.md, Journal; the first row that applies decides.
+-- The refusal table: ten rows in the order of 01-scope.md, Journal; the first row that applies
+-- decides.
 use mathlib.Core.Bool.{Bool}
 use mathlib.Core.List.{List, [], _∷_}
 use Prim.Native.Nat.{ℕ}
@@ -58,6 +59,7 @@ firstRow ws seen k b = firstThat (λ w. w .cause seen k b) (λ w. Refused (w .an
 unfoldable pub judgedOf : List ℕ → Seen → ℕ → List ℕ → Judged
 judgedOf kinds seen k b = firstRow (refusalTable kinds) seen k b
 
--- the same by the rows about what a body holds, those below the fourth: of a known kind, whole, and in its order
+-- the same by the rows about what a body holds, those below the fourth: of a known kind, whole, and
+-- in its order
 unfoldable pub contentsOf : Seen → ℕ → List ℕ → Judged
 contentsOf seen k b = firstRow (drop 4 (refusalTable journalKinds)) seen k b

@@ -1,15 +1,39 @@
-// Whether a record of a journal is refused, and why: the ten causes in the order of the table. It is judged by its kind, its body and what has been seen before it;
-// the run state has no part in it.
+// Whether a record of a journal is refused, and why: the ten causes in the order of the table.
+// It is judged by its kind, its body and what has been seen before it, never by the run state.
 ghost use mathlib.Core.Bool.{not, _&&_};
 ghost use mathlib.Core.Path.{_≡_};
 ghost use lib.Dec.{eqb, ltb};
 ghost use lib.ListN.{getD};
 ghost use Rattle.journal_records.specs.Little.{byteAt};
-ghost use Rattle.journal_records.specs.Kinds.{journalKinds};
+ghost use Rattle.journal_records.specs.Kinds.{journalKinds, settingsKind, ackKind, valueKind, outcomeKind, tickKind};
 ghost use Rattle.journal_refusals.specs.Causes.{capacities, unknownKind, bodyCut, beforeSettings, notBelow, again as Causes·again, listFull, notReady};
 ghost use Rattle.journal_refusals.specs.Table.{numberOf, judgedOf, contentsOf};
+use journal_records::ACK;
+use journal_records::HEAD;
+use journal_records::OUTCOME;
+use journal_records::SETTINGS;
+use journal_records::TICK;
+use journal_records::VALUE;
 use journal_records::little::byte;
 use lictor_settings::SettingsCheck;
+
+// The lists of values, by their codes.
+pub const CHUNK: usize = 0;
+
+pub const POS: usize = 1;
+
+pub const VEL: usize = 2;
+
+pub const AUX: usize = 3;
+
+pub const EXT: usize = 4;
+
+pub const LISTS: usize = 5;
+
+// How many values the chunk's list can hold, and each of the others.
+pub const CHUNK_ROOM: usize = 512;
+
+pub const LIST_ROOM: usize = 16;
 
 // What has been seen of a journal: whether its settings came, and what waits for a tick.
 pub struct Seen {
@@ -18,7 +42,7 @@ pub struct Seen {
     pub head: bool,
     pub outcome: bool,
     // how many values of each list: chunk, pos, vel, aux, ext
-    pub counts: [usize; 5],
+    pub counts: [usize; LISTS],
 }
 
 // Why a record is refused, in the order in which the causes are looked for.
@@ -44,10 +68,10 @@ pub enum Judged {
 pub fn capacity(c: usize) -> usize
     ensures { λ r. ⌜ r ≡ getD capacities c 0 ⌝ }
 {
-    if c == 0 {
-        return 512;
+    if c == CHUNK {
+        return CHUNK_ROOM;
     }
-    if c < 5 { 16 } else { 0 }
+    if c < LISTS { LIST_ROOM } else { 0 }
 }
 
 // The refusal's number.
@@ -83,7 +107,7 @@ fn is_cut(seen: Seen, k: u8, b: &[u8]) -> bool
 fn is_early(seen: Seen, k: u8, b: &[u8]) -> bool
     ensures { λ r. ⌜ r ≡ beforeSettings seen k (now (b .entry)) ⌝ }
 {
-    if k == 1 {
+    if k == SETTINGS {
         return false;
     }
     !seen.settings
@@ -93,16 +117,16 @@ fn is_again(seen: Seen, k: u8, b: &[u8]) -> bool
     ensures { λ r. ⌜ r ≡ Causes·again seen k (now (b .entry)) ⌝ }
 {
     match k {
-        1 => seen.settings,
-        3 => seen.ack,
-        4 => seen.head,
-        6 => seen.outcome,
+        SETTINGS => seen.settings,
+        ACK => seen.ack,
+        HEAD => seen.head,
+        OUTCOME => seen.outcome,
         _ => false,
     }
 }
 
 fn judge_settings(seen: Seen, b: &[u8]) -> Judged
-    ensures { λ r. ⌜ r ≡ contentsOf seen 1 (now (b .entry)) ⌝ }
+    ensures { λ r. ⌜ r ≡ contentsOf seen settingsKind (now (b .entry)) ⌝ }
 {
     let c = lictor_settings::check(journal_records::long::read_settings(b));
     match c {
@@ -123,7 +147,7 @@ fn is_bad(b: &[u8], at: usize, cases: u8) -> bool
 }
 
 fn judge_ack(seen: Seen, b: &[u8]) -> Judged
-    ensures { λ r. ⌜ r ≡ contentsOf seen 3 (now (b .entry)) ⌝ }
+    ensures { λ r. ⌜ r ≡ contentsOf seen ackKind (now (b .entry)) ⌝ }
 {
     if is_bad(b, 0, 3) {
         return Judged::Refused(Refusal::BadCode);
@@ -132,12 +156,12 @@ fn judge_ack(seen: Seen, b: &[u8]) -> Judged
 }
 
 fn is_full(seen: Seen, b: &[u8]) -> bool
-    ensures { λ r. ⌜ r ≡ listFull seen 5 (now (b .entry)) ⌝ }
+    ensures { λ r. ⌜ r ≡ listFull seen valueKind (now (b .entry)) ⌝ }
 {
     let counts = seen.counts;
     let list = byte(b, 0);
     let i = list as usize;
-    if i < 5 {
+    if i < LISTS {
         capacity(i) <= counts[i]
     } else {
         true
@@ -145,7 +169,7 @@ fn is_full(seen: Seen, b: &[u8]) -> bool
 }
 
 fn judge_value(seen: Seen, b: &[u8]) -> Judged
-    ensures { λ r. ⌜ r ≡ contentsOf seen 5 (now (b .entry)) ⌝ }
+    ensures { λ r. ⌜ r ≡ contentsOf seen valueKind (now (b .entry)) ⌝ }
 {
     if is_bad(b, 0, 5) {
         return Judged::Refused(Refusal::BadCode);
@@ -157,7 +181,7 @@ fn judge_value(seen: Seen, b: &[u8]) -> Judged
 }
 
 fn judge_outcome(seen: Seen, b: &[u8]) -> Judged
-    ensures { λ r. ⌜ r ≡ contentsOf seen 6 (now (b .entry)) ⌝ }
+    ensures { λ r. ⌜ r ≡ contentsOf seen outcomeKind (now (b .entry)) ⌝ }
 {
     if is_bad(b, 8, 2) {
         return Judged::Refused(Refusal::BadCode);
@@ -179,20 +203,20 @@ fn lacks_velocity(vel: usize, b: &[u8]) -> bool
 }
 
 fn is_unready(seen: Seen, b: &[u8]) -> bool
-    ensures { λ r. ⌜ r ≡ notReady seen 7 (now (b .entry)) ⌝ }
+    ensures { λ r. ⌜ r ≡ notReady seen tickKind (now (b .entry)) ⌝ }
 {
     let counts = seen.counts;
     if seen.outcome {
-        if lacks_head(counts[0], seen.head) {
+        if lacks_head(counts[CHUNK], seen.head) {
             return true;
         }
-        return lacks_velocity(counts[2], b);
+        return lacks_velocity(counts[VEL], b);
     }
     true
 }
 
 fn judge_tick(seen: Seen, b: &[u8]) -> Judged
-    ensures { λ r. ⌜ r ≡ contentsOf seen 7 (now (b .entry)) ⌝ }
+    ensures { λ r. ⌜ r ≡ contentsOf seen tickKind (now (b .entry)) ⌝ }
 {
     if is_bad(b, 7, 2) {
         return Judged::Refused(Refusal::BadCode);
@@ -211,11 +235,11 @@ fn judge_contents(seen: Seen, k: u8, b: &[u8]) -> Judged
     ensures { λ r. ⌜ r ≡ contentsOf seen k (now (b .entry)) ⌝ }
 {
     match k {
-        1 => judge_settings(seen, b),
-        3 => judge_ack(seen, b),
-        5 => judge_value(seen, b),
-        6 => judge_outcome(seen, b),
-        7 => judge_tick(seen, b),
+        SETTINGS => judge_settings(seen, b),
+        ACK => judge_ack(seen, b),
+        VALUE => judge_value(seen, b),
+        OUTCOME => judge_outcome(seen, b),
+        TICK => judge_tick(seen, b),
         _ => Judged::Accepted,
     }
 }

@@ -11,11 +11,12 @@ use borrow.Author.Tests.{leb-true, leb-false, le-leb, lt-leb}
 use Rattle.lictor_fuse.specs.declared.decide.Decided.{Decided}
 use Rattle.journal_refusals.specs.declared.Refusal.{Refusal}
 use Rattle.stream.specs.Stream.{Next, wait, halt, go, tell, settled, advanced, takes, size}
-use Rattle.stream.proofs.Stream.{goes, settled-go, advanced-go, advanced-wait, advanced-halt, advanced-tell}
+use Rattle.stream.proofs.Stream.{impossible, goes, settled-go, advanced-go, advanced-wait, advanced-halt, advanced-tell}
 use Rattle.journal.specs.Tick.{Whole}
 use Rattle.journal.specs.Journal.{replayOf}
 use Rattle.journal.proofs.Replay.{replay}
-use Rattle.player.specs.Play.{tickRoom, Playing, full, withText, playOf}
+use Rattle.report.specs.Text.{tickRoom}
+use Rattle.player.specs.Play.{Playing, full, withText, playOf}
 
 played-takes : (code n : ℕ) (x : Next Whole Decided Refusal) → takes (withText code n x) ≡ takes x
 unfolding withText
@@ -51,7 +52,7 @@ module _ (code room : ℕ) where
       (omega (arith, b .0, k), omega (arith, b .1, k))
   there-by p s false h y =
       let z : false ≡ true = ap takes (sym (play-full p s (leb-false (p .n + tickRoom) room h))) ∙ y in
-      absurd (let o : _≡_ {A = ℕ} 0 1 = cc in omega arith)
+      impossible cc
 
   -- a record that is taken is there
   pub play-there : (p : Playing) (s : List ℕ) → takes (playOf code room p s) ≡ true → (0 < size (playOf code room p s)) × (size (playOf code room p s) ≤ length s)

@@ -1,33 +1,33 @@
--- The text of a tick (01-scope.md, Journal, the program `fuse`), and memory with text put into it.
+-- The text of a tick (01-scope.md, Journal, the program `fuse`), and memory with that text.
 use mathlib.Core.Bool.{cond}
 use mathlib.Core.List.{List, [], _++_}
-use mathlib.Core.Path.{_≡_}
-use Prim.Native.Nat.{ℕ, zero, suc, _+_}
+use Prim.Native.Nat.{ℕ, zero, suc, _+_, _*_}
 use lib.Dec.{eqb, leb}
 use lib.ListN.{length, take}
 use lib.Seq.{paste}
 use Rattle.lictor_core.specs.declared.fuse.FuseRt.{FuseRt}
 use Rattle.lictor_core.specs.declared.verdict.SafetyVerdict.{SafetyVerdict}
 use Rattle.report.specs.Lines.{tickText}
-use Rattle.trace_text.specs.Trace.{traceText}
+use Rattle.text.specs.Line.{lineRoom}
+use Rattle.trace_text.specs.Trace.{traceCount, traceText}
 
--- the first k lines of the trace. A line has room for 256 bytes; the longest, twelve floats, has 216.
+-- the first k lines of the trace, none of which is cut: the longest, twelve floats, has 216 bytes
 unfoldable pub traceUpTo : ℕ → SafetyVerdict → FuseRt → List ℕ
 traceUpTo zero v rt = []
-traceUpTo (suc k) v rt = traceUpTo k v rt ++ take 256 (traceText k v rt)
+traceUpTo (suc k) v rt = traceUpTo k v rt ++ take lineRoom (traceText k v rt)
 
--- code 1 is the trace: the tick's line, and its 74 lines after it; any other code is the tick's line alone
+-- code 1 is the trace: the tick's line, and its lines after it; any other is the tick's line alone
 unfoldable pub eventText : ℕ → SafetyVerdict → FuseRt → List ℕ
-eventText code v rt = tickText v ++ cond (eqb code 1) (traceUpTo 74 v rt) []
+eventText code v rt = tickText v ++ cond (eqb code 1) (traceUpTo traceCount v rt) []
 
--- memory `out` with s at place n, up to place r
-pub record Put (out : List ℕ) (n : ℕ) (s : List ℕ) (r : ℕ) (out' : List ℕ) : Type 0 where
-  pub ends : r ≡ n + length s
-  pub memory : out' ≡ paste out n s (length s)
+-- the room that the text of a tick may take: its line, and those of the trace
+abbrev pub tickRoom : ℕ
+tickRoom = (1 + traceCount) * lineRoom
 
--- the same, where the room for a tick is there after place n; nothing, where it is not
+-- where text s ends that is put after place n, and memory with it: where there is room for a tick;
+-- where there is none, nothing is put
 unfoldable pub placeAfter : ℕ → ℕ → List ℕ → ℕ
-placeAfter room n s = cond (leb (n + 19200) room) (n + length s) n
+placeAfter room n s = cond (leb (n + tickRoom) room) (n + length s) n
 
 unfoldable pub memoryAfter : List ℕ → ℕ → List ℕ → List ℕ
-memoryAfter out n s = cond (leb (n + 19200) (length out)) (paste out n s (length s)) out
+memoryAfter out n s = cond (leb (n + tickRoom) (length out)) (paste out n s (length s)) out

@@ -1,21 +1,17 @@
-// The lines that `fuse` prints.
-pub mod render;
+// The lines that `fuse` prints of a margin, of the end and of a refusal.
+pub mod render; // the text of a tick, put into lent memory
 
 ghost use mathlib.Core.Path.{_≡_};
 ghost use Rattle.text.specs.Line.{lineOf, pushOf};
-ghost use Rattle.report.specs.Lines.{marginText, fieldText, tickText, stoppedOf, endText, refusedText};
-use lictor_core::reason::reason_code;
-use lictor_core::state::state_code;
+ghost use Rattle.report.specs.Lines.{marginText, fieldText, stoppedOf, endText, refusedText};
 use lictor_core::tally::Tally;
-use lictor_core::verdict::SafetyVerdict;
-use lictor_core::verdict::source_code;
 use margin::Margin;
-use margin::margin_of;
 use text::Line;
 use text::empty;
 use text::push;
 use text::push_number;
 use text::push_signed;
+use text::wide;
 
 fn push_margin(l: Line, m: Margin) -> Line
     ensures { λ r. ⌜ r ≡ pushOf l (marginText m) ⌝ }
@@ -46,37 +42,6 @@ fn field32(l: Line, x: u32) -> Line
     ensures { λ r. ⌜ r ≡ pushOf l (fieldText x) ⌝ }
 {
     field(l, x as u64)
-}
-
-fn field8(l: Line, x: u8) -> Line
-    ensures { λ r. ⌜ r ≡ pushOf l (fieldText x) ⌝ }
-{
-    field(l, x as u64)
-}
-
-// The line of a tick.
-pub fn tick_line(v: SafetyVerdict) -> Line
-    ensures { λ r. ⌜ r ≡ lineOf (tickText v) ⌝ }
-{
-    let state = v.state;
-    let reason = v.reason;
-    let action_src = v.action_src;
-    let s = state_code(state);
-    let w = reason_code(reason);
-    let src = source_code(action_src);
-    let m = margin_of(v.brake_margin);
-    let a = push(empty(), b"tick");
-    let b = field32(field32(a, v.seq), v.t);
-    let c = field8(field8(b, s), w);
-    let d = field8(field32(c, v.trips), src);
-    let e = push_margin(push(d, b" "), m);
-    push(e, b"\n")
-}
-
-fn wide(x: u32) -> u64
-    ensures { λ r. ⌜ r ≡ x ⌝ }
-{
-    x as u64
 }
 
 // How many ticks ended in one of the five stop states.

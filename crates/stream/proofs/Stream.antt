@@ -8,6 +8,10 @@ use lib.ListN.{length, take, drop, length-append, length-drop}
 use lib.Seq.{drop-append-le, drop-drop, take-add, drop-at, length-take-le}
 use Rattle.stream.specs.Stream.{Next, wait, halt, go, tell, End, awaits, halted, Settled, telling, after, settle, settled, Advanced, past, upTo, advance, advanced, Reached, goesOn, takes, size, Machine, fed, whole}
 
+-- what has no case, from an equation of two constructors
+pub impossible : {X : Type 0} → _≡_ {A = ℕ} 0 1 → X
+impossible z = absurd (omega arith)
+
 with-told : {R E H : Type 0} → Settled R E H → List E → Settled R E H
 with-told a es = record { state = a .state; rest = a .rest; told = es; end = a .end }
 
@@ -93,7 +97,7 @@ module _ {R E H : Type 0} (next : R → List ℕ → Next R E H) (m : Machine ne
       m .stands r (take (size (next r s)) s) t (λ w. not-wait (next r s) y (sym (m .enough r s y) ∙ w)) ∙ m .enough r s y
     where
       not-wait : (x : Next R E H) → takes x ≡ true → x ≡ wait → ⊥
-      not-wait x p q = let z : _≡_ {A = Bool} true false = sym p ∙ ap takes q in let f : _≡_ {A = ℕ} 0 1 = cc in omega arith
+      not-wait x p q = let z : _≡_ {A = Bool} true false = sym p ∙ ap takes q in impossible cc
 
   -- to take in s and then t, after what s left over, is to take in s ++ t
   abbrev Joined : ℕ → R → List ℕ → List ℕ → Type 0
@@ -111,7 +115,7 @@ module _ {R E H : Type 0} (next : R → List ℕ → Next R E H) (m : Machine ne
       let l : length (u ++ t) < f = omega (arith, length-append s t, length-append u t, length-drop n s) in
       let k : length (a .rest ++ t) < f = omega (arith, length-append (a .rest) t, length-append u t, rest-le next (m .there) f r' u) in
       rw (step-is next (m .there) f r s (go r' n) e)
-      (step-is next (m .there) f r (s ++ t) (go r' n) (m .stands r s t (λ w. let z : _≡_ {A = ℕ} 0 1 = cc in omega arith) ∙ e)
+      (step-is next (m .there) f r (s ++ t) (go r' n) (m .stands r s t (λ w. impossible cc) ∙ e)
       ∙ ap (λ (v : List ℕ). settle next f r' v) (drop-append-le n s t (b .1))
       ∙ ih r' u t l
       ∙ ap (telling (a .told)) (fuel next (m .there) f (suc f) (a .state) (a .rest ++ t) k (omega arith)))
@@ -122,7 +126,7 @@ module _ {R E H : Type 0} (next : R → List ℕ → Next R E H) (m : Machine ne
       let l : length (u ++ t) < f = omega (arith, length-append s t, length-append u t, length-drop n s) in
       let k : length (a .rest ++ t) < f = omega (arith, length-append (a .rest) t, length-append u t, rest-le next (m .there) f r' u) in
       rw (step-is next (m .there) f r s (tell r' n v) e)
-      (step-is next (m .there) f r (s ++ t) (tell r' n v) (m .stands r s t (λ w. let z : _≡_ {A = ℕ} 0 1 = cc in omega arith) ∙ e)
+      (step-is next (m .there) f r (s ++ t) (tell r' n v) (m .stands r s t (λ w. impossible cc) ∙ e)
       ∙ ap (λ (w : List ℕ). telling (v ∷ []) (settle next f r' w)) (drop-append-le n s t (b .1))
       ∙ ap (telling (v ∷ [])) (ih r' u t l)
       ∙ telling-telling (v ∷ []) (a .told) (settle next f (a .state) (a .rest ++ t))
@@ -371,7 +375,7 @@ module _ {R E H : Type 0} (next : R → List ℕ → Next R E H) (m : Machine ne
   stops-by : (r : R) (s : List ℕ) (x : Next R E H) → next r s ≡ x → goesOn x ≡ false → advanced next r s ≡ record { state = r; used = 0; next = x }
   stops-by r s wait e g = advanced-wait r s e
   stops-by r s (halt h) e g = advanced-halt r s h e
-  stops-by r s (go r' n) e g = absurd (let z : _≡_ {A = ℕ} 0 1 = cc in omega arith)
+  stops-by r s (go r' n) e g = impossible cc
   stops-by r s (tell r' n t) e g = advanced-tell r s r' n t e
 
   pub reached-end : (r : R) (s : List ℕ) (r' : R) (at : ℕ) → Reached next r s 0 r' at → goesOn (next r' (drop at s)) ≡ false

@@ -1,13 +1,14 @@
--- Machines over bytes that come in parts: such a machine takes whole records off the front of the bytes at hand, and waits where the last one is not there whole.
--- A journal is such a list of bytes (01-scope.md, Journal). Nothing here knows of records; specs/Reading gives the machine.
+-- Machines over bytes that come in parts: such a machine takes whole records off the front of the
+-- bytes at hand, and waits where the last one is not there whole. A journal is such a list of bytes
+-- (01-scope.md, Journal). Nothing here knows of records; specs/Reading gives the machine.
 use Prim.Native.Nat.{ℕ, zero, suc, _+_, _-_, _≤_, _<_}
 use mathlib.Core.Bool.{Bool, true, false}
 use mathlib.Core.List.{List, [], _∷_, _++_}
 use mathlib.Core.Path.{_≡_}
 use lib.ListN.{length, take, drop}
 
--- What a machine with states R does with the bytes at hand: it waits for more; it halts, for a reason H, and changes nothing; or it goes on past n bytes in a new state, and may
--- tell an E.
+-- What a machine with states R does with the bytes at hand: it waits for more; it halts, for a
+-- reason H, and changes nothing; or it goes on past n bytes in a new state, and may tell an E.
 pub data Next (R E H : Type 0) : Type 0 where
   wait : Next R E H
   halt : H → Next R E H
@@ -19,7 +20,8 @@ pub data End (H : Type 0) : Type 0 where
   awaits : End H
   halted : H → End H
 
--- where it settles: its state, the bytes that it did not take, all that it told, and why it takes no more
+-- where it settles: its state, the bytes that it did not take, all that it told, and why it takes
+-- no more
 pub record Settled (R E H : Type 0) : Type 0 where
   pub state : R
   pub rest : List ℕ
@@ -45,7 +47,8 @@ settle next (suc f) r s = after r s (next r s) (λ r' n. settle next f r' (drop 
 unfoldable pub settled : {R E H : Type 0} → (R → List ℕ → Next R E H) → R → List ℕ → Settled R E H
 settled next r s = settle next (suc (length s)) r s
 
--- how far a machine goes without telling anything: the state there, the bytes up to there, and what it does next
+-- how far a machine goes without telling anything: the state there, the bytes up to there, and what
+-- it does next
 pub record Advanced (R E H : Type 0) : Type 0 where
   pub state : R
   pub used : ℕ
@@ -93,8 +96,9 @@ size (halt h) = 0
 size (go r n) = n
 size (tell r n e) = n
 
--- What is asked of a machine: with no bytes it waits; what it takes is at least one byte, is there, and is all that it looks at; and what it does with the bytes at hand, unless it
--- waits, it does with more after them.
+-- What is asked of a machine: with no bytes it waits; what it takes is at least one byte, is there,
+-- and is all that it looks at; and what it does with the bytes at hand, unless it waits, it does
+-- with more after them.
 pub record Machine {R E H : Type 0} (next : R → List ℕ → Next R E H) : Type 0 where
   pub idle : (r : R) → next r [] ≡ wait
   pub there : (r : R) (s : List ℕ) → takes (next r s) ≡ true → (0 < size (next r s)) × (size (next r s) ≤ length s)

@@ -9,46 +9,46 @@ use borrow.Author.Tests.{eq-eqb, ne-eqb}
 use lib.Dec.{eqb}
 use lib.ListN.{length, take, drop, getD, length-drop}
 use lib.Seq.{take-suc, drop-cons, drop-length, getD-drop}
-use Rattle.trace_text.specs.Words.{behindBlanks, upToBlank}
+use Rattle.trace_text.specs.Words.{afterBlanks, upToBlank}
 
 -- ---- the start: the blanks that are left, of what is left
 
 pub record Sought (s : List ℕ) (k left at : ℕ) : Type 0 where
   pub within : at ≤ length s
-  pub same : behindBlanks left (drop at s) ≡ behindBlanks k s
+  pub same : afterBlanks left (drop at s) ≡ afterBlanks k s
 
 pub sought-none : (s : List ℕ) (k : ℕ) → Sought s k k 0
 sought-none s k = record { within = omega arith; same = refl }
 
-one-by : (m : ℕ) (t : List ℕ) (b : Bool) → behindBlanks (cond b m (suc m)) t ≡ cond b (behindBlanks m t) (behindBlanks (suc m) t)
+one-by : (m : ℕ) (t : List ℕ) (b : Bool) → afterBlanks (cond b m (suc m)) t ≡ cond b (afterBlanks m t) (afterBlanks (suc m) t)
 one-by m t true = refl
 one-by m t false = refl
 
-one : (left c : ℕ) (t : List ℕ) → 0 < left → behindBlanks (cond (eqb c 32) (left - 1) left) t ≡ behindBlanks left (c ∷ t)
-unfolding behindBlanks
+one : (left c : ℕ) (t : List ℕ) → 0 < left → afterBlanks (cond (eqb c 32) (left - 1) left) t ≡ afterBlanks left (c ∷ t)
+unfolding afterBlanks
 one zero c t h = absurd (omega arith)
 one (suc m) c t h = let e : suc m - 1 ≡ m = omega arith in rw e (one-by m t (eqb c 32))
 
 pub sought-more : (s : List ℕ) (k left at left' : ℕ) → at < length s → 0 < left → left' ≡ cond (eqb (getD s at 0) 32) (left - 1) left → Sought s k left at → Sought s k left' (at + 1)
 sought-more s k left at left' h z e p = record {
   within = omega arith;
-  same = rw (add-one, e) (one left (getD s at 0) (drop (suc at) s) z ∙ ap (behindBlanks left) (sym (drop-cons s at 0 h)) ∙ p .same);
+  same = rw (add-one, e) (one left (getD s at 0) (drop (suc at) s) z ∙ ap (afterBlanks left) (sym (drop-cons s at 0 h)) ∙ p .same);
 }
 
-pub sought-found : (s : List ℕ) (k left at : ℕ) → left ≡ 0 → Sought s k left at → (at ≤ length s) × (drop at s ≡ behindBlanks k s)
-unfolding behindBlanks
+pub sought-found : (s : List ℕ) (k left at : ℕ) → left ≡ 0 → Sought s k left at → (at ≤ length s) × (drop at s ≡ afterBlanks k s)
+unfolding afterBlanks
 sought-found s k left at e p = (p .within, rw e at (p .same))
 
-none-left : (left : ℕ) → behindBlanks left [] ≡ []
-unfolding behindBlanks
+none-left : (left : ℕ) → afterBlanks left [] ≡ []
+unfolding afterBlanks
 none-left zero = refl
 none-left (suc m) = refl
 
-pub sought-end : (s : List ℕ) (k left at : ℕ) → length s ≤ at → Sought s k left at → (at ≤ length s) × (drop at s ≡ behindBlanks k s)
+pub sought-end : (s : List ℕ) (k left at : ℕ) → length s ≤ at → Sought s k left at → (at ≤ length s) × (drop at s ≡ afterBlanks k s)
 sought-end s k left at h p =
     let e : at ≡ length s = omega (arith, p .within) in
     let d : drop at s ≡ [] = ap (λ (n : ℕ). drop n s) e ∙ drop-length s in
-    (p .within, d ∙ sym (none-left left) ∙ ap (behindBlanks left) (sym d) ∙ p .same)
+    (p .within, d ∙ sym (none-left left) ∙ ap (afterBlanks left) (sym d) ∙ p .same)
 
 -- ---- the end: the bytes that are passed, and what is before the first blank after them
 

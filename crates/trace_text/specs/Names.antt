@@ -1,4 +1,5 @@
--- The names alone, as the code has them: that of line k, with its `=`. The lines themselves, which hold the names too, are in trace_text specs/Trace. It states nothing of the papers.
+-- The names alone, as the code has them: that of line k, with its `=`. The lines themselves, which
+-- hold the names too, are in specs/Trace. It states nothing of the papers.
 use Prim.Native.Nat.{ℕ}
 use mathlib.Core.List.{List}
 use Rattle.text.specs.Ascii.{ascii}

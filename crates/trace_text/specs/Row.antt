@@ -1,5 +1,7 @@
--- A line of the trace: `name=value`. Numbers and codes are decimal, flags 0 or 1, floats the 16 hexadecimal digits of their bits (every NaN `nan`), lists have commas, an absent mark is `none`.
--- The trace is ours, for the comparison with the Rust (00-demands.md, Demand 2): it states nothing of the papers.
+-- A line of the trace: `name=value`. Numbers and codes are decimal, flags 0 or 1, floats the 16
+-- hexadecimal digits of their bits (every NaN `nan`), lists have commas, an absent mark is `none`.
+-- The trace is ours, for the comparison with the Rust (00-demands.md, Demand 2): it states nothing
+-- of the papers.
 use Prim.Native.Nat.{ℕ}
 use mathlib.Core.Bool.{Bool, cond}
 use mathlib.Core.List.{List, _++_}

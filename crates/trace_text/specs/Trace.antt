@@ -1,4 +1,5 @@
--- The lines of the trace after a tick: every field of the verdict, of the run state and of the tally, a line each, in the order of the Rust's structs.
+-- The lines of the trace after a tick: every field of the verdict, of the run state and of the
+-- tally, a line each, in the order of the Rust's structs.
 use Prim.Native.Nat.{ℕ}
 use mathlib.Core.List.{List, [], _∷_, _++_}
 use lib.ListN.{getD}
@@ -13,6 +14,10 @@ use Rattle.lictor_core.specs.declared.fuse.Clock.{Clock}
 use Rattle.lictor_core.specs.declared.fuse.FuseRt.{FuseRt}
 use Rattle.lictor_core.specs.declared.tally.Tally.{Tally}
 use Rattle.trace_text.specs.Row.{flagText, stateText, reasonText, handoffText, markText, reasonMarkText, row}
+
+-- how many lines there are: 23 of the verdict, 25 of the run state, 26 of the tally
+abbrev pub traceCount : ℕ
+traceCount = 74
 
 unfoldable pub verdictLines : SafetyVerdict → List (List ℕ)
 verdictLines v =

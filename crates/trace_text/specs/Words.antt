@@ -5,10 +5,10 @@ use mathlib.Core.List.{List, [], _∷_}
 use lib.Dec.{eqb}
 
 -- what is after the first k blanks
-unfoldable pub behindBlanks : ℕ → List ℕ → List ℕ
-behindBlanks zero s = s
-behindBlanks (suc k) [] = []
-behindBlanks (suc k) (c ∷ s) = cond (eqb c 32) (behindBlanks k s) (behindBlanks (suc k) s)
+unfoldable pub afterBlanks : ℕ → List ℕ → List ℕ
+afterBlanks zero s = s
+afterBlanks (suc k) [] = []
+afterBlanks (suc k) (c ∷ s) = cond (eqb c 32) (afterBlanks k s) (afterBlanks (suc k) s)
 
 -- what is before the first blank
 unfoldable pub upToBlank : List ℕ → List ℕ
@@ -17,4 +17,4 @@ upToBlank (c ∷ s) = cond (eqb c 32) [] (c ∷ upToBlank s)
 
 -- word k of the text; the first is 0
 unfoldable pub wordAt : ℕ → List ℕ → List ℕ
-wordAt k s = upToBlank (behindBlanks k s)
+wordAt k s = upToBlank (afterBlanks k s)

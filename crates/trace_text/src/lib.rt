@@ -1,9 +1,9 @@
-// The lines of the trace after a tick: every field of the verdict, of the run state and of the tally, a group each.
-pub mod names;
-pub mod rows;
-mod run;
-mod tally;
-mod verdict;
+// The lines of the trace after a tick: every field of the verdict, the run state and the tally.
+pub mod names; // the names of the lines
+pub mod rows; // a line: its name and its value
+mod run; // the lines of the run state
+mod tally; // the lines of the tally
+mod verdict; // the lines of the verdict
 
 ghost use mathlib.Core.Path.{_≡_};
 ghost use Rattle.text.specs.Line.{lineOf};
@@ -19,7 +19,7 @@ use text::empty;
 // How many lines there are: 23 of the verdict, 25 of the run state, 26 of the tally.
 pub const TRACE_LINES: usize = 74;
 
-// Line k of the trace after a tick; from TRACE_LINES on there are none, and the answer is the empty line.
+// Line k of the trace after a tick; from TRACE_LINES on it is empty.
 pub fn trace_line(k: usize, v: SafetyVerdict, rt: FuseRt) -> Line
     ensures { λ r. ⌜ r ≡ lineOf (traceText k v rt) ⌝ }
 {

@@ -7,7 +7,7 @@ ghost use lib.ListN.{length, take, drop};
 ghost use Rattle.text.specs.Line.{lineOf, pushOf};
 ghost use Rattle.text.specs.Commas.{numbersText, floatsText};
 ghost use Rattle.lictor_core.specs.Codes.{statusCode, sourceCode};
-ghost use Rattle.trace_text.specs.Words.{behindBlanks, upToBlank};
+ghost use Rattle.trace_text.specs.Words.{afterBlanks, upToBlank};
 ghost use Rattle.trace_text.specs.Row.{nameOf, ended, valueText, flagValue, stateValue, reasonValue, handoffValue, markValue, reasonMarkValue};
 ghost use Rattle.trace_text.specs.declared.rows.Value.the-variants.{Number, Float};
 use lictor_core::reason::ReasonCode;
@@ -42,7 +42,7 @@ fn left_after(left: usize, c: u8) -> usize
 
 // The place after the first k blanks; the end, where there are fewer.
 fn word_start(words: &[u8], k: usize) -> usize
-    ensures { λ r. ⌜ (r ≤ length (now (words .entry))) × (drop r (now (words .entry)) ≡ behindBlanks k (now (words .entry))) ⌝ }
+    ensures { λ r. ⌜ (r ≤ length (now (words .entry))) × (drop r (now (words .entry)) ≡ afterBlanks k (now (words .entry))) ⌝ }
 {
     let mut left = k;
     let mut at: usize = 0;
@@ -61,14 +61,14 @@ fn word_end(words: &[u8], at: usize) -> usize
     requires { ⌜ at ≤ length (now words) ⌝ }
     ensures { λ r. ⌜ (at ≤ r) × (r ≤ length (now (words .entry))) × (take (r - at) (drop at (now (words .entry))) ≡ upToBlank (drop at (now (words .entry)))) ⌝ }
 {
-    let mut e = at;
-    while e < words.len() {
-        if words[e] == b' ' {
-            return e;
+    let mut end = at;
+    while end < words.len() {
+        if words[end] == b' ' {
+            return end;
         }
-        e += 1;
+        end += 1;
     }
-    e
+    end
 }
 
 // The name of line k of a group: the group's name, the word k (the first is 0), an equals sign.

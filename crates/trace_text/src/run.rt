@@ -1,4 +1,4 @@
-// The run state.
+// The lines of the run state.
 ghost use mathlib.Core.Path.{_≡_};
 ghost use mathlib.Core.List.{[]};
 ghost use Prim.Native.Nat.{_<_};

@@ -1,4 +1,4 @@
-// The tally.
+// The lines of the tally.
 ghost use mathlib.Core.Path.{_≡_};
 ghost use mathlib.Core.List.{[]};
 ghost use Prim.Native.Nat.{_≤_, _<_};

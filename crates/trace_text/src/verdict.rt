@@ -1,4 +1,4 @@
-// The verdict of a tick.
+// The lines of a tick's verdict.
 ghost use mathlib.Core.Path.{_≡_};
 ghost use mathlib.Core.List.{[]};
 ghost use Prim.Native.Nat.{_≤_, _<_};

@@ -11,7 +11,7 @@ use Rattle.journal_refusals.specs.declared.Refusal.{Refusal}
 use Rattle.journal_reader.specs.declared.waiting.Reader.{Reader}
 use Rattle.stream.specs.Stream.{Advanced, Reached, goesOn}
 use Rattle.journal_reader.specs.Reading.{onBytes}
-use Rattle.stream.proofs.Stream.{reached-none, reached-on, reached-end}
+use Rattle.stream.proofs.Stream.{impossible, reached-none, reached-on, reached-end}
 use Rattle.journal.specs.declared.tick.Run.{Run}
 use Rattle.journal.specs.declared.How.the-variants.{Waits}
 use Rattle.journal.specs.declared.Step.{Step}
@@ -44,7 +44,7 @@ kept-first rd run s l = record {
 }
   where
     no : true ≡ false → ⊥
-    no y = let f : _≡_ {A = ℕ} 0 1 = cc in omega arith
+    no y = impossible cc
 
 kept-more : (l₀ : List Float) (s : List ℕ) (t₀ : Step) (l : List Float) (t : Step) → Kept l₀ s t₀ l t → (r : Step) (l' : List Float) → Stepped (at-step t l) s (t .at) r l'
     → Kept l₀ s t₀ l' r

@@ -18,8 +18,8 @@ part-read-end c = search needs
 read-requires : tie.Need-read-requires
 read-requires c κs = search needs
 
-add-i : tie.Need-add-i
-add-i c =
+add-next : tie.Need-add-next
+add-next c =
     let a = c .before .before .before .before .before .before .args in
     let e = c .before .before .read .ensures .0 ∙ ap (readOf (record { reader = a .rd; lists = a .lists .now })) (part-from (a .s .now) (a .at)) in
     let f = c .before .before .read .ensures .1 ∙ ap (listsRead (record { reader = a .rd; lists = a .lists .now })) (part-from (a .s .now) (a .at)) in
@@ -77,7 +77,7 @@ take-step-spec =
     part-read-start
     part-read-end
     read-requires
-    add-i
+    add-next
     enum-told
     begin-at-requires
     enum-told-2

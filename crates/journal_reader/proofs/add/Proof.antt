@@ -5,11 +5,11 @@ use Rattle.journal_reader.proofs.Steps.{added-ack, added-head, added-va
 use Rattle.journal_reader.proofs.add.Statement.{statement}
 use Rattle.journal_reader.proofs.add.Tie as tie
 
-add-e : tie.Need-add-e
-add-e c = search needs
+add-end : tie.Need-add-end
+add-end c = search needs
 
-add-e-2 : tie.Need-add-e-2
-add-e-2 c = search needs
+add-end-2 : tie.Need-add-end-2
+add-end-2 c = search needs
 
 enum-known-x : tie.Need-enum-known-x
 enum-known-x c = search needs
@@ -48,8 +48,8 @@ pub add-spec : {M : Type 1} → statement M
 add-spec =
     tie.close
     (tie.spec
-    add-e
-    add-e-2
+    add-end
+    add-end-2
     enum-known-x
     with-ack-requires
     enum-known-x-2

@@ -1,6 +1,5 @@
 -- Each turn takes one small record, or finds that there is none.
 use Prim.Native.Nat.{ℕ, _+_, _-_, _≤_}
-use native.Mathlib.Omega.{arith}
 use mathlib.Core.Path.{_≡_}
 use mathlib.Core.Bool.{true, false, cond}
 use mathlib.Core.List.{List}
@@ -13,7 +12,7 @@ use Rattle.journal_reader.specs.declared.Took.{Took}
 use Rattle.stream.specs.Stream.{Reached}
 use Rattle.journal_reader.specs.Reading.{lookOf, onBytes}
 use Rattle.journal_reader.specs.Steps.{stateWith, looksSmall, TookOne, Collected}
-use Rattle.stream.proofs.Stream.{reached-none, reached-on}
+use Rattle.stream.proofs.Stream.{impossible, reached-none, reached-on}
 use Rattle.journal_reader.proofs.Reading.{machine}
 use Rattle.journal_reader.proofs.Steps.{took-reached, took-within, took-look, took-less}
 use Rattle.journal_reader.proofs.collect.Statement.{statement}
@@ -39,7 +38,7 @@ kept-first w l s at h = record {
 }
   where
     no : true ≡ false → ⊥
-    no y = let f : _≡_ {A = ℕ} 0 1 = cc in omega arith
+    no y = impossible cc
 
 kept-more : (l₀ : List Float) (s : List ℕ) (t₀ : Took) (l : List Float) (t : Took) → Kept l₀ s t₀ l t → (r : Took) (l' : List Float) → TookOne (t .waiting) l s (t .at) r l'
     → Kept l₀ s t₀ l' r

@@ -3,23 +3,23 @@ use borrow.Author.Needs.{needs}
 use Prim.Native.Nat.{ℕ}
 use mathlib.Core.Bool.{Bool, true, false}
 use mathlib.Core.Path.{_≡_, ap, _∙_}
-use native.Mathlib.Omega.{arith}
 use Rattle.journal_records.specs.Long.{outcomeOf}
+use Rattle.stream.proofs.Stream.{impossible}
 use Rattle.journal_reader.proofs.Steps.{body-part, instructs-outcome, instructs-settings, instructs-reset, instructs-tick, is-small}
 use Rattle.journal_reader.proofs.instruct.Statement.{statement}
 use Rattle.journal_reader.proofs.instruct.Tie as tie
 
 never : (t : Bool) → t ≡ false → t ≡ true → ⊥
-never t p q = let z : _≡_ {A = ℕ} 0 1 = cc in omega arith
+never t p q = impossible cc
 
 enum-told : tie.Need-enum-told
 enum-told c = search needs
 
-add-a : tie.Need-add-a
-add-a c = search needs
+add-from : tie.Need-add-from
+add-from c = search needs
 
-add-e : tie.Need-add-e
-add-e c = search needs
+add-end : tie.Need-add-end
+add-end c = search needs
 
 sub-read-outcome : tie.Need-sub-read-outcome
 sub-read-outcome c = search needs
@@ -70,8 +70,8 @@ instruct-spec =
     tie.close
     (tie.spec
     enum-told
-    add-a
-    add-e
+    add-from
+    add-end
     sub-read-outcome
     part-read-outcome-start
     part-read-outcome-end

@@ -13,11 +13,11 @@ use Rattle.journal_reader.proofs.look_at.Tie as tie
 returns : tie.Need-returns
 returns c = let a = c .before .before .args in look-end (a .seen) (a .s .now) (a .at) (c .if1 .taken)
 
-shared-slice-read-k : tie.Need-shared-slice-read-k
-shared-slice-read-k c = search needs
+shared-slice-read-kind : tie.Need-shared-slice-read-kind
+shared-slice-read-kind c = search needs
 
-add-a : tie.Need-add-a
-add-a c = search needs
+add-from : tie.Need-add-from
+add-from c = search needs
 
 body-len-requires : tie.Need-body-len-requires
 body-len-requires c κs = search needs
@@ -28,17 +28,17 @@ sub-least c = search needs
 least-requires : tie.Need-least-requires
 least-requires c κs = search needs
 
-add-e : tie.Need-add-e
-add-e c = search needs
+add-end : tie.Need-add-end
+add-end c = search needs
 
-sub-b : tie.Need-sub-b
-sub-b c = search needs
+sub-body : tie.Need-sub-body
+sub-body c = search needs
 
-part-b-start : tie.Need-part-b-start
-part-b-start c = search needs
+part-body-start : tie.Need-part-body-start
+part-body-start c = search needs
 
-part-b-end : tie.Need-part-b-end
-part-b-end c = search needs
+part-body-end : tie.Need-part-body-end
+part-body-end c = search needs
 
 judge-requires : tie.Need-judge-requires
 judge-requires c κs = search needs
@@ -62,15 +62,15 @@ look-at-spec =
     tie.close
     (tie.spec
     returns
-    shared-slice-read-k
-    add-a
+    shared-slice-read-kind
+    add-from
     body-len-requires
     sub-least
     least-requires
-    add-e
-    sub-b
-    part-b-start
-    part-b-end
+    add-end
+    sub-body
+    part-body-start
+    part-body-end
     judge-requires
     look-as-requires
     returns-2)

@@ -15,7 +15,7 @@ use Rattle.journal_reader.specs.State.{State}
 use Rattle.stream.specs.Stream.{Advanced, Reached, goesOn}
 use Rattle.journal_reader.specs.Reading.{Instruction, onBytes, whatOf, readOf, listsRead}
 use Rattle.journal_reader.specs.Steps.{TookStretch}
-use Rattle.stream.proofs.Stream.{reached-none, reached-on, reached-end}
+use Rattle.stream.proofs.Stream.{impossible, reached-none, reached-on, reached-end}
 use Rattle.journal_reader.proofs.Reading.{machine}
 use Rattle.journal_reader.proofs.Steps.{turn-less}
 use Rattle.journal_reader.proofs.read.Statement.{statement}
@@ -42,7 +42,7 @@ kept-first rd s l = record {
 }
   where
     no : true ≡ false → ⊥
-    no y = let f : _≡_ {A = ℕ} 0 1 = cc in omega arith
+    no y = impossible cc
 
 kept-more : (l₀ : List Float) (s : List ℕ) (t₀ : Stretch) (l : List Float) (t : Stretch) → Kept l₀ s t₀ l t → (r : Stretch) (l' : List Float) → TookStretch (at-turn t l) s (t .at) r l'
     → Kept l₀ s t₀ l' r

@@ -15,18 +15,18 @@ byte-requires c κs = search needs
 byte-requires-2 : tie.Need-byte-requires-2
 byte-requires-2 c κs = search needs
 
-set-requires : tie.Need-set-requires
-set-requires c κs = search needs
+flag-set-requires : tie.Need-flag-set-requires
+flag-set-requires c κs = search needs
 
 byte-requires-3 : tie.Need-byte-requires-3
 byte-requires-3 c κs = search needs
 
-set-requires-2 : tie.Need-set-requires-2
-set-requires-2 c κs = search needs
+flag-set-requires-2 : tie.Need-flag-set-requires-2
+flag-set-requires-2 c κs = search needs
 
 returns : tie.Need-returns
 unfolding tickNumbers
-returns c = rw (c .set2 .ensures, c .before .byte3 .ensures, c .before .before .set .ensures, c .before .before .before .byte2 .ensures, c .before .before .before .before .byte .ensures, c .before .before .before .before .before .le16 .ensures, c .before .before .before .before .before .before .le32 .ensures)
+returns c = rw (c .flag-set2 .ensures, c .before .byte3 .ensures, c .before .before .flag-set .ensures, c .before .before .before .byte2 .ensures, c .before .before .before .before .byte .ensures, c .before .before .before .before .before .le16 .ensures, c .before .before .before .before .before .before .le32 .ensures)
 
 pub read-tick-spec : {M : Type 1} → statement M
 read-tick-spec =
@@ -36,7 +36,7 @@ read-tick-spec =
     le16-requires
     byte-requires
     byte-requires-2
-    set-requires
+    flag-set-requires
     byte-requires-3
-    set-requires-2
+    flag-set-requires-2
     returns)

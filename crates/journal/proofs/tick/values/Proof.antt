@@ -25,8 +25,8 @@ least-requires c κs = search needs
 base-requires : tie.Need-base-requires
 base-requires c κs = search needs
 
-add-e : tie.Need-add-e
-add-e c =
+add-end : tie.Need-add-end
+add-end c =
     let s = c .before .before .before .before .before in omega (arith, c .base .ensures, c .before .least .ensures, c .before .before .capacity .ensures, list-fits (s .args .c) (s .pre .0))
 
 mul-result : tie.Need-mul-result
@@ -60,7 +60,7 @@ values-spec =
     capacity-requires
     least-requires
     base-requires
-    add-e
+    add-end
     mul-result
     sub-result
     part-result-start

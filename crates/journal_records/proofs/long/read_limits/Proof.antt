@@ -44,7 +44,22 @@ byte-requires-6 c κs = search needs
 
 returns : tie.Need-returns
 unfolding limitsOf
-returns c = rw (c .byte6 .ensures, c .before .le32 .ensures, c .before .before .le164 .ensures, c .before .before .before .byte5 .ensures, c .before .before .before .before .le163 .ensures, c .before .before .before .before .before .le162 .ensures, c .before .before .before .before .before .before .f64-at2 .ensures, c .before .before .before .before .before .before .before .byte4 .ensures, c .before .before .before .before .before .before .before .before .le16 .ensures, c .before .before .before .before .before .before .before .before .before .byte3 .ensures, c .before .before .before .before .before .before .before .before .before .before .byte2 .ensures, c .before .before .before .before .before .before .before .before .before .before .before .f64-at .ensures, c .before .before .before .before .before .before .before .before .before .before .before .before .byte .ensures)
+returns c =
+    λ i. record {
+      k = c .before .before .before .before .before .before .before .before .before .before .before .before .byte .ensures i;
+      «warn_margin» = c .before .before .before .before .before .before .before .before .before .before .before .f64-at .ensures i;
+      «clear_ticks» = c .before .before .before .before .before .before .before .before .before .before .byte2 .ensures i;
+      «clamp_streak_to_brake» = c .before .before .before .before .before .before .before .before .before .byte3 .ensures i;
+      «max_clamps_per_episode» = c .before .before .before .before .before .before .before .before .le16 .ensures i;
+      «stop_confirm_ticks» = c .before .before .before .before .before .before .before .byte4 .ensures i;
+      «v_stop_eps» = c .before .before .before .before .before .before .f64-at2 .ensures i;
+      «brake_timeout_ticks» = c .before .before .before .before .before .le162 .ensures i;
+      «rearm_hold» = c .before .before .before .before .le163 .ensures i;
+      «max_rearms» = c .before .before .before .byte5 .ensures i;
+      «escalate_after_hold_ticks» = c .before .before .le164 .ensures i;
+      «handoff_timeout_ticks» = c .before .le32 .ensures i;
+      «watchdog_ticks» = c .byte6 .ensures i;
+    }
 
 pub read-limits-spec : {M : Type 1} → statement M
 read-limits-spec =

@@ -21,15 +21,15 @@ le32-requires-2 c κs = search needs
 byte-requires : tie.Need-byte-requires
 byte-requires c κs = search needs
 
-set-requires : tie.Need-set-requires
-set-requires c κs = search needs
+flag-set-requires : tie.Need-flag-set-requires
+flag-set-requires c κs = search needs
 
 f64-at-requires : tie.Need-f64-at-requires
 f64-at-requires c κs = search needs
 
 returns : tie.Need-returns
 unfolding outcomeOf
-returns c = rw (c .f64-at .ensures, c .before .set .ensures, c .before .before .byte .ensures, c .before .before .before .le322 .ensures, c .before .before .before .before .le32 .ensures, c .before .before .before .before .before .eight-floats2 .ensures, c .before .before .before .before .before .before .eight-floats .ensures, c .before .before .before .before .before .before .before .read-scores .ensures)
+returns c = rw (c .f64-at .ensures, c .before .flag-set .ensures, c .before .before .byte .ensures, c .before .before .before .le322 .ensures, c .before .before .before .before .le32 .ensures, c .before .before .before .before .before .eight-floats2 .ensures, c .before .before .before .before .before .before .eight-floats .ensures, c .before .before .before .before .before .before .before .read-scores .ensures)
 
 pub read-outcome-spec : {M : Type 1} → statement M
 read-outcome-spec =
@@ -41,6 +41,6 @@ read-outcome-spec =
     le32-requires
     le32-requires-2
     byte-requires
-    set-requires
+    flag-set-requires
     f64-at-requires
     returns)

@@ -4,7 +4,7 @@ use native.Mathlib.Omega.{arith}
 use lib.ListN.{length, take}
 use Rattle.text.specs.Number.{decimalOf}
 use Rattle.text.proofs.Digits.{decimal-is, decimal-20}
-use Rattle.report.proofs.Laws.{put-on}
+use Rattle.text.proofs.Puts.{put-on}
 use borrow.Author.Needs.{needs}
 use Rattle.report.proofs.render.put_field.Statement.{statement}
 use Rattle.report.proofs.render.put_field.Tie as tie

@@ -7,7 +7,8 @@ use Rattle.text.proofs.Lines.{line-text}
 use Rattle.report.specs.Lines.{marginText}
 use Rattle.margin.specs.Margin.{marginOf}
 use Rattle.report.proofs.Fits.{margin-21}
-use Rattle.report.proofs.Laws.{put-on, tick-by, numbers-most, margin-shows, line-most}
+use Rattle.text.proofs.Puts.{put-on}
+use Rattle.report.proofs.Laws.{tick-by, numbers-most, margin-shows, line-most}
 use borrow.Author.Needs.{needs}
 use Rattle.report.proofs.render.put_tick.Statement.{statement}
 use Rattle.report.proofs.render.put_tick.Tie as tie
@@ -28,17 +29,26 @@ margin-line-requires : tie.Need-margin-line-requires
 margin-line-requires c κs = search needs
 
 put-line-requires : tie.Need-put-line-requires
-put-line-requires c κs = (omega (arith, c .before .before .before .before .put .ensures .ends, c .before .before .before .before .put .kept .0, c .before .before .before .before .before .before .before .before .before .put-numbers .ensures .ends, numbers-most (c .before .before .before .before .before .before .before .before .before .before .before .before .before .args .v), c .before .before .before .before .before .before .before .before .before .put-numbers .kept .1 .0, c .before .before .before .before .before .before .before .before .before .before .before .before .before .pre), rw (c .margin-line .ensures) (line-most _))
+put-line-requires c κs =
+    let start = c .before .before .before .before .before .before .before .before .before .before .before .before .before in
+    let numbers = c .before .before .before .before .before .before .before .before .before .put-numbers in
+    let blank = c .before .before .before .before .put in
+    (omega (arith, blank .ensures .ends, blank .kept .0, numbers .ensures .ends, numbers-most (start .args .v), numbers .kept .1 .0, start .pre), rw (c .margin-line .ensures) (line-most _))
 
 slice-aggregate-put-2 : tie.Need-slice-aggregate-put-2
 slice-aggregate-put-2 c = search needs
 
 put-requires-2 : tie.Need-put-requires-2
 put-requires-2 c κs =
-    let v = c .before .before .before .before .before .before .before .before .before .before .before .before .before .before .before .before .before .before .args .v in
+    let start = c .before .before .before .before .before .before .before .before .before .before .before .before .before .before .before .before .before .before in
+    let numbers = c .before .before .before .before .before .before .before .before .before .before .before .before .before .before .put-numbers in
+    let blank = c .before .before .before .before .before .before .before .before .before .put in
+    let line = c .before .before .before .before .put-line in
     let g = margin-shows _ _ _ (c .before .before .before .before .before .margin-line .ensures) (c .before .before .before .before .before .before .before .before .before .before .before .before .before .before .before .before .margin-of .ensures) in
-    let q = rw g at (c .before .before .before .before .put-line .ensures) in
-    omega (arith, q .ends, margin-21 (marginOf (v .«brake_margin»)), c .before .before .before .before .put-line .kept .0, c .before .before .before .before .before .before .before .before .before .put .ensures .ends, c .before .before .before .before .before .before .before .before .before .put .kept .0, c .before .before .before .before .before .before .before .before .before .before .before .before .before .before .put-numbers .ensures .ends, numbers-most (c .before .before .before .before .before .before .before .before .before .before .before .before .before .before .before .before .before .before .args .v), c .before .before .before .before .before .before .before .before .before .before .before .before .before .before .put-numbers .kept .1 .0, c .before .before .before .before .before .before .before .before .before .before .before .before .before .before .before .before .before .before .pre)
+    let q = rw g at (line .ensures) in
+    let few = numbers-most (start .args .v) in
+    let short = margin-21 (marginOf (start .args .v .«brake_margin»)) in
+    omega (arith, q .ends, few, short, line .kept .0, blank .ensures .ends, blank .kept .0, numbers .ensures .ends, numbers .kept .1 .0, start .pre)
 
 same-length : tie.Need-same-length
 same-length c = search needs

@@ -3,7 +3,7 @@ use mathlib.Core.Path.{_≡_, _∙_}
 use native.Mathlib.Omega.{arith}
 use lib.ListN.{length}
 use borrow.Author.Needs.{needs}
-use Rattle.report.specs.Text.{Put, traceUpTo}
+use Rattle.trace_text.specs.Trace.{traceCount}
 use Rattle.report.proofs.Laws.{Traced, traced-none, traced-more, line-most}
 use Rattle.report.proofs.render.put_trace.Statement.{statement}
 use Rattle.report.proofs.render.put_trace.Tie as tie
@@ -12,7 +12,7 @@ abbrev Inv-loop : tie.InvT-loop
 Inv-loop v rt out₀ n at₀ k₀ out at k = Traced v rt out₀ n out at k
 
 abbrev μ-loop : tie.MeasureT-loop
-μ-loop v rt out₀ n at₀ k₀ out at k = 74 - k
+μ-loop v rt out₀ n at₀ k₀ out at k = traceCount - k
 
 loop-holds : tie.Need-loop-holds Inv-loop μ-loop
 loop-holds c = traced-none _ _ _ _
@@ -43,7 +43,7 @@ returns : tie.Need-returns Inv-loop μ-loop
 returns c =
     let a = c .before .before .before .args in
     let m = c .before .loop .inv in
-    let e : c .before .loop .k ≡ 74 = omega (arith, m .short) in
+    let e : c .before .loop .k ≡ traceCount = omega (arith, m .short) in
     rw e at (m .so-far)
 
 pub put-trace-spec : {M : Type 1} → statement M

@@ -7,27 +7,21 @@ use Rattle.report.proofs.render.tick_text.Reads as reads
 use Rattle.report.proofs.render.tick_text.Lts as lts
 use Rattle.report.proofs.render.put_event.Reads as put-event-reads
 
--- src/lib.rt:74:9
 returns : tie.Need-returns
 returns c = no-room _ _ _ (omega arith)
 
--- src/lib.rt:76:8
 sub-if2 : tie.Need-sub-if2
 sub-if2 c = search needs
 
--- src/lib.rt:77:9
 returns-2 : tie.Need-returns-2
 returns-2 c = no-room _ _ _ (omega arith)
 
--- src/lib.rt:79:5
 put-event-requires : tie.Need-put-event-requires
 put-event-requires c κs = search needs
 
--- src/lib.rt:70:1
 same-length : tie.Need-same-length
 same-length c = search needs
 
--- src/lib.rt:70:1
 returns-3 : tie.Need-returns-3
 returns-3 c = with-room _ _ _ (omega arith) _ _ (c .before .before .put-event .ensures)
 

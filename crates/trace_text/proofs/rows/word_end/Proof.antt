@@ -20,8 +20,8 @@ shared-slice-read-if1 c = omega arith
 returns : tie.Need-returns Inv-loop μ-loop
 returns c = spelt-blank _ _ _ (omega arith) (c .if1 .taken) (c .before .before .before .loop .inv)
 
-add-e : tie.Need-add-e Inv-loop μ-loop
-add-e c = omega arith
+add-end : tie.Need-add-end Inv-loop μ-loop
+add-end c = omega arith
 
 loop-less : tie.Need-loop-less Inv-loop μ-loop
 loop-less c = omega arith
@@ -41,7 +41,7 @@ word-end-spec =
     loop-holds
     shared-slice-read-if1
     returns
-    add-e
+    add-end
     loop-less
     loop-again
     returns-2)

@@ -1,6 +1,6 @@
 use mathlib.Core.Path.{ap, _∙_}
 use Rattle.text.specs.Line.{lineOf}
-use Rattle.trace_text.specs.Words.{behindBlanks, upToBlank, wordAt}
+use Rattle.trace_text.specs.Words.{afterBlanks, upToBlank, wordAt}
 use Rattle.trace_text.specs.Row.{nameOf}
 use Rattle.trace_text.proofs.RowsLaws.{is-row}
 use Rattle.trace_text.specs.Names.{runName}
@@ -20,7 +20,7 @@ with-numbers-requires : tie.Need-with-numbers-requires
 with-numbers-requires c κs = search needs
 
 returns : tie.Need-returns
-unfolding runLines runName nameOf wordAt behindBlanks upToBlank
+unfolding runLines runName nameOf wordAt afterBlanks upToBlank
 returns c = rw (c .before .before .before .if1 .taken) (list-row runName _ 24 _ _ _ (c .before .before .before .if1 .taken) (c .before .before .before .before .name-of .ensures) (c .with-numbers .ensures))
 
 slice-aggregate-with-floats : tie.Need-slice-aggregate-with-floats
@@ -60,23 +60,23 @@ with-value-requires : tie.Need-with-value-requires
 with-value-requires c κs = search needs
 
 returns-2 : tie.Need-returns-2
-unfolding runLines runName nameOf wordAt behindBlanks upToBlank
+unfolding runLines runName nameOf wordAt afterBlanks upToBlank
 returns-2 c = rw (c .before .before .match .keys1) (list-row runName _ 6 _ _ _ (c .before .before .match .keys1) (c .before .before .before .before .before .before .before .before .before .name-of .ensures) (c .with-floats .ensures))
 
 returns-3 : tie.Need-returns-3
-unfolding runLines runName nameOf wordAt behindBlanks upToBlank
+unfolding runLines runName nameOf wordAt afterBlanks upToBlank
 returns-3 c = rw (c .before .before .match .keys2) (list-row runName _ 7 _ _ _ (c .before .before .match .keys2) (c .before .before .before .before .before .before .before .before .before .name-of .ensures) (c .with-floats2 .ensures))
 
 returns-4 : tie.Need-returns-4
-unfolding runLines runName nameOf wordAt behindBlanks upToBlank
+unfolding runLines runName nameOf wordAt afterBlanks upToBlank
 returns-4 c = rw (c .before .before .match .keys3) (list-row runName _ 8 _ _ _ (c .before .before .match .keys3) (c .before .before .before .before .before .before .before .before .before .name-of .ensures) (c .with-floats3 .ensures))
 
 returns-5 : tie.Need-returns-5
-unfolding runLines runName nameOf wordAt behindBlanks upToBlank
+unfolding runLines runName nameOf wordAt afterBlanks upToBlank
 returns-5 c = rw (c .before .before .match .keys4) (list-row runName _ 10 _ _ _ (c .before .before .match .keys4) (c .before .before .before .before .before .before .before .before .before .name-of .ensures) (c .with-floats4 .ensures))
 
 returns-6 : tie.Need-returns-6
-unfolding runLines runName nameOf wordAt behindBlanks upToBlank
+unfolding runLines runName nameOf wordAt afterBlanks upToBlank
 returns-6 c = rw (c .before .before .match .keys5) (list-row runName _ 11 _ _ _ (c .before .before .match .keys5) (c .before .before .before .before .before .before .before .before .before .name-of .ensures) (c .with-floats5 .ensures))
 
 returns-7 : tie.Need-returns-7

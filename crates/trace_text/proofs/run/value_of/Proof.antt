@@ -2,7 +2,7 @@
 use Prim.Native.Nat.{zero-le}
 use mathlib.Core.Path.{refl}
 use mathlib.Core.List.{[], _∷_}
-use Rattle.trace_text.specs.Words.{behindBlanks, upToBlank, wordAt}
+use Rattle.trace_text.specs.Words.{afterBlanks, upToBlank, wordAt}
 use Rattle.trace_text.specs.Row.{nameOf}
 use Rattle.trace_text.specs.Names.{runName}
 use Rattle.trace_text.specs.Trace.{runLines}
@@ -11,7 +11,7 @@ use Rattle.trace_text.proofs.run.value_of.Statement.{statement}
 use Rattle.trace_text.proofs.run.value_of.Tie as tie
 
 pub value-of-spec : {M : Type 1} → statement M
-unfolding runLines runName nameOf wordAt behindBlanks upToBlank
+unfolding runLines runName nameOf wordAt afterBlanks upToBlank
 value-of-spec =
     tie.close
     (tie.spec

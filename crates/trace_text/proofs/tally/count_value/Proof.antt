@@ -2,7 +2,7 @@
 use Prim.Native.Nat.{zero-le}
 use mathlib.Core.Path.{refl}
 use mathlib.Core.List.{[], _∷_}
-use Rattle.trace_text.specs.Words.{behindBlanks, upToBlank, wordAt}
+use Rattle.trace_text.specs.Words.{afterBlanks, upToBlank, wordAt}
 use Rattle.trace_text.specs.Row.{nameOf}
 use Rattle.trace_text.specs.Names.{tallyName}
 use Rattle.trace_text.specs.Trace.{tallyLines}
@@ -11,7 +11,7 @@ use Rattle.trace_text.proofs.tally.count_value.Statement.{statement}
 use Rattle.trace_text.proofs.tally.count_value.Tie as tie
 
 pub count-value-spec : {M : Type 1} → statement M
-unfolding tallyLines tallyName nameOf wordAt behindBlanks upToBlank
+unfolding tallyLines tallyName nameOf wordAt afterBlanks upToBlank
 count-value-spec =
     tie.close
     (tie.spec

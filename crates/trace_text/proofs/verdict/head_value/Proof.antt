@@ -2,7 +2,7 @@
 use Prim.Native.Nat.{zero-le}
 use mathlib.Core.Path.{refl}
 use mathlib.Core.List.{[], _∷_}
-use Rattle.trace_text.specs.Words.{behindBlanks, upToBlank, wordAt}
+use Rattle.trace_text.specs.Words.{afterBlanks, upToBlank, wordAt}
 use Rattle.trace_text.specs.Row.{nameOf}
 use Rattle.trace_text.specs.Names.{verdictName}
 use Rattle.trace_text.specs.Trace.{verdictLines}
@@ -11,7 +11,7 @@ use Rattle.trace_text.proofs.verdict.head_value.Statement.{statement}
 use Rattle.trace_text.proofs.verdict.head_value.Tie as tie
 
 pub head-value-spec : {M : Type 1} → statement M
-unfolding verdictLines verdictName nameOf wordAt behindBlanks upToBlank
+unfolding verdictLines verdictName nameOf wordAt afterBlanks upToBlank
 head-value-spec =
     tie.close
     (tie.spec

@@ -1,7 +1,7 @@
 -- Each value by the number of its line; the last is the one that is left.
 use mathlib.Core.Path.{refl}
 use mathlib.Core.List.{[], _∷_}
-use Rattle.trace_text.specs.Words.{behindBlanks, upToBlank, wordAt}
+use Rattle.trace_text.specs.Words.{afterBlanks, upToBlank, wordAt}
 use Rattle.trace_text.specs.Row.{nameOf}
 use Rattle.trace_text.specs.Names.{verdictName}
 use Rattle.trace_text.specs.Trace.{verdictLines}
@@ -10,7 +10,7 @@ use Rattle.trace_text.proofs.verdict.score_value.Statement.{statement}
 use Rattle.trace_text.proofs.verdict.score_value.Tie as tie
 
 pub score-value-spec : {M : Type 1} → statement M
-unfolding verdictLines verdictName nameOf wordAt behindBlanks upToBlank
+unfolding verdictLines verdictName nameOf wordAt afterBlanks upToBlank
 score-value-spec =
     tie.close
     (tie.spec

@@ -1,6 +1,6 @@
 use mathlib.Core.Path.{ap, _∙_}
 use Rattle.text.specs.Line.{lineOf}
-use Rattle.trace_text.specs.Words.{behindBlanks, upToBlank, wordAt}
+use Rattle.trace_text.specs.Words.{afterBlanks, upToBlank, wordAt}
 use Rattle.trace_text.specs.Row.{nameOf}
 use Rattle.trace_text.proofs.RowsLaws.{is-row}
 use Rattle.trace_text.specs.Names.{verdictName}
@@ -32,11 +32,11 @@ with-value-requires : tie.Need-with-value-requires
 with-value-requires c κs = search needs
 
 returns : tie.Need-returns
-unfolding verdictLines verdictName nameOf wordAt behindBlanks upToBlank
+unfolding verdictLines verdictName nameOf wordAt afterBlanks upToBlank
 returns c = rw (c .before .before .match .keys1) (list-row verdictName _ 6 _ _ _ (c .before .before .match .keys1) (c .before .before .before .before .before .before .name-of .ensures) (c .with-floats .ensures))
 
 returns-2 : tie.Need-returns-2
-unfolding verdictLines verdictName nameOf wordAt behindBlanks upToBlank
+unfolding verdictLines verdictName nameOf wordAt afterBlanks upToBlank
 returns-2 c = rw (c .before .before .match .keys2) (list-row verdictName _ 11 _ _ _ (c .before .before .match .keys2) (c .before .before .before .before .before .before .name-of .ensures) (c .with-floats2 .ensures))
 
 returns-3 : tie.Need-returns-3

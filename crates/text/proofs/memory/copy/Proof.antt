@@ -6,8 +6,8 @@ use native.Mathlib.Omega.{arith}
 use lib.ListN.{length, getD, set, length-set}
 use lib.Seq.{paste, paste-zero, paste-suc}
 use borrow.Author.Needs.{needs}
-use Rattle.report.proofs.render.copy.Statement.{statement}
-use Rattle.report.proofs.render.copy.Tie as tie
+use Rattle.text.proofs.memory.copy.Statement.{statement}
+use Rattle.text.proofs.memory.copy.Tie as tie
 
 -- the first i bytes are there
 record Copied (out₀ : List ℕ) (n : ℕ) (text : List ℕ) (k : ℕ) (out : List ℕ) (i : ℕ) : Type 0 where
@@ -32,39 +32,30 @@ Inv-loop out₀ n text k i₀ out i = Copied out₀ n text k out i
 abbrev μ-loop : tie.MeasureT-loop
 μ-loop out₀ n text k i₀ out i = k - i
 
--- src/lib.rt:27:5
 loop-holds : tie.Need-loop-holds Inv-loop μ-loop
 loop-holds c = copied-none _ _ _ _
 
--- src/lib.rt:28:22
 shared-slice-read-out : tie.Need-shared-slice-read-out Inv-loop μ-loop
 shared-slice-read-out c = search needs
 
--- src/lib.rt:28:13
 add-out : tie.Need-add-out Inv-loop μ-loop
 add-out c = search needs
 
--- src/lib.rt:28:9
 slice-write-out : tie.Need-slice-write-out Inv-loop μ-loop
 slice-write-out c = omega (arith, c .before .before .loop .inv .long)
 
--- src/lib.rt:29:9
 add-i : tie.Need-add-i Inv-loop μ-loop
 add-i c = search needs
 
--- src/lib.rt:27:5
 loop-less : tie.Need-loop-less Inv-loop μ-loop
 loop-less c = search needs
 
--- src/lib.rt:27:5
 loop-again : tie.Need-loop-again Inv-loop μ-loop
 loop-again c = copied-more _ _ _ _ _ _ (omega arith) (omega arith) (omega arith) (c .before .before .loop .inv)
 
--- src/lib.rt:22:1
 same-length : tie.Need-same-length Inv-loop μ-loop
 same-length c = c .before .loop .inv .long
 
--- src/lib.rt:22:1
 returns : tie.Need-returns Inv-loop μ-loop
 returns c =
     let m = c .before .loop .inv in

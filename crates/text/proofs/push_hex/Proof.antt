@@ -1,10 +1,10 @@
 use Prim.Native.Nat.{_<_}
 use mathlib.Core.Path.{ap, _∙_}
 use Rattle.text.specs.Line.{pushOf}
 use Rattle.text.proofs.Digits.{hex-is}
 use borrow.Author.Needs.{needs}
-use Rattle.roots.proofs.push_hex.Statement.{statement}
-use Rattle.roots.proofs.push_hex.Tie as tie
+use Rattle.text.proofs.push_hex.Statement.{statement}
+use Rattle.text.proofs.push_hex.Tie as tie
 
 hex-requires : tie.Need-hex-requires
 hex-requires c κs = search needs

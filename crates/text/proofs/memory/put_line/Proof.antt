@@ -3,9 +3,10 @@ use mathlib.Core.Path.{_≡_}
 use native.Mathlib.Omega.{arith}
 use lib.ListN.{length}
 use borrow.Author.Needs.{needs}
-use Rattle.report.proofs.Laws.{put-part}
-use Rattle.report.proofs.render.put_line.Statement.{statement}
-use Rattle.report.proofs.render.put_line.Tie as tie
+use Rattle.text.specs.Line.{lineRoom}
+use Rattle.text.proofs.Puts.{put-part}
+use Rattle.text.proofs.memory.put_line.Statement.{statement}
+use Rattle.text.proofs.memory.put_line.Tie as tie
 
 slice-aggregate-copy : tie.Need-slice-aggregate-copy
 slice-aggregate-copy c = search needs
@@ -13,7 +14,7 @@ slice-aggregate-copy c = search needs
 copy-requires : tie.Need-copy-requires
 copy-requires c κs =
     let l = c .before .before .before .before .args .l in
-    let e : length (l .text) ≡ 256 = search needs in
+    let e : length (l .text) ≡ lineRoom = search needs in
     (search needs, omega (arith, e))
 
 add-result : tie.Need-add-result
@@ -25,7 +26,7 @@ same-length c = search needs
 returns : tie.Need-returns
 returns c =
     let l = c .before .before .before .before .before .before .before .args .l in
-    let e : length (l .text) ≡ 256 = search needs in
+    let e : length (l .text) ≡ lineRoom = search needs in
     put-part _ _ _ _ _ (omega (arith, e)) (c .before .before .copy .ensures)
 
 pub put-line-spec : {M : Type 1} → statement M
