@@ -167,10 +167,16 @@ fn journal(settings: &Settings, rng: &Rng, most: Most) -> Vec<u8> {
         let gain = |e: &Episode| e.reached.iter().enumerate().map(new).sum::<usize>();
         let fits = |e: &Episode| bytes.len() + e.bytes.len() <= most.bytes && trace + e.trace <= most.trace;
         episodes.retain(|e| fits(e) && gain(e) > 0);
-        let Some(best) = episodes.iter().max_by_key(|e| gain(e) * 1_000_000 / e.trace) else {
+        let worth_most = (0..episodes.len()).max_by_key(|i| gain(&episodes[*i]) * 1_000_000 / episodes[*i].trace);
+        let Some(best) = worth_most.map(|i| episodes.remove(i)) else {
             return bytes;
         };
-        bytes.extend_from_slice(&best.bytes);
+        // With nonces that a reset keeps, an episode can go otherwise after the others than by itself.
+        let longer = [bytes.as_slice(), &best.bytes].concat();
+        if best.reached.iter().zip(covered(&longer).reached()).any(|(alone, after)| *alone && !after) {
+            continue;
+        }
+        bytes = longer;
         trace += best.trace;
         have.iter_mut().zip(&best.reached).for_each(|(h, r)| *h |= r);
     }
