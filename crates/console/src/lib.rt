@@ -1,6 +1,6 @@
 // Plays a journal from standard input to its end or its first refusal, in constant memory, and
 // writes the text of its ticks and its last line.
-pub mod intake; // the bytes that are at hand
+mod intake; // the bytes that are at hand
 
 ghost use mathlib.Core.Path.{_≡_};
 ghost use Prim.Native.Nat.{_<_, _≤_};

@@ -5,12 +5,12 @@
 //
 // Three kinds of function: tests and numbers over plain values; rows, which change the run state
 // and do not branch; and choices, which test and then hand on, or answer with nothing changed.
-pub mod acks; // which acknowledgement is accepted, and what it changes
-pub mod counts; // counts that go up on a test
-pub mod escalated; // rows 4 to 8
-pub mod held; // rows 9 to 13
-pub mod hold; // latch_hold
-pub mod running; // rows 17 to 23 and the stay rows
+mod acks; // which acknowledgement is accepted, and what it changes
+mod counts; // counts that go up on a test
+mod escalated; // rows 4 to 8
+mod held; // rows 9 to 13
+mod hold; // latch_hold
+mod running; // rows 17 to 23 and the stay rows
 
 ghost use mathlib.Core.Path.{_≡_};
 ghost use Rattle.lictor_core.specs.declared.state.FuseState.the-variants.{Fault};

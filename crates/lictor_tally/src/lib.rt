@@ -1,6 +1,6 @@
 // The counts of an episode (tally.rs): an empty tally, and what a chunk and a tick make of one. The
 // types are in lictor_core, the rules of the fields in lictor_tally::counts.
-pub mod counts;
+mod counts; // the rules of the fields
 
 ghost use mathlib.Core.Path.{_≡_};
 ghost use Rattle.lictor_core.specs.Initial.{emptyTally};

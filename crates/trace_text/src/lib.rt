@@ -1,6 +1,6 @@
 // The lines of the trace after a tick: every field of the verdict, the run state and the tally.
-pub mod names; // the names of the lines
-pub mod rows; // a line: its name and its value
+mod names; // the names of the lines
+mod rows; // a line: its name and its value
 mod run; // the lines of the run state
 mod tally; // the lines of the tally
 mod verdict; // the lines of the verdict
