@@ -30,7 +30,7 @@ use Rattle.lictor_fuse.specs.FaultTick.{faultInput, faultVerdict, closeFault, f
 use Rattle.lictor_fuse.specs.Closed.{closedOf}
 use Rattle.lictor_fuse.specs.Tick.{givenOf}
 use Rattle.claims.specs.Runs.{All, total, Step}
-use Rattle.claims.specs.Calls.{Call, Under, guardBits, tripsOf, bitsOf, ackAccepted, tookOf, Seen, seenOf, stepOf, ticksFrom}
+use Rattle.claims.specs.Calls.{Call, Under, guardBits, tripsOf, bitsOf, ackAccepted, tookOf, TickSeen, seenOf, stepOf, ticksFrom}
 use Rattle.claims.specs.Demand3.{maxRearms, Sized, rearms, Stops, Faults, Acks, StopsClose}
 use Rattle.claims.proofs.Runs.{Run, Meets, runs}
 use Rattle.claims.proofs.Law.{Arm, ArmLaw, NonceLaw, stops-by, faults-by, rearms-by, acks-by}
@@ -64,7 +64,7 @@ true-of true h = refl
 true-of false h = absurd h
 
 -- what is seen of a tick, by the guard's test and its verdict's state
-abbrev seenBy : FuseRt → Call → Bool → FuseState → Seen
+abbrev seenBy : FuseRt → Call → Bool → FuseState → TickSeen
 seenBy r c clean p =
     let bits = not clean || anyOf (tripsOf c) faultBits in
     record { from = r .control .state; to = p; took = cond bits NoAck (takenIn (r .control .state) (ackAccepted r c)); bits = bits; ack = ackAccepted r c }
@@ -92,7 +92,7 @@ module _ (s : Settings) (z : Sized s) where
   abbrev Any : FuseRt → Type 0
   Any r = Unit {0}
 
-  abbrev Arms : FuseRt → Step FuseRt Seen → Type 0
+  abbrev Arms : FuseRt → Step FuseRt TickSeen → Type 0
   Arms = Meets (stepOf seenOf) (armOf s) Any (Under s) (ArmLaw s)
 
   -- a call under s meets the law, and a refused one changes nothing that is seen
@@ -148,7 +148,7 @@ module _ (r : FuseRt) (c : Call) (o : Eight r) where
 abbrev Calls : Call → Type 0
 Calls c = Unit {0}
 
-abbrev Nonces : FuseRt → Step FuseRt Seen → Type 0
+abbrev Nonces : FuseRt → Step FuseRt TickSeen → Type 0
 Nonces = Meets (stepOf seenOf) floorOf Eight Calls NonceLaw
 
 nonce-meets : (r : FuseRt) (c : Call) → Eight r → Unit {0} → Nonces r (stepOf seenOf r c)

@@ -44,7 +44,7 @@ use Rattle.lictor_fuse.specs.Closed.{closedOf}
 use Rattle.lictor_fuse.specs.Tick.{isAccepted, givenOf}
 use Rattle.claims.specs.Runs.{All, Some, here, later, First, Where, at, past, series, Step, silent, event, andThen, trace}
 use Rattle.claims.specs.Demand3.{begins, closes, limit, StopsWithin}
-use Rattle.claims.specs.Calls.{Seen, Call, settingsPass, guardBits, stepOf, seenOf, ticksFrom}
+use Rattle.claims.specs.Calls.{TickSeen, Call, settingsPass, guardBits, stepOf, seenOf, ticksFrom}
 use Rattle.claims.specs.ClockEnd.{lastTime}
 use Rattle.claims.specs.Limit.{slowSettings, callAt, trips, moves, stands, slowest, Met, LimitMet}
 use Rattle.claims.proofs.Demand3.{state-agrees}
@@ -65,7 +65,7 @@ module _ {A : Type 0} (P : A → Type 0) where
   first-none (suc n) (x ∷ l) f (later k) = first-none n l (f .1) k
 
 -- so the limit cannot be one less
-one-less : (n : ℕ) (l : List Seen) → Where (λ x after. T (begins x) × First (λ y. T (closes y)) (suc n) after) l → StopsWithin n l → ⊥
+one-less : (n : ℕ) (l : List TickSeen) → Where (λ x after. T (begins x) × First (λ y. T (closes y)) (suc n) after) l → StopsWithin n l → ⊥
 one-less n (x ∷ l) (at p) s = first-none (λ y. T (closes y)) n l (p .1) (s .0 (p .0) (first-length (λ y. T (closes y)) n l (p .1)))
 one-less n (x ∷ l) (past w) s = one-less n l w (s .1)
 
@@ -147,7 +147,7 @@ module _ (b h e i : ℕ) (r : FuseRt) (o : Running i r) where
 
 -- ---- the words of the stop
 
-abbrev Closes : Seen → Type 0
+abbrev Closes : TickSeen → Type 0
 Closes x = T (closes x)
 
 -- the stop is open
@@ -231,7 +231,7 @@ module _ (b h e i : ℕ) (v : Float) (fine : finite v ≡ true) (r : FuseRt) (o 
       → Leads (At q count n (suc i)) r tick
   unfolding givenOf
   leads q count n k p c =
-      by-step seenOf (λ r′ (s : Step FuseRt Seen). Quiet (stepOf seenOf) Closes (At q count n (suc i)) s) r tick
+      by-step seenOf (λ r′ (s : Step FuseRt TickSeen). Quiet (stepOf seenOf) Closes (At q count n (suc i)) s) r tick
       (λ a. (not-closed (decided r tick .verdict .state) (rw (ended .0) (open-as q (cleanTurn r tick .state) k p)), next-at q count n p c))
       (λ f. absurd (T-not (isAccepted (checkOf (slowSettings b h e))) f (passes b h e)))
 
@@ -318,7 +318,7 @@ module _ (b h e : ℕ) (small : b ≤ 65535) (short : h ≤ 65535) (fits : e ≤
   ends a k =
       let l = law b h e i zeroFloat refl r (a .running) in
       let t = or-right (isState Escalated end) (isState Terminated end) (l .waitCalm (a .state) tt tt) (λ x. omega (arith, l .waitCounts x (a .state), a .counted)) in
-      by-step seenOf (λ r′ (s : Step FuseRt Seen). First Closes 1 (andThen s (λ r″. ticksFrom r″ []))) r (stands st (suc i))
+      by-step seenOf (λ r′ (s : Step FuseRt TickSeen). First Closes 1 (andThen s (λ r″. ticksFrom r″ []))) r (stands st (suc i))
       (λ z. rw (ended b h e i zeroFloat refl r (a .running) .0) (terminated-closes end t))
       (λ z. absurd (T-not (isAccepted (checkOf (slowSettings b h e))) z (passes b h e)))
 
@@ -421,7 +421,7 @@ module _ (b h e : ℕ) (least : 1 ≤ b) (small : b ≤ 65535) (short : h ≤ 65
     unfolding givenOf resetOf freshControl
     exact =
         let n : suc (b - 1 + suc (h + suc (e + 0))) ≡ limit slow = omega arith in
-        by-step seenOf (λ r′ (s : Step FuseRt Seen). Where (λ x after. T (begins x) × First Closes (limit slow) after) (andThen s (λ r″. ticksFrom r″ inBraking))) start (trips slow)
+        by-step seenOf (λ r′ (s : Step FuseRt TickSeen). Where (λ x after. T (begins x) × First Closes (limit slow) after) (andThen s (λ r″. ticksFrom r″ inBraking))) start (trips slow)
         (λ z. at (
           rw (begun .0) tt,
           subst (λ (k : ℕ). First Closes k (ticksFrom (decided start (trips slow) .rt) inBraking)) n (braking-on (decided start (trips slow) .rt) (begun .1)),

@@ -75,7 +75,7 @@ tookOf r c = cond (bitsOf r c) NoAck (takenIn (r .control .state) (ackAccepted r
 
 -- ---- what is seen of a tick
 
-pub record Seen : Type 0 where
+pub record TickSeen : Type 0 where
   -- the state in the run state that the tick gets
   pub from : FuseState
   -- the state of its verdict
@@ -87,7 +87,7 @@ pub record Seen : Type 0 where
   pub ack : MaybeAck
 
 -- of the call c on the run state r, which was answered a
-abbrev pub seenOf : FuseRt → Call → Ticked → Seen
+abbrev pub seenOf : FuseRt → Call → Ticked → TickSeen
 seenOf r c a = record {
   from = r .control .state;
   to = a .verdict .state;
@@ -113,5 +113,5 @@ leftBy r [] = r
 leftBy r (c ∷ cs) = leftBy (tickAnswer r c .rt) cs
 
 -- the ticks of a list of calls, from the run state r
-abbrev pub ticksFrom : FuseRt → List Call → List Seen
+abbrev pub ticksFrom : FuseRt → List Call → List TickSeen
 ticksFrom r cs = trace (stepOf seenOf) r cs

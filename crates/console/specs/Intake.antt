@@ -1,5 +1,5 @@
 -- Memory whose front holds the bytes at hand.
--- It joins the code of `intake` to the list of bytes that a journal is (01-scope.md, Journal); no
+-- It joins the code of `console::intake` to the list of bytes that a journal is (01-scope.md, Journal); no
 -- paper speaks of this memory.
 use Prim.Native.Nat.{ℕ, _≤_}
 use mathlib.Core.List.{List, _++_}

@@ -5,7 +5,7 @@
 use mathlib.Core.Bool.{cond}
 use Prim.Native.Nat.{ℕ}
 use lib.Dec.{eqb, leb}
-use Rattle.lictor_core.specs.Codes.{decisionOf}
+use Rattle.lictor_core.specs.Codes.{decisionOf, decisions}
 use Rattle.lictor_core.specs.declared.ack.MaybeAck.{MaybeAck}
 use Rattle.lictor_core.specs.declared.ack.MaybeAck.the-variants.{NoAck, Given}
 use Rattle.lictor_core.specs.declared.chunk.MaybeChunk.{MaybeChunk}
@@ -80,7 +80,7 @@ ackGiven a =
     })
 
 unfoldable pub ackBy : Ack → MaybeAck
-ackBy a = cond (leb 3 (a .decision)) NoAck (ackGiven a)
+ackBy a = cond (leb decisions (a .decision)) NoAck (ackGiven a)
 
 unfoldable pub ackIn : ℕ → Ack → MaybeAck
 ackIn has a = cond (sureOf has) (ackBy a) NoAck

@@ -170,9 +170,9 @@ module _ (s : List ℕ) (p : ℕ) (h : p < length s) where
       settles-at (halted r) r e (settled-halt replayOf (replay .there) (up-to .state) (drop p s) r n) (λ q k u. refl)
 
 -- what the table refuses is refused, with its number and its place
-pub turned-away-refused : (s : List ℕ) (r : Refusal) (p : ℕ) → RefusedAt s r p → journalOf s .ending ≡ refused r p
+pub refused-at-ends : (s : List ℕ) (r : Refusal) (p : ℕ) → RefusedAt s r p → journalOf s .ending ≡ refused r p
 unfolding journalOf
-turned-away-refused s r p t =
+refused-at-ends s r p t =
     let b = ended-by (length (take p s) - length (up-to s p (t .inside) .rest)) (up-to s p (t .inside) .rest) (up-to s p (t .inside) .end) (t .before) in
     refused-by s p (t .inside) r (isCutBody r) refl (b .0) (t .cause)
 
@@ -182,7 +182,7 @@ ends-by : (s : List ℕ) (rest : List ℕ) (x : End Refusal) → settled replayO
 unfolding journalOf
 ends-by s [] awaits e g =
     let q : journalOf s .ending ≡ ended = rw (e, g) refl in
-    with-end q (λ p h b. no-refusal s q (turned-away-refused s) p h b _ refl)
+    with-end q (λ p h b. no-refusal s q (refused-at-ends s) p h b _ refl)
 ends-by s (k ∷ u) awaits e g =
     let a = settled replayOf startWhole s in
     let f = front replayOf replay startWhole s in

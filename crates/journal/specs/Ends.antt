@@ -1,5 +1,5 @@
 -- Demand 1 (00-demands.md; 01-scope.md, Journal): only stated causes refuse a record. What is
--- claimed of every list of bytes.
+-- claimed of every list of bytes; `journal-ends` in proofs/Ends proves it.
 use mathlib.Core.List.{List}
 use mathlib.Core.Path.{_≡_}
 use Prim.Native.Nat.{ℕ, _+_, _≤_, _<_}

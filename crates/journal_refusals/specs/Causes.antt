@@ -6,6 +6,7 @@ use mathlib.Core.List.{List, [], _∷_}
 use Prim.Native.Nat.{ℕ}
 use lib.Dec.{eqb, ltb, leb}
 use lib.ListN.{length, getD}
+use Rattle.lictor_core.specs.Codes.{decisions, flags}
 use Rattle.journal_records.specs.Little.{byteAt}
 use Rattle.lictor_settings.specs.Settings.{badCode, badSize, badFloat, badBox}
 use Rattle.journal_records.specs.Kinds.{isKnown, bodyLen, settingsKind, ackKind, headKind, valueKind, outcomeKind, tickKind}
@@ -72,10 +73,10 @@ again seen k b =
 unfoldable pub codeNotListed : Seen → ℕ → List ℕ → Bool
 codeNotListed seen k b =
     cond (eqb k settingsKind) (badCode (settingsOf b))
-    (cond (eqb k ackKind) (notBelow 3 (byteAt b 0))
+    (cond (eqb k ackKind) (notBelow decisions (byteAt b 0))
     (cond (eqb k valueKind) (notBelow (length capacities) (byteAt b 0))
-    (cond (eqb k outcomeKind) (notBelow 2 (byteAt b 8))
-    (cond (eqb k tickKind) (notBelow 2 (byteAt b 7) || notBelow 2 (byteAt b 8))
+    (cond (eqb k outcomeKind) (notBelow flags (byteAt b 8))
+    (cond (eqb k tickKind) (notBelow flags (byteAt b 7) || notBelow flags (byteAt b 8))
     false))))
 
 -- row 6, of settings: a size outside its range

@@ -134,7 +134,7 @@ decisionCode Retune = 2
 unfoldable pub decisionOf : ℕ → AckDecision
 decisionOf n = cond (eqb n (decisionCode Resume)) Resume (cond (eqb n (decisionCode Abort)) Abort Retune)
 
--- how many cases there are of each that settings give by its number
+-- how many cases there are of each that comes in by its number
 abbrev pub modes : ℕ
 modes = 2
 
@@ -146,6 +146,13 @@ clampModes = 2
 
 abbrev pub rearmPolicies : ℕ
 rearmPolicies = 2
+
+abbrev pub decisions : ℕ
+decisions = 3
+
+-- a flag is 0 or 1
+abbrev pub flags : ℕ
+flags = 2
 
 -- the states in which the fuse stops the robot: Braking, Held, Escalated, Fault, Terminated
 -- (state.rs, is_stop)

@@ -21,7 +21,7 @@ pub enum ActionKind {
 }
 
 // How many action kinds there are.
-pub const KINDS: u8 = 5;
+pub const ACTION_KINDS: u8 = 5;
 
 // What a delivered chunk says of itself. Its values come beside it, as a slice.
 pub struct ChunkHead {

@@ -2,7 +2,7 @@
 ghost use mathlib.Core.Path.{_≡_};
 ghost use lib.Ieee.{isNan};
 ghost use Rattle.lictor_settings.specs.Settings.{outside as Spec·outside, badCode, badSize, badFloat, crossedOf, badBox, checkOf, checkNumber, configOf};
-use lictor_core::chunk::KINDS;
+use lictor_core::chunk::ACTION_KINDS;
 use lictor_core::chunk::kind_of;
 use lictor_core::envelope::CLAMP_MODES;
 use lictor_core::envelope::FuseConfig;
@@ -41,7 +41,7 @@ fn bad_code(s: Settings) -> bool
     if MODES <= s.mode {
         return true;
     }
-    if KINDS <= s.kind {
+    if ACTION_KINDS <= s.kind {
         return true;
     }
     if CLAMP_MODES <= s.clamp {

@@ -40,8 +40,8 @@ unfoldable pub standstillOf : FuseConfig → List Float → Bool
 standstillOf cfg vel = isObserve (cfg .mode) || slowOf cfg vel
 
 -- a chunk came, and no trip is left of the outcome's
-unfoldable pub chunkOk : Bool → ℕ → Bool
-chunkOk boundary trips = boundary && eqb trips 0
+unfoldable pub chunkPasses : Bool → ℕ → Bool
+chunkPasses boundary trips = boundary && eqb trips 0
 
 -- the score's hit goes into the window; enough hits in it are predictive
 unfoldable pub scoredOf : FuseConfig → Scores → Window → Scored
@@ -58,7 +58,7 @@ findingsOf cfg boundary out w vel = record {
   trips = maskedOf (out .trips) (out .feasible) (cfg .«tier0_enabled»);
   scored = scoredOf cfg (out .scores) w;
   stopped = standstillOf cfg vel;
-  «chunk_ok» = chunkOk boundary (maskedOf (out .trips) (out .feasible) (cfg .«tier0_enabled»));
+  «chunk_ok» = chunkPasses boundary (maskedOf (out .trips) (out .feasible) (cfg .«tier0_enabled»));
 }
 
 -- what the state machine is asked in a clean tick

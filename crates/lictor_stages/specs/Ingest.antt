@@ -3,7 +3,7 @@
 use mathlib.Core.Bool.{Bool, true, cond}
 use mathlib.Core.List.{List}
 use Prim.Native.Nat.{ℕ, min}
-use lib.ListN.{getD, length}
+use lib.ListN.{getD}
 use lib.Ieee.{Float, nan, binary64, sub, mul}
 use Rattle.lictor_core.specs.declared.envelope.FuseConfig.{FuseConfig}
 use Rattle.lictor_core.specs.declared.fuse.Motion.{Motion}

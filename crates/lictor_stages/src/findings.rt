@@ -1,6 +1,6 @@
 // Stages 2 to 6, up to the state machine: what the outcome and the motion mean under the settings.
 ghost use mathlib.Core.Path.{_≡_};
-ghost use Rattle.lictor_stages.specs.Findings.{withBrake, maskedOf, warnOf, slowOf, standstillOf, chunkOk, scoredOf, findingsOf, machineInput};
+ghost use Rattle.lictor_stages.specs.Findings.{withBrake, maskedOf, warnOf, slowOf, standstillOf, chunkPasses, scoredOf, findingsOf, machineInput};
 use lictor_core::envelope::FuseConfig;
 use lictor_core::envelope::is_project;
 use lictor_core::fuse::TickInput;
@@ -77,7 +77,7 @@ fn standstill(cfg: FuseConfig, vel: [f64; 8]) -> bool
 }
 
 fn is_chunk_ok(boundary: bool, trips: u32) -> bool
-    ensures { λ r. ⌜ r ≡ chunkOk boundary trips ⌝ }
+    ensures { λ r. ⌜ r ≡ chunkPasses boundary trips ⌝ }
 {
     if boundary {
         return trips == 0;

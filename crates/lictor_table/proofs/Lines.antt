@@ -4,7 +4,7 @@ use mathlib.Core.List.{List, [], _∷_}
 use lib.Dec.{T}
 use Rattle.lictor_core.specs.FirstThat.{firstThat}
 use Rattle.lictor_table.specs.declared.Turn.{Turn}
-use Rattle.lictor_table.specs.Table.{Facts, Line, applies, does, firstOf}
+use Rattle.lictor_table.specs.Table.{Facts, TableLine, applies, does, firstOf}
 
 -- ---- a law of each line is a law of the table
 
@@ -21,11 +21,11 @@ by-bool P false s t f g = g
 
 infixr 40 _⨾_
 -- P of what each line of the list does, where it applies
-pub data Lines (P : Turn → Type 0) (x : Facts) : List Line → Type 0 where
+pub data Lines (P : Turn → Type 0) (x : Facts) : List TableLine → Type 0 where
   done : Lines P x []
-  _⨾_ : {l : Line} {ls : List Line} → (T (applies l x) → P (does l x)) → Lines P x ls → Lines P x (l ∷ ls)
+  _⨾_ : {l : TableLine} {ls : List TableLine} → (T (applies l x) → P (does l x)) → Lines P x ls → Lines P x (l ∷ ls)
 
-pub by-lines : (P : Turn → Type 0) (none : Turn) (x : Facts) (ls : List Line) → P none → Lines P x ls → P (firstOf none ls x)
+pub by-lines : (P : Turn → Type 0) (none : Turn) (x : Facts) (ls : List TableLine) → P none → Lines P x ls → P (firstOf none ls x)
 unfolding firstThat
 by-lines P none x [] p done = p
 by-lines P none x (l ∷ ls) p (f ⨾ fs) = by-test P (applies l x) (does l x) (firstOf none ls x) f (λ h. by-lines P none x ls p fs)

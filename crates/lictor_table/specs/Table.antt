@@ -62,7 +62,7 @@ Reason = Facts → ReasonCode
 abbrev pub Change : Type 0
 Change = Facts → Control → Control
 
-pub record Line : Type 0 where
+pub record TableLine : Type 0 where
   pub states : States
   pub test : Test
   pub next : FuseState
@@ -70,18 +70,18 @@ pub record Line : Type 0 where
   pub reason : Reason
   pub change : Change
 
-abbrev pub for_when_goto_bits_reason_change_ : States → Test → FuseState → ℕ → Reason → Change → Line
+abbrev pub for_when_goto_bits_reason_change_ : States → Test → FuseState → ℕ → Reason → Change → TableLine
 for_when_goto_bits_reason_change_ s t q b w c = record { states = s; test = t; next = q; extra = b; reason = w; change = c }
 
-abbrev pub applies : Line → Facts → Bool
+abbrev pub applies : TableLine → Facts → Bool
 applies l x = l .states (x .from) && l .test x
 
-abbrev pub does : Line → Facts → Turn
+abbrev pub does : TableLine → Facts → Turn
 does l x = to (l .next) (l .extra) (l .reason x) (l .change x (x .rt))
 
 -- the first line that applies decides (`none`: the answer if none does; of the table below some
 -- line always does, proofs/ByTable)
-abbrev pub firstOf : Turn → List Line → Facts → Turn
+abbrev pub firstOf : Turn → List TableLine → Facts → Turn
 firstOf none ls x = firstThat (λ l. applies l x) (λ l. does l x) none ls
 
 -- ---- states
@@ -299,7 +299,7 @@ countStreak x r = withClampStreak (upIf 8 (x .inp .«chunk_boundary») (r .«cla
 -- ---- the table
 
 -- Beside each line: its row in fsm.rs, and its place in 01-scope.md, Transitions.
-unfoldable pub table : List Line
+unfoldable pub table : List TableLine
 table =
     -- row 1; Any state
     for anyState when trip faultBits goto Fault bits 0 reason faultCause change latchUnlessFault

@@ -16,9 +16,13 @@ unfoldable pub traceUpTo : ℕ → SafetyVerdict → FuseRt → List ℕ
 traceUpTo zero v rt = []
 traceUpTo (suc k) v rt = traceUpTo k v rt ++ take lineRoom (traceText k v rt)
 
--- code 1 is the trace: the tick's line, and its lines after it; any other is the tick's line alone
+-- the code of the trace
+abbrev pub traceCode : ℕ
+traceCode = 1
+
+-- the trace: the tick's line, and its lines after it; any other code is the tick's line alone
 unfoldable pub eventText : ℕ → SafetyVerdict → FuseRt → List ℕ
-eventText code v rt = tickText v ++ cond (eqb code 1) (traceUpTo traceCount v rt) []
+eventText code v rt = tickText v ++ cond (eqb code traceCode) (traceUpTo traceCount v rt) []
 
 -- the room that the text of a tick may take: its line, and those of the trace
 abbrev pub tickRoom : ℕ

@@ -1,4 +1,4 @@
-// The lines that `fuse` prints of a margin, of the end and of a refusal.
+// The lines of `fuse`: of a margin, the end and a refusal here, of a tick in `render`.
 pub mod render; // the text of a tick, put into lent memory
 
 ghost use mathlib.Core.Path.{_≡_};

@@ -16,11 +16,11 @@ use text::push_float;
 use text::push_hex;
 
 // The bytes of a line, those of an answer at most, and the lines that a turn takes at most.
-const LINE: usize = 17;
+const LINE_BYTES: usize = 17;
 
 const ANSWER: usize = 34;
 
-const LINES: usize = 240;
+const MOST_LINES: usize = 240;
 
 // ---- reading
 
@@ -52,7 +52,7 @@ fn digit(c: u8) -> u8
 fn read_line(s: &[u8]) -> Read
     ensures { λ r. ⌜ r ≡ patternOf (now (s .entry)) ⌝ }
 {
-    if s.len() != LINE {
+    if s.len() != LINE_BYTES {
         return Read::Bad;
     }
     if s[16] != b'\n' {
@@ -124,7 +124,7 @@ fn answer(s: &[u8], out: &mut [u8]) -> Done
     let mut at: usize = 0;
     let mut written: usize = 0;
     while at < s.len() {
-        let end = least(at + LINE, s.len());
+        let end = least(at + LINE_BYTES, s.len());
         let done = answer_line(&s[at..end], out, written);
         let bad = done.bad;
         written = done.n;
@@ -134,7 +134,7 @@ fn answer(s: &[u8], out: &mut [u8]) -> Done
                 bad: true,
             };
         }
-        at += LINE;
+        at += LINE_BYTES;
     }
     Done {
         n: written,
@@ -145,19 +145,19 @@ fn answer(s: &[u8], out: &mut [u8]) -> Done
 // ---- the program
 
 // Room for the lines of a turn, and for their answers.
-fn line_space() -> [u8; LINES * LINE]
+fn line_space() -> [u8; MOST_LINES * LINE_BYTES]
     ensures { λ r. ⌜ turnLines * lineBytes ≡ length r ⌝ }
 {
-    [0; LINES * LINE]
+    [0; MOST_LINES * LINE_BYTES]
 }
 
-fn answer_space() -> [u8; LINES * ANSWER]
+fn answer_space() -> [u8; MOST_LINES * ANSWER]
     ensures { λ r. ⌜ turnLines * answerBytes ≡ length r ⌝ }
 {
-    [0; LINES * ANSWER]
+    [0; MOST_LINES * ANSWER]
 }
 
-// Reads and answers up to LINES lines, and says whether to go on.
+// Reads and answers up to MOST_LINES lines, and says whether to go on.
 fn turn() -> bool {
     let mut lines = line_space();
     let n = io::read_full(0, &mut lines);

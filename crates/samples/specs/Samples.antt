@@ -10,16 +10,21 @@ use Rattle.lictor_core.specs.declared.envelope.Hysteresis.{Hysteresis}
 use Rattle.lictor_core.specs.declared.envelope.Settings.{Settings}
 use Rattle.lictor_core.specs.declared.fuse.TickInput.{TickInput}
 use Rattle.lictor_core.specs.declared.outcome.Outcome.{Outcome}
+use Rattle.lictor_core.specs.declared.chunk.ActionKind.the-variants.{EePosition}
+use Rattle.lictor_core.specs.declared.envelope.ClampMode.the-variants.{Project}
+use Rattle.lictor_core.specs.declared.envelope.RearmPolicy.the-variants.{AckOnly}
+use Rattle.lictor_core.specs.declared.state.FuseMode.the-variants.{Enforce}
+use Rattle.lictor_core.specs.Codes.{modeCode, kindCode, clampCode, rearmCode}
 use Rattle.lictor_core.specs.Initial.{zeroFloat, zeros}
 
 -- Enforce, EePosition, clamping on, AckOnly, one component, chunks of one row, no calibration.
 -- The limits, the window's mask, the trips that are enabled, one float for dt, inv_dt and a_max.
 abbrev pub sampleSettings : Hysteresis → (windowMask tier0 : ℕ) → Float → Settings
 sampleSettings limits windowMask tier0 unit = record {
-  mode = 1;
-  kind = 0;
-  clamp = 1;
-  rearm = 1;
+  mode = modeCode Enforce;
+  kind = kindCode EePosition;
+  clamp = clampCode Project;
+  rearm = rearmCode AckOnly;
   dim = 1;
   «pos_dim» = 1;
   horizon = 1;

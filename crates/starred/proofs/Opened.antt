@@ -20,7 +20,7 @@ use Rattle.lictor_tally.specs.History.{recorded}
 use Rattle.lictor_tally.specs.Tally.{count, bitOf, countBit, eachFrom, countBits, first, firstReason, mostAt, mostLive, recordOf, recordChunk}
 use Rattle.lictor_stages.specs.Act.{statusOf, sourceOf, cutRow, passedOf, insteadOf, enforcedOf, byMode, actOf}
 use Rattle.lictor_stages.specs.Ingest.{stepRate, ratesRow, stillRow, velocityOf, ingestOf}
-use Rattle.lictor_stages.specs.Findings.{withBrake, maskedOf, warnOf, slowOf, standstillOf, chunkOk, scoredOf, findingsOf, machineInput}
+use Rattle.lictor_stages.specs.Findings.{withBrake, maskedOf, warnOf, slowOf, standstillOf, chunkPasses, scoredOf, findingsOf, machineInput}
 use Rattle.lictor_stages.specs.Verdict.{liveValid, scoresOf, disarmedScores, actionDim, enteredOf, handoffOf, hasAck, consumedFlag, verdictOf, eventsOf, rejectedOf}
 use Rattle.lictor_fuse.specs.Decide.{decideBy, decideOf}
 use Rattle.lictor_fuse.specs.CleanTick.{nextChunk, cleanClock, readyOf, chunkTally, closeClean, cleanTick}
@@ -59,7 +59,7 @@ unfolding
     count bitOf countBit eachFrom countBits first firstReason mostAt mostLive recordOf recordChunk
     statusOf sourceOf cutRow passedOf insteadOf enforcedOf byMode actOf
     takenRow stepRate ratesRow stillRow velocityOf ingestOf isFit withPos faultMotion
-    withBrake maskedOf warnOf slowOf standstillOf chunkOk scoredOf findingsOf machineInput faultInput
+    withBrake maskedOf warnOf slowOf standstillOf chunkPasses scoredOf findingsOf machineInput faultInput
     liveValid scoresOf disarmedScores actionDim enteredOf handoffOf hasAck consumedFlag verdictOf faultVerdict
     eventsOf noEvents rejectedOf
     closedOf nextChunk cleanClock readyOf chunkTally closeClean cleanTick faultClock closeFault faultTick
