@@ -36,10 +36,8 @@ fn boxed(row: [f64; 8], lo: [f64; 8], hi: [f64; 8], live: usize, n: usize) -> [f
 {
     let mut out = no_row();
     let mut at: usize = 0;
-    while at < 8 {
-        if at < n {
-            out[at] = boxed_component(row, lo, hi, live, at);
-        }
+    while at < n {
+        out[at] = boxed_component(row, lo, hi, live, at);
         at += 1;
     }
     out
@@ -59,10 +57,8 @@ fn scaled(row: [f64; 8], k: f64, live: usize, n: usize) -> [f64; 8]
 {
     let mut out = no_row();
     let mut at: usize = 0;
-    while at < 8 {
-        if at < n {
-            out[at] = scaled_component(row, k, live, at);
-        }
+    while at < n {
+        out[at] = scaled_component(row, k, live, at);
         at += 1;
     }
     out

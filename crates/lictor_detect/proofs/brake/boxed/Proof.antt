@@ -1,20 +1,19 @@
 use Prim.Native.Nat.{_≤_, _-_, min}
-use mathlib.Core.Path.{_≡_, sym}
-use mathlib.Core.Logic.{⊎-elim}
+use mathlib.Core.Path.{_≡_, refl, sym}
 use native.Mathlib.Omega.{arith}
 use Rattle.lictor_core.specs.Rows.{rowTo}
 use Rattle.lictor_core.specs.Initial.{zeros}
-use Rattle.lictor_core.proofs.RowLaws.{row-start, row-took, row-left, row-done}
+use Rattle.lictor_core.proofs.RowLaws.{row-start, row-took, row-done}
 use Rattle.lictor_detect.specs.Brake.{boxedRow, boxedComponent}
 use borrow.Author.Needs.{needs}
 use Rattle.lictor_detect.proofs.brake.boxed.Statement.{statement}
 use Rattle.lictor_detect.proofs.brake.boxed.Tie as tie
 
 abbrev Inv-loop : tie.InvT-loop
-Inv-loop row lo hi live n h₀ c₀ h c = (c ≤ 8) × (h₀ ≡ zeros 8) × (h ≡ rowTo (boxedComponent row lo hi live) h₀ (min c n))
+Inv-loop row lo hi live n h₀ c₀ h c = (c ≤ n) × (h₀ ≡ zeros 8) × (h ≡ rowTo (boxedComponent row lo hi live) h₀ (min c n))
 
 abbrev μ-loop : tie.MeasureT-loop
-μ-loop row lo hi live n h₀ c₀ h c = 8 - c
+μ-loop row lo hi live n h₀ c₀ h c = n - c
 
 no-row-requires : tie.Need-no-row-requires Inv-loop μ-loop
 no-row-requires c κs = search needs
@@ -40,7 +39,7 @@ loop-less c = search needs
 loop-again : tie.Need-loop-again Inv-loop μ-loop
 loop-again c =
     let inv = c .before .before .loop .inv in
-    (search needs, inv .1, ⊎-elim (λ w. row-took _ _ (inv .2) (w .0 .taken) (w .1 .ensures) (w .2)) (λ w. row-left _ _ (inv .2) (w .0 .left) (w .1)) (c .if1 .came))
+    (search needs, inv .1, row-took _ _ (inv .2) (c .before .loop-test .taken) (c .boxed-component .ensures) refl)
 
 returns : tie.Need-returns Inv-loop μ-loop
 unfolding boxedRow
