@@ -1,23 +1,30 @@
 -- Text put after text.
-use Prim.Native.Nat.{ℕ, _≤_, _+_}
+use Prim.Native.Nat.{ℕ, _≤_, _<_, _+_}
 use mathlib.Core.Path.{_≡_, refl, sym, ap, ap₂, _∙_}
 use mathlib.Core.List.{List, [], _++_, append-assoc}
 use native.Mathlib.Omega.{arith}
+use borrow.Author.Tests.{le-leb, lt-leb}
 use lib.ListN.{length, take, drop, length-append}
-use lib.Seq.{paste, paste-zero, take-paste, drop-paste, take-length, length-paste-head, length-take-le, drop-drop, take-take}
-use Rattle.text.specs.Memory.{Put}
+use lib.Seq.{paste, paste-zero, take-paste, drop-paste, take-length, length-paste-head, drop-drop}
+use Rattle.text.specs.Memory.{Put, placePut, memoryPut}
 
 pub put-none : (out : List ℕ) (n : ℕ) → Put out n [] n out
 put-none out n = record { ends = (let e : n ≡ n + 0 = omega arith in e); memory = paste-zero out n [] }
 
--- the first k bytes of a text
-pub put-part : (out : List ℕ) (n : ℕ) (text : List ℕ) (k : ℕ) (out' : List ℕ) → k ≤ length text → out' ≡ paste out n text k → Put out n (take k text) (n + k) out'
-put-part out n text k out' h e =
-    let l = length-take-le k text h in
-    record {
-      ends = ap (λ (j : ℕ). n + j) (sym l);
-      memory = e ∙ rw l (ap (λ (s : List ℕ). take n out ++ s ++ drop (n + k) out) (sym (take-take k k text (omega arith))));
-    }
+-- where there is no room for s, and where there is
+module _ (out : List ℕ) (n : ℕ) (s : List ℕ) where
+  pub not-put : length out < n + length s → (n ≡ placePut (length out) n s) × (out ≡ memoryPut out n s)
+  unfolding placePut memoryPut
+  not-put h = rw (lt-leb (n + length s) (length out) h) (refl, refl)
+
+  pub all-put : n + length s ≤ length out → (out' : List ℕ) → out' ≡ paste out n s (length s) → (n + length s ≡ placePut (length out) n s) × (out' ≡ memoryPut out n s)
+  unfolding placePut memoryPut
+  all-put h out' e = rw (le-leb (n + length s) (length out) h) (refl, e)
+
+  -- what a caller learns who saw to the room
+  pub put-there : n + length s ≤ length out → (r : ℕ) (out' : List ℕ) → (r ≡ placePut (length out) n s) × (out' ≡ memoryPut out n s) → Put out n s r out'
+  unfolding placePut memoryPut
+  put-there h r out' p = let y = le-leb (n + length s) (length out) h in record { ends = rw y at (p .0); memory = rw y at (p .1) }
 
 -- what is at the front then
 pub put-shows : (out : List ℕ) (n : ℕ) (s : List ℕ) (r : ℕ) (out' : List ℕ) → n ≤ length out → Put out n s r out' → take r out' ≡ take n out ++ s

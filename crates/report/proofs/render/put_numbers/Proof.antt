@@ -4,7 +4,7 @@ use mathlib.Core.Path.{_≡_, ap}
 use native.Mathlib.Omega.{arith}
 use lib.ListN.{length}
 use borrow.Author.Needs.{needs}
-use Rattle.text.proofs.Puts.{put-on}
+use Rattle.text.proofs.Puts.{put-on, put-there}
 use Rattle.report.proofs.render.put_numbers.Statement.{statement}
 use Rattle.report.proofs.render.put_numbers.Tie as tie
 
@@ -22,17 +22,22 @@ slice-aggregate-put-fields c = search needs
 
 put-fields-requires : tie.Need-put-fields-requires
 put-fields-requires c κs =
-    let p = c .before .before .before .before .put in
-    let six : length (c .before .before .before .before .before .before .before .numbers-in .result) ≡ 6 = ap length (c .before .before .before .before .before .before .before .numbers-in .ensures) in
-    omega (arith, six, p .ensures .ends, p .kept .0, c .before .before .before .before .before .before .before .before .before .pre)
+    let start = c .before .before .before .before .before .before .before .before .before in
+    let numbers = c .before .before .before .before .before .before .before .numbers-in in
+    let six : length (numbers .result) ≡ 6 = ap length (numbers .ensures) in
+    let tick = c .before .before .before .before .put in
+    let p = put-there _ _ _ (omega (arith, start .pre)) _ _ (tick .ensures) in
+    omega (arith, six, p .ends, tick .kept .0, start .pre)
 
 same-length : tie.Need-same-length
 same-length c = search needs
 
 returns : tie.Need-returns
 returns c =
+    let start = c .before .before .before .before .before .before .before .before .before .before .before .before in
     let numbers = c .before .before .before .before .before .before .before .before .before .before .numbers-in .ensures in
-    put-on _ _ _ _ _ _ _ _ (omega (arith, c .before .before .before .before .before .before .before .before .before .before .before .before .pre)) (c .before .before .before .before .before .before .before .put .ensures) (rw numbers at (c .before .before .put-fields .ensures))
+    let p = put-there _ _ _ (omega (arith, start .pre)) _ _ (c .before .before .before .before .before .before .before .put .ensures) in
+    put-on _ _ _ _ _ _ _ _ (omega (arith, start .pre)) p (rw numbers at (c .before .before .put-fields .ensures))
 
 pub put-numbers-spec : {M : Type 1} → statement M
 put-numbers-spec =

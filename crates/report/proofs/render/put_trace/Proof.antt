@@ -1,8 +1,10 @@
 use Prim.Native.Nat.{_≤_, _-_}
 use mathlib.Core.Path.{_≡_, _∙_}
 use native.Mathlib.Omega.{arith}
-use lib.ListN.{length}
+use lib.ListN.{length, length-take}
 use borrow.Author.Needs.{needs}
+use Rattle.text.specs.Line.{lineRoom}
+use Rattle.text.proofs.Puts.{put-there}
 use Rattle.trace_text.specs.Trace.{traceCount}
 use Rattle.report.proofs.Laws.{Traced, traced-none, traced-more, line-most}
 use Rattle.report.proofs.render.put_trace.Statement.{statement}
@@ -21,9 +23,7 @@ trace-line-requires : tie.Need-trace-line-requires Inv-loop μ-loop
 trace-line-requires c κs = search needs
 
 put-line-requires : tie.Need-put-line-requires Inv-loop μ-loop
-put-line-requires c κs =
-    let m = c .before .before .before .loop .inv in
-    (omega (arith, m .few, m .long), rw (c .trace-line .ensures) (line-most _))
+put-line-requires c κs = search needs
 
 add-k : tie.Need-add-k Inv-loop μ-loop
 add-k c = search needs
@@ -33,8 +33,12 @@ loop-less c = search needs
 
 loop-again : tie.Need-loop-again Inv-loop μ-loop
 loop-again c =
-    traced-more _ _ _ _ _ _ _ _ _ _ (omega arith) (omega arith) (c .before .before .put-line .kept .0) (c .before .before .before .trace-line .ensures)
-    (c .before .before .put-line .ensures) (c .before .before .before .before .before .before .loop .inv)
+    let m = c .before .before .before .before .before .before .loop .inv in
+    let line = c .before .before .before .trace-line in
+    let put = c .before .before .put-line in
+    let most : line .result .n ≤ lineRoom = rw (line .ensures) (line-most _) in
+    let p = put-there _ _ _ (omega (arith, m .few, m .long, most, length-take (line .result .n) (line .result .text))) _ _ (put .ensures) in
+    traced-more _ _ _ _ _ _ _ _ _ _ (omega arith) (omega arith) (put .kept .0) (line .ensures) p m
 
 same-length : tie.Need-same-length Inv-loop μ-loop
 same-length c = c .before .loop .inv .long
