@@ -1,12 +1,11 @@
 #!/usr/bin/env python3
 """Builds the Rust reference, the programs that compare with it, and the check of its edits into target/differential.
 
-    build.py [--src DIR] [--out DIR] [--fast] [--variant NAME ..]
+    build.py [--src DIR] [--out DIR] [--fast]
 
---src      folder of the Rust sources, with crates/ in it (default: ../shared/docs/src beside the repository)
---out      where to build (default: target/differential)
---fast     without debug assertions and overflow checks, for measuring speed
---variant  another rule than the fuse has now, see edits.py
+--src   folder of the Rust sources, with crates/ in it (default: ../shared/docs/src beside the repository)
+--out   where to build (default: target/differential)
+--fast  without debug assertions, overflow checks and the rules of edits.py, for measuring speed
 """
 
 import argparse
@@ -133,9 +132,11 @@ class Builder:
 
 
 def stubs() -> list:
+    """What the Rust uses and is not among the sources, and the rules that an edit asks for."""
     return [
         Crate("serde", RUST / "stubs" / "serde.rs", "proc-macro", []),
         Crate("libm", RUST / "stubs" / "libm.rs", "rlib", []),
+        Crate("rules", RUST / "rules" / "lib.rs", "rlib", []),
     ]
 
 
@@ -143,7 +144,7 @@ def lictor(src: pathlib.Path) -> list:
     """The three crates of the Rust from assembled and edited sources, and the outcome record that the edits bring in."""
     uses = ["lictor_core", "lictor_detect", "outcome"]
     return [
-        Crate("lictor_core", src / "lictor-core" / "src" / "lib.rs", "rlib", ["serde", "libm"]),
+        Crate("lictor_core", src / "lictor-core" / "src" / "lib.rs", "rlib", ["serde", "libm", "rules"]),
         Crate("lictor_detect", src / "lictor-detect" / "src" / "lib.rs", "rlib", ["lictor_core"]),
         Crate("outcome", RUST / "outcome" / "lib.rs", "rlib", ["lictor_core"]),
         Crate("lictor_fuse", src / "lictor-fuse" / "src" / "lib.rs", "rlib", uses),
@@ -153,7 +154,7 @@ def lictor(src: pathlib.Path) -> list:
 def reference(folder: pathlib.Path) -> list:
     """The reference as a library, and the program over it."""
     return [
-        Crate("oracle", folder / "lib.rs", "rlib", ["lictor_core", "lictor_fuse", "outcome"]),
+        Crate("oracle", folder / "lib.rs", "rlib", ["lictor_core", "lictor_fuse", "outcome", "rules"]),
         Crate("reference", folder / "main.rs", "bin", ["oracle", "lictor_core"]),
     ]
 
@@ -165,7 +166,7 @@ def comparison() -> list:
     return [
         Crate("generate", RUST / "generate" / "lib.rs", "rlib", uses),
         Crate("coverage", RUST / "coverage" / "lib.rs", "rlib", uses),
-        Crate("compare", RUST / "compare" / "main.rs", "bin", more),
+        Crate("compare", RUST / "compare" / "main.rs", "bin", more + ["rules"]),
         Crate("sample", RUST / "sample" / "main.rs", "bin", more),
         Crate("cases", RUST / "cases" / "main.rs", "bin", more),
     ]
@@ -181,17 +182,14 @@ def unedited(src: pathlib.Path) -> list:
         Crate("detectors", detect, "rlib", ["lictor_core"]),
         Crate("lictor_detect", RUST / "unedited" / "recording.rs", "rlib", ["lictor_core", "detectors"]),
         Crate("lictor_fuse", src / "lictor-fuse" / "src" / "lib.rs", "rlib", uses),
-        Crate("unedited", RUST / "unedited" / "main.rs", "bin", uses + ["lictor_fuse"]),
+        Crate("unedited", RUST / "unedited" / "main.rs", "bin", uses + ["lictor_fuse", "rules"]),
     ]
 
 
-def build(src: pathlib.Path, out: pathlib.Path, flags: list, variants: list) -> Builder:
+def build(src: pathlib.Path, out: pathlib.Path, flags: list) -> Builder:
     """Everything, into `out`."""
     builder = Builder(out, flags)
-    todo = list(edits.REFERENCE)
-    for name in variants:
-        todo += edits.VARIANTS[name]
-    assemble(src, out / "src", todo)
+    assemble(src, out / "src", edits.REFERENCE + ([] if flags == FAST else edits.RULES))
     for crate in stubs() + lictor(out / "src") + reference(RUST / "reference") + comparison():
         builder.make(crate)
     return builder
@@ -211,13 +209,11 @@ def main() -> int:
     args.add_argument("--src", type=pathlib.Path, default=DEFAULT_SRC)
     args.add_argument("--out", type=pathlib.Path, default=DEFAULT_OUT)
     args.add_argument("--fast", action="store_true")
-    args.add_argument("--variant", action="append", default=[], choices=sorted(edits.VARIANTS))
     given = args.parse_args()
     try:
         flags = FAST if given.fast else CHECKED
-        build(given.src, given.out, flags, given.variant)
-        if not given.variant:
-            build_unedited(given.src, given.out, flags)
+        build(given.src, given.out, flags)
+        build_unedited(given.src, given.out, flags)
     except Missing as what:
         print(what, file=sys.stderr)
         return 3

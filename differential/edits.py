@@ -1,7 +1,8 @@
 """The scripted edits that turn the published Rust into the reference of 01-scope.md.
 
-Every file is taken as it was published, except chunk.rs (sizes) and fuse.rs (the outcome record). An edit replaces a text
-that must occur exactly once; where it does not, the build stops and says which edit no longer fits.
+Every file is taken as it was published, except chunk.rs (sizes), fuse.rs (the outcome record) and fmath.rs (a rule that is off
+unless it is asked for). An edit replaces a text that must occur exactly once; where it does not, the build stops and says which
+edit no longer fits.
 """
 
 from typing import NamedTuple
@@ -196,25 +197,18 @@ OUTCOME = [
 
 REFERENCE = SIZES + OUTCOME
 
-# Other rules than the fuse has now, for a reference that follows them (`build.py --variant NAME`): what a change of a rule is compared with.
-VARIANTS = {
-    "max-ignores-nan": [
-        Edit(
-            FMATH,
-            "the larger of two numbers ignores a NaN",
-            """    if a > b {
-        a""",
-            """    if a > b || b.is_nan() {
-        a""",
-        ),
-    ],
-    "reset-keeps-nonces": [
-        Edit(
-            FUSE,
-            "reset keeps the stored nonces",
-            """        self.last_nonce = [0; MAX_OPERATORS];
-        self.tally""",
-            """        self.tally""",
-        ),
-    ],
-}
+# Rules that are turned on by name (rust/rules) and are off otherwise. Where speed is measured they are left out.
+RULES = [
+    Edit(
+        FMATH,
+        "the larger of a number and a NaN is the number, by the rule max-ignores-nan",
+        """    if a > b {
+        a
+    } else {""",
+        """    if a > b {
+        a
+    } else if b.is_nan() && !a.is_nan() && rules::applies(rules::Rule::MaxIgnoresNan) {
+        a
+    } else {""",
+    ),
+]

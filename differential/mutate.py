@@ -126,7 +126,7 @@ def main() -> int:
     args.add_argument("--seeds", type=int, default=20)
     given = args.parse_args()
     try:
-        good = build.build(given.src, build.DEFAULT_OUT, build.CHECKED, [])
+        good = build.build(given.src, build.DEFAULT_OUT, build.CHECKED)
     except build.Missing as what:
         print(f"differential: SKIPPED, no mutant was made: {what}")
         return 0

@@ -1,7 +1,9 @@
--- The case of 01-scope.md without a star: last t 4294967295. What the ticks of the program are given, and its lines.
+-- The case of 01-scope.md without a star, last t 4294967295:
+-- what the program's ticks are given, and the names of its lines.
 use Prim.Native.Nat.{ℕ}
 use mathlib.Core.Bool.{true, false}
 use mathlib.Core.List.{List, [], _∷_, _++_}
+use lib.Ieee.{Float}
 use Rattle.text.specs.Ascii.{ascii}
 use Rattle.text.specs.Number.{decimalOf}
 use Rattle.lictor_core.specs.declared.ack.MaybeAck.the-variants.{NoAck}
@@ -10,14 +12,14 @@ use Rattle.lictor_core.specs.declared.chunk.MaybeChunk.the-variants.{NoChunk, D
 use Rattle.lictor_core.specs.declared.envelope.Hysteresis.{Hysteresis}
 use Rattle.lictor_core.specs.declared.envelope.Settings.{Settings}
 use Rattle.lictor_core.specs.declared.fuse.FuseRt.{FuseRt}
-use Rattle.lictor_core.specs.declared.fuse.TickInput.{TickInput}
-use Rattle.lictor_core.specs.declared.outcome.Outcome.{Outcome}
-use Rattle.lictor_core.specs.declared.verdict.SafetyVerdict.{SafetyVerdict}
-use Rattle.lictor_core.specs.Initial.{zeroFloat, zeros, newOf, resetOf}
+use Rattle.lictor_core.specs.Initial.{zeroFloat, newOf, resetOf}
+use Rattle.lictor_fuse.specs.declared.Ticked.{Ticked}
 use Rattle.lictor_fuse.specs.Tick.{tickOf}
+use Rattle.samples.specs.Samples.{sampleSettings, sampleOutcome, sampleInput, sampleChunk}
 
-unfoldable pub limits : Hysteresis
-limits = record {
+-- No limit is in the way, and any number of ticks may be missed.
+unfoldable pub wideLimits : Hysteresis
+wideLimits = record {
   k = 1;
   «warn_margin» = zeroFloat;
   «clear_ticks» = 1;
@@ -33,49 +35,24 @@ limits = record {
   «watchdog_ticks» = 255;
 }
 
-unfoldable pub settings : Settings
-settings = record {
-  mode = 1;
-  kind = 0;
-  clamp = 1;
-  rearm = 1;
-  dim = 1;
-  «pos_dim» = 1;
-  horizon = 1;
-  exec = 1;
-  dt = zeroFloat;
-  «inv_dt» = zeroFloat;
-  «a_max» = zeroFloat;
-  «box_lo» = zeros 8;
-  «box_hi» = zeros 8;
-  hyst = limits;
-  «window_mask» = 1;
-  «tier0_enabled» = 127;
-  calib = record { mask = 0; tau = zeroFloat };
-}
+unfoldable pub clockSettings : Settings
+clockSettings = sampleSettings wideLimits 1 127 zeroFloat
 
-unfoldable pub outcome : Outcome
-outcome = record {
-  trips = 0;
-  «clamped_dims» = 0;
-  feasible = true;
-  margin = zeroFloat;
-  scores = record { z = zeros 12; s = zeroFloat; valid = 0; fired = 0 };
-  policy = zeros 8;
-  clamped = zeros 8;
-}
-
-unfoldable pub input : ℕ → ℕ → MaybeChunk → TickInput
-input t missed chunk = record { t = t; idx = 0; «missed_ticks» = missed; «schema_fault» = false; «has_vel» = false; chunk = chunk; ack = NoAck }
+-- a tick after r, with or without a chunk and its values; nothing trips
+unfoldable pub clockTick : FuseRt → (t missed : ℕ) → MaybeChunk → List Float → Ticked
+clockTick r t missed chunk values =
+    tickOf clockSettings r (sampleInput t missed false chunk NoAck) (sampleOutcome 0 true zeroFloat)
+    (zeroFloat ∷ []) [] [] [] values
 
 -- after a reset, a tick at `last`
-unfoldable pub firstOf : ℕ → FuseRt
-firstOf last = tickOf settings (resetOf newOf) (input last 0 NoChunk) outcome (zeroFloat ∷ []) [] [] [] [] .rt
+unfoldable pub clockAt : (last : ℕ) → FuseRt
+clockAt last = clockTick (resetOf newOf) last 0 NoChunk [] .rt
 
--- the tick behind it, with a chunk that begins at its t
-unfoldable pub afterOf : ℕ → ℕ → ℕ → SafetyVerdict
-afterOf last missed t =
-    tickOf settings (firstOf last) (input t missed (Delivered (record { seq = 0; «t_emit» = t; horizon = 1; dim = 1; «exec_steps» = 1 }))) outcome (zeroFloat ∷ []) [] [] [] (zeroFloat ∷ []) .verdict
+-- the tick after it, with a chunk that begins at its t
+unfoldable pub tickAfter : (last missed t : ℕ) → Ticked
+tickAfter last missed t = clockTick (clockAt last) t missed (Delivered (sampleChunk t)) (zeroFloat ∷ [])
 
-unfoldable pub nameText : ℕ → ℕ → ℕ → List ℕ
-nameText last missed t = ascii "last t " ++ decimalOf last ++ ascii ", missed " ++ decimalOf missed ++ ascii ", t " ++ decimalOf t ++ ascii ": "
+unfoldable pub nameText : (last missed t : ℕ) → List ℕ
+nameText last missed t =
+    ascii "last t " ++ decimalOf last ++ ascii ", missed " ++ decimalOf missed
+    ++ ascii ", t " ++ decimalOf t ++ ascii ": "

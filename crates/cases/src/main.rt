@@ -1,15 +1,22 @@
-// Runs the case of 01-scope.md that has no star, and writes a line for each tick: its name, and the line of `fuse` for it.
+// Runs the case of 01-scope.md that has no star, and writes a line for each tick:
+// its name, and the line of `fuse` for it.
 //
 //     last t at its end: the next tick's SCHEMA, for many values of its t
 //
-// Each line starts anew: a reset, a tick that only sets the clock (it brings no chunk, and so is a fault tick), and a tick that nothing is wrong with but,
-// where there is no next t, its t. The lines that begin with another last t show that such a tick passes (trips 0).
-// What is expected, the file `stdout`, was written by the second program, the Rust: `differential/sample DIR --store` (differential/README.md).
-// The other case that is executed, roots against IEEE 754, is the program `roots`; `clock-ends` in `claims` says the case over all t.
+// Each line starts anew: a reset, a tick that only sets the clock (it brings no chunk, and so is a
+// fault tick), and a tick with which nothing is wrong but, where there is no next t, its t.
+// The lines that begin with another last t show that such a tick passes (trips 0).
+// What is expected, the file `stdout`, was written by the second program, the Rust:
+// `differential/sample DIR --store` (differential/README.md).
+// The other case that is executed, roots against IEEE 754, is the program `roots`;
+// `clock-ends` in `claims` says the case over all t.
 ghost use mathlib.Core.Path.{_≡_};
+ghost use mathlib.Core.Bool.{true, false};
 ghost use Rattle.text.specs.Line.{lineOf};
-ghost use Rattle.lictor_core.specs.Initial.{zeros};
-ghost use Rattle.cases.specs.Cases.{nameText, limits as limitsOf, settings as settingsOf, outcome as outcomeOf, input as inputOf, firstOf, afterOf};
+ghost use Rattle.lictor_core.specs.declared.ack.MaybeAck.the-variants.{NoAck};
+ghost use Rattle.lictor_core.specs.Initial.{zeroFloat, zeros};
+ghost use Rattle.samples.specs.Samples.{sampleOutcome, sampleInput};
+ghost use Rattle.cases.specs.Cases.{nameText, wideLimits, clockSettings, clockTick, clockAt, tickAfter};
 use libc::STDOUT_FILENO;
 use lictor_core::ack::MaybeAck;
 use lictor_core::chunk::ChunkHead;
@@ -20,16 +27,18 @@ use lictor_core::envelope::Settings;
 use lictor_core::fuse::FuseRt;
 use lictor_core::fuse::TickInput;
 use lictor_core::outcome::Outcome;
+use lictor_core::rows::no_row;
 use lictor_core::scores::Scores;
-use lictor_core::verdict::SafetyVerdict;
-use lictor_core::zero::no_row;
+use lictor_fuse::Ticked;
+use report::render::LINES;
+use report::render::tick_text;
 use text::Line;
 
 // ---- what a tick is given
 
 // No limit is in the way; any number of ticks may be missed.
 fn limits() -> Hysteresis
-    ensures { λ r. ⌜ r ≡ limitsOf ⌝ }
+    ensures { λ r. ⌜ r ≡ wideLimits ⌝ }
 {
     Hysteresis {
         k: 1,
@@ -50,7 +59,7 @@ fn limits() -> Hysteresis
 
 // Enforce, EePosition, one component, chunks of one row.
 fn settings() -> Settings
-    ensures { λ r. ⌜ r ≡ settingsOf ⌝ }
+    ensures { λ r. ⌜ r ≡ clockSettings ⌝ }
 {
     let hyst = limits();
     let calib = Calibration { mask: 0, tau: 0.0 };
@@ -85,7 +94,7 @@ fn no_scores() -> [f64; 12]
 
 // Nothing trips.
 fn outcome() -> Outcome
-    ensures { λ r. ⌜ r ≡ outcomeOf ⌝ }
+    ensures { λ r. ⌜ r ≡ sampleOutcome 0 true zeroFloat ⌝ }
 {
     let z = no_scores();
     let scores = Scores {
@@ -109,7 +118,7 @@ fn outcome() -> Outcome
 
 // A tick at t, with this chunk.
 fn input(t: u32, missed: u8, chunk: MaybeChunk) -> TickInput
-    ensures { λ r. ⌜ r ≡ inputOf t missed chunk ⌝ }
+    ensures { λ r. ⌜ r ≡ sampleInput t missed false chunk NoAck ⌝ }
 {
     let ack = MaybeAck::NoAck;
     TickInput {
@@ -125,14 +134,13 @@ fn input(t: u32, missed: u8, chunk: MaybeChunk) -> TickInput
 
 // ---- two ticks
 
-// The run state after the tick that sets the clock.
-fn first(last: u32) -> FuseRt
-    ensures { λ r. ⌜ r ≡ firstOf last ⌝ }
+// One tick, with or without a chunk and its values; nothing trips.
+fn clock_tick(rt: FuseRt, t: u32, missed: u8, chunk: MaybeChunk, values: &[f64]) -> Ticked
+    ensures { λ r. ⌜ r ≡ clockTick rt t missed chunk (now (values .entry)) ⌝ }
 {
     let nothing: [f64; 0] = [];
-    let rt = lictor_episode::reset(lictor_episode::new());
-    let inp = input(last, 0, MaybeChunk::NoChunk);
-    let d = lictor_fuse::tick::tick(
+    let inp = input(t, missed, chunk);
+    lictor_fuse::tick(
         settings(),
         rt,
         inp,
@@ -141,17 +149,25 @@ fn first(last: u32) -> FuseRt
         &nothing,
         &nothing,
         &nothing,
-        &nothing,
-    );
-    let after = d.rt;
-    after
+        values,
+    )
 }
 
-// The verdict of the tick behind it, which brings a chunk that fits its t.
-fn after(last: u32, missed: u8, t: u32) -> SafetyVerdict
-    ensures { λ r. ⌜ r ≡ afterOf last missed t ⌝ }
+// The run state after the tick that sets the clock.
+fn first(last: u32) -> FuseRt
+    ensures { λ r. ⌜ r ≡ clockAt last ⌝ }
 {
     let nothing: [f64; 0] = [];
+    let rt = lictor_fuse::episode::reset(lictor_fuse::episode::new());
+    let done = clock_tick(rt, last, 0, MaybeChunk::NoChunk, &nothing);
+    let left = done.rt;
+    left
+}
+
+// The tick after it, which brings a chunk that fits its t.
+fn after(last: u32, missed: u8, t: u32) -> Ticked
+    ensures { λ r. ⌜ r ≡ tickAfter last missed t ⌝ }
+{
     let head = ChunkHead {
         seq: 0,
         t_emit: t,
@@ -159,24 +175,12 @@ fn after(last: u32, missed: u8, t: u32) -> SafetyVerdict
         dim: 1,
         exec_steps: 1,
     };
-    let inp = input(t, missed, MaybeChunk::Delivered(head));
-    let d = lictor_fuse::tick::tick(
-        settings(),
-        first(last),
-        inp,
-        outcome(),
-        &[0.0],
-        &nothing,
-        &nothing,
-        &nothing,
-        &[0.0],
-    );
-    let v = d.verdict;
-    v
+    clock_tick(first(last), t, missed, MaybeChunk::Delivered(head), &[0.0])
 }
 
 // ---- what is written
 
+// The name of a case, with which its line begins.
 fn named(last: u32, missed: u8, t: u32) -> Line
     ensures { λ r. ⌜ r ≡ lineOf (nameText last missed t) ⌝ }
 {
@@ -186,6 +190,7 @@ fn named(last: u32, missed: u8, t: u32) -> Line
     text::push(c, b": ")
 }
 
+// Writes the first n bytes.
 fn write_part(text: &[u8], n: usize) {
     if n <= text.len() {
         io::write_all(STDOUT_FILENO, &text[..n]);
@@ -198,35 +203,42 @@ fn write(l: Line) {
     write_part(&text, n);
 }
 
-fn run(last: u32, missed: u8, t: u32) {
+// The name of a case, and the line of its second tick, which goes through `out`.
+fn run(out: &mut [u8], last: u32, missed: u8, t: u32) {
     write(named(last, missed, t));
-    write(report::lines::tick_line(after(last, missed, t)));
+    let done = after(last, missed, t);
+    let v = done.verdict;
+    let rt = done.rt;
+    let n = tick_text(LINES, v, rt, out, 0);
+    write_part(out, n);
 }
 
-// Every t that could be thought of after the last one: the next ones if the clock wrapped, the middle, its end.
+// Times to try after the last one: the next ones if the clock wrapped, the middle, its end.
 const TIMES: [u32; 8] = [0, 1, 2, 255, 2147483647, 2147483648, 4294967294, 4294967295];
 
-fn at_end(missed: u8) {
+// The ticks after the last t that there is.
+fn at_end(out: &mut [u8], missed: u8) {
     let mut i: usize = 0;
     while i < 8 {
-        run(4294967295, missed, TIMES[i]);
+        run(out, 4294967295, missed, TIMES[i]);
         i += 1;
     }
 }
 
 // The last t that there is, by missed ticks or without, and one past it.
-fn near_end() {
-    run(4294967294, 0, 4294967295);
-    run(4294967294, 0, 0);
-    run(4294967294, 1, 0);
-    run(4294967040, 254, 4294967295);
-    run(4294967040, 255, 0);
-    run(0, 0, 1);
+fn near_end(out: &mut [u8]) {
+    run(out, 4294967294, 0, 4294967295);
+    run(out, 4294967294, 0, 0);
+    run(out, 4294967294, 1, 0);
+    run(out, 4294967040, 254, 4294967295);
+    run(out, 4294967040, 255, 0);
+    run(out, 0, 0, 1);
 }
 
 fn main() {
-    at_end(0);
-    at_end(1);
-    at_end(255);
-    near_end();
+    let mut out = io::large_buffer();
+    at_end(&mut out, 0);
+    at_end(&mut out, 1);
+    at_end(&mut out, 255);
+    near_end(&mut out);
 }

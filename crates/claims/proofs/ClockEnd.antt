@@ -15,17 +15,16 @@ use Rattle.lictor_core.specs.declared.state.FuseState.the-variants.{Fault}
 use Rattle.lictor_core.specs.Masks.{anyOf, nonfinite, schema, watchdog, faultBits}
 use Rattle.lictor_settings.specs.Settings.{configOf}
 use Rattle.lictor_guard.specs.Guard.{clockBad, schemaBad, bitIf, guardOf}
-use Rattle.lictor_ingest.specs.Ingest.{faultMotion}
-use Rattle.lictor_stages.specs.Judge.{faultInput}
-use Rattle.lictor_verdict.specs.Verdict.{faultVerdict}
+use Rattle.lictor_core.specs.FirstThat.{firstThat}
 use Rattle.lictor_table.specs.declared.FsmInput.{FsmInput}
 use Rattle.lictor_table.specs.Helpers.{settledOf}
-use Rattle.lictor_table.specs.Table.{firstOf, table, nextFrom, nextOf}
-use Rattle.lictor_decide.specs.declared.Decided.{Decided}
-use Rattle.lictor_fuse.specs.declared.tick.Ticked.{Ticked}
-use Rattle.lictor_decide.specs.Decide.{closedOf, closeFault, faultTick}
+use Rattle.lictor_table.specs.Table.{table, nextFrom, nextOf}
+use Rattle.lictor_fuse.specs.declared.decide.Decided.{Decided}
+use Rattle.lictor_fuse.specs.declared.Ticked.{Ticked}
+use Rattle.lictor_fuse.specs.FaultTick.{faultMotion, faultInput, faultVerdict, closeFault, faultTick}
+use Rattle.lictor_fuse.specs.Closed.{closedOf}
 use Rattle.lictor_fuse.specs.Tick.{givenOf}
-use Rattle.claims.specs.Calls.{Call, accepted, answerOf, guardBits}
+use Rattle.claims.specs.Calls.{Call, settingsPass, tickAnswer, guardBits}
 use Rattle.claims.specs.ClockEnd.{lastTime, PastTheEnd, ClockEnds}
 use Rattle.claims.proofs.Tick.{by-call, by-guard, decided, faultTurn, guard-faults}
 
@@ -34,10 +33,10 @@ no-time : (seq last t missed : ℕ) → 0 < seq → t ≤ lastTime → lastTime 
 unfolding clockBad
 no-time seq last t missed p h k = rw (ne-eqb seq 0 (λ e. omega arith), ne-eqb (last + 1 + missed) t (λ e. omega arith)) refl
 
-or-true : (a b : Bool) → a || (b || true) ≡ true
-or-true true b = refl
-or-true false true = refl
-or-true false false = refl
+last-on : (a b : Bool) → a || (b || true) ≡ true
+last-on true b = refl
+last-on false true = refl
+last-on false false = refl
 
 -- SCHEMA stays, whatever comes beside it
 schema-stays : (a d : Bool) → T (anyOf (bitOr (bitOr (bitIf a nonfinite) (bitIf true schema)) (bitIf d watchdog)) schema)
@@ -50,13 +49,13 @@ schema-stays false false = tt
 -- a fault bit leads to Fault and adds none of its own
 row-one : (cfg : FuseConfig) (rt : Control) (pos : List Float) (inp : FsmInput) → anyOf (inp .trips) faultBits ≡ true
     → (nextOf cfg rt pos inp .state ≡ Fault) × (nextOf cfg rt pos inp .extra ≡ 0)
-unfolding nextOf nextFrom settledOf firstOf table
+unfolding nextOf nextFrom settledOf firstThat table
 row-one cfg rt pos inp e = rw e (refl, refl)
 
 module _ (r : FuseRt) (c : Call) (p : 0 < r .clock .seq) (h : c .input .t ≤ lastTime) (k : lastTime < r .clock .«last_t» + 1 + c .input .«missed_ticks») where
   finds : T (anyOf (guardBits r c) schema)
   unfolding guardBits guardOf schemaBad
-  finds = rw (no-time (r .clock .seq) (r .clock .«last_t») (c .input .t) (c .input .«missed_ticks») p h k, or-true) (schema-stays _ _)
+  finds = rw (no-time (r .clock .seq) (r .clock .«last_t») (c .input .t) (c .input .«missed_ticks») p h k, last-on) (schema-stays _ _)
 
   abbrev Faulted : Decided → Type 0
   Faulted d = T (anyOf (d .verdict .trips) schema) × (d .verdict .state ≡ Fault)
@@ -81,8 +80,8 @@ pub past-the-end : PastTheEnd
 unfolding givenOf
 past-the-end r c a p h k =
     let f = faults r c p h k in
-    let d : (T (anyOf (answerOf r c .verdict .trips) schema)) × (answerOf r c .verdict .state ≡ Fault) =
-    by-call (λ (x : Ticked). T (anyOf (x .verdict .trips) schema) × (x .verdict .state ≡ Fault)) r c (λ z. f) (λ z. absurd (T-not (accepted c) z a)) in
+    let d : (T (anyOf (tickAnswer r c .verdict .trips) schema)) × (tickAnswer r c .verdict .state ≡ Fault) =
+    by-call (λ (x : Ticked). T (anyOf (x .verdict .trips) schema) × (x .verdict .state ≡ Fault)) r c (λ z. f) (λ z. absurd (T-not (settingsPass c) z a)) in
     record { guard = finds r c p h k; trips = d .0; state = d .1 }
 
 pub clock-ends : ClockEnds

@@ -26,22 +26,24 @@ use Rattle.lictor_core.specs.Cases.{byDecision}
 use Rattle.lictor_core.specs.Masks.{anyOf, faultBits}
 use Rattle.lictor_core.specs.Num.{satUp, wrapUp}
 use Rattle.lictor_settings.specs.Settings.{configOf}
-use Rattle.lictor_stages.specs.Judge.{machineInput}
-use Rattle.lictor_verdict.specs.Verdict.{eventsOf, noEvents}
+use Rattle.lictor_stages.specs.Findings.{machineInput}
+use Rattle.lictor_stages.specs.Verdict.{eventsOf}
 use Rattle.lictor_table.specs.declared.FsmInput.{FsmInput}
 use Rattle.lictor_table.specs.declared.Turn.{Turn}
 use Rattle.lictor_table.specs.Helpers.{countIf, upIf, consumeNonce, latchHold, acceptedBy, acceptedAck, cleanOf, countRun, settledOf}
-use Rattle.lictor_table.specs.Rows.{faultRow, rearmAck, resumeRow, terminateRow, timeoutRow, waitRow, waitingOf, escalatedOf, rearmRow, escalateRow, holdRow, holdingOf, heldOf, standstillRow, stoppingRow, brakingOf, enterBraking, brakeRow, clampRow, clearRow, quietOf, runningOf, byFrom, transitionOf, nextByRows}
+use Rattle.lictor_table.specs.Rows.{faultRow, rearmAck, resumeRow, terminateRow, timeoutRow, waitRow, unansweredOf, escalatedOf, rearmRow, escalateRow, holdRow, holdingOf, heldOf, standstillRow, stoppingRow, brakingOf, enterBraking, brakeRow, clampRow, clearRow, quietOf, runningOf, byFrom, transitionOf, nextByRows}
 use Rattle.lictor_table.specs.Table.{nextOf}
 use Rattle.lictor_table.proofs.ByTable.{tells}
 use Rattle.lictor_table.proofs.Lines.{by-test}
 use Rattle.lictor_tally.specs.declared.TickEvents.{TickEvents}
-use Rattle.lictor_decide.specs.declared.Decided.{Decided}
-use Rattle.lictor_fuse.specs.declared.tick.Ticked.{Ticked}
-use Rattle.lictor_decide.specs.Decide.{readyOf, nextChunk, cleanClock, faultClock, closedOf, closeClean, cleanTick, closeFault, faultTick}
+use Rattle.lictor_fuse.specs.declared.decide.Decided.{Decided}
+use Rattle.lictor_fuse.specs.declared.Ticked.{Ticked}
+use Rattle.lictor_fuse.specs.CleanTick.{readyOf, nextChunk, cleanClock, closeClean, cleanTick}
+use Rattle.lictor_fuse.specs.FaultTick.{noEvents, faultClock, closeFault, faultTick}
+use Rattle.lictor_fuse.specs.Closed.{closedOf}
 use Rattle.lictor_fuse.specs.Tick.{givenOf}
-use Rattle.claims.specs.Calls.{Call, accepted, answerOf, guardBits}
-use Rattle.claims.specs.Tallies.{turnOf, itemOf}
+use Rattle.claims.specs.Calls.{Call, settingsPass, tickAnswer, guardBits}
+use Rattle.claims.specs.Tallies.{turnSeen, itemOf}
 use Rattle.claims.specs.Counters.{Rises, stays, rises, Counts, kept, counted, cleared, Numbers, same, next, MachineCounts, ClockCounts, CountersTold}
 use Rattle.claims.proofs.Tick.{by-call, by-guard, decided, foundOf, cleanTurn}
 
@@ -62,14 +64,14 @@ if-up k false x = kept
 record Goes (r : Control) (t : Turn) : Type 0 where
   counts : MachineCounts r (t .rt)
 
-row : (r : Control) (t : Turn) → MachineCounts r (t .rt) → Goes r t
-row r t m = record { counts = m }
+row-goes : (r : Control) (t : Turn) → MachineCounts r (t .rt) → Goes r t
+row-goes r t m = record { counts = m }
 
-either : (r : Control) (b : Bool) (s t : Turn) → Goes r s → Goes r t → Goes r (cond b s t)
-either r true s t f g = f
-either r false s t f g = g
+either-goes : (r : Control) (b : Bool) (s t : Turn) → Goes r s → Goes r t → Goes r (cond b s t)
+either-goes r true s t f g = f
+either-goes r false s t f g = g
 
-ruleset rows = (either, row, if-counted, if-up, kept, counted, cleared, stays, rises, same, next)
+ruleset rows = (either-goes, row-goes, if-counted, if-up, kept, counted, cleared, stays, rises, same, next)
 
 module _ (cfg : FuseConfig) (r : Control) (pos : List Float) (clean : Bool) (inp : FsmInput) where
   -- the run state that the rows start from
@@ -96,8 +98,8 @@ module _ (cfg : FuseConfig) (r : Control) (pos : List Float) (clean : Bool) (inp
   unfolding holdingOf rearmRow escalateRow holdRow countRun
   holding-rows = search rows depth 12
 
-  waiting-rows : (limit : ℕ) → Goes r (waitingOf limit now)
-  unfolding waitingOf timeoutRow waitRow countRun
+  waiting-rows : (limit : ℕ) → Goes r (unansweredOf limit now)
+  unfolding unansweredOf timeoutRow waitRow countRun
   waiting-rows limit = search rows
 
   -- an acknowledgement
@@ -131,7 +133,7 @@ module _ (cfg : FuseConfig) (r : Control) (pos : List Float) (clean : Bool) (inp
 
   all-rows : (q : FuseState) (ack : MaybeAck) → Goes r (transitionOf cfg now pos q clean ack inp)
   unfolding transitionOf
-  all-rows q ack = either r (anyOf (inp .trips) faultBits) _ _ (fault-row q (inp .trips)) (from-rows q ack)
+  all-rows q ack = either-goes r (anyOf (inp .trips) faultBits) _ _ (fault-row q (inp .trips)) (from-rows q ack)
 
 -- so a turn of the machine
 turn-counts : (cfg : FuseConfig) (r : Control) (pos : List Float) (inp : FsmInput) → MachineCounts r (nextOf cfg r pos inp .rt)
@@ -189,7 +191,7 @@ module _ (r : FuseRt) (c : Call) where
 pub counters-go : CountersTold
 unfolding givenOf
 counters-go r c a =
-    let t = by-call (λ (x : Ticked). Told r c (x .rt)) r c (λ h. tick-counts r c) (λ h. absurd (T-not (accepted c) h a)) in
+    let t = by-call (λ (x : Ticked). Told r c (x .rt)) r c (λ h. tick-counts r c) (λ h. absurd (T-not (settingsPass c) h a)) in
     record { machine = t .0; clock = t .1 }
 
 -- ---- what follows at an end, for any width
@@ -208,10 +210,10 @@ pub rise-fits : {k x y : ℕ} → x < 2 ^ k → Rises k x y → y < 2 ^ k
 rise-fits h stays = h
 rise-fits h rises = omega arith
 
-pub count-fits : {k x y : ℕ} → x < 2 ^ k → Counts k x y → y < 2 ^ k
-count-fits h kept = h
-count-fits h counted = omega arith
-count-fits h cleared = omega arith
+pub counts-fit : {k x y : ℕ} → x < 2 ^ k → Counts k x y → y < 2 ^ k
+counts-fit h kept = h
+counts-fit h counted = omega arith
+counts-fit h cleared = omega arith
 
 -- at its end a count stays or starts anew
 pub full-or-anew : {k x y : ℕ} → x ≡ 2 ^ k - 1 → Counts k x y → (y ≡ x) ⊎ (y ≡ 0)
@@ -229,30 +231,30 @@ wraps k = let e : 2 ^ k - 1 + 1 ≡ 2 ^ k = omega (arith, pow-pos k) in rw e (mo
 
 -- ---- what the tally counts of a full counter: nothing, though the fuse arms by a Resume or clamps
 
-module _ (r : FuseRt) (c : Call) (a : T (accepted c)) where
+module _ (r : FuseRt) (c : Call) (a : T (settingsPass c)) where
   -- an event is one of a clean tick or none
-  by-events : (P : TickEvents → Type 0) → P (eventsOf (c .settings .calib) (c .outcome .scores) (r .control) (turnOf (answerOf r c .rt) (answerOf r c .verdict))) → P noEvents
-      → P (itemOf r c (answerOf r c) .events)
+  by-events : (P : TickEvents → Type 0) → P (eventsOf (c .settings .calib) (c .outcome .scores) (r .control) (turnSeen (tickAnswer r c .rt) (tickAnswer r c .verdict))) → P noEvents
+      → P (itemOf r c (tickAnswer r c) .events)
   by-events P f g = by-test P (eqb (guardBits r c) 0) _ _ (λ h. f) (λ h. g)
 
-  pub full-rearms : r .control .rearms ≡ 255 → itemOf r c (answerOf r c) .events .rearmed ≡ false
+  pub full-rearms : r .control .rearms ≡ 255 → itemOf r c (tickAnswer r c) .events .rearmed ≡ false
   unfolding eventsOf noEvents
   full-rearms e = by-events (λ (ev : TickEvents). ev .rearmed ≡ false) (rw (eq-eqb _ _ (stays-full e (counters-go r c a .machine .rearms))) refl) refl
 
-  pub full-clamps : r .control .clamps ≡ 65535 → itemOf r c (answerOf r c) .events .clamped ≡ false
+  pub full-clamps : r .control .clamps ≡ 65535 → itemOf r c (tickAnswer r c) .events .clamped ≡ false
   unfolding eventsOf noEvents
   full-clamps e = by-events (λ (ev : TickEvents). ev .clamped ≡ false) (rw (eq-eqb _ _ (stays-full e (counters-go r c a .machine .clamps))) refl) refl
 
 -- ---- the stored nonces
 
-and-off : (a b c : Bool) → c ≡ false → (a && (b && c)) ≡ false
-and-off true true c e = e
-and-off true false c e = refl
-and-off false b c e = refl
+last-off : (a b c : Bool) → c ≡ false → (a && (b && c)) ≡ false
+last-off true true c e = e
+last-off true false c e = refl
+last-off false b c e = refl
 
 -- a slot that stored the largest number of 64 bits accepts nothing more until a reset
 pub slot-ends : (handoff : ℕ) (nonces : List ℕ) (a : VerifiedAck) → getD nonces (a .«operator_slot») 0 ≡ 2 ^ 64 - 1 → a .nonce < 2 ^ 64
     → acceptedAck handoff nonces (Given a) ≡ NoAck
 unfolding acceptedAck acceptedBy
 slot-ends handoff nonces a e h =
-    rw (and-off (ltb (a .«operator_slot») 8) (eqb (a .«handoff_seq») handoff) (ltb (getD nonces (a .«operator_slot») 0) (a .nonce)) (le-ltb (getD nonces (a .«operator_slot») 0) (a .nonce) (omega arith))) refl
+    rw (last-off (ltb (a .«operator_slot») 8) (eqb (a .«handoff_seq») handoff) (ltb (getD nonces (a .«operator_slot») 0) (a .nonce)) (le-ltb (getD nonces (a .«operator_slot») 0) (a .nonce) (omega arith))) refl

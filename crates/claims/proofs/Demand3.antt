@@ -17,18 +17,20 @@ use Rattle.lictor_core.specs.declared.state.FuseState.{FuseState}
 use Rattle.lictor_core.specs.Initial.{freshControl, resetOf}
 use Rattle.lictor_core.specs.Masks.{anyOf, faultBits}
 use Rattle.lictor_settings.specs.Settings.{configOf}
-use Rattle.lictor_stages.specs.Judge.{judgeOf, machineInput, faultInput}
-use Rattle.lictor_verdict.specs.Verdict.{verdictOf, faultVerdict}
+use Rattle.lictor_stages.specs.Findings.{findingsOf, machineInput}
+use Rattle.lictor_stages.specs.Verdict.{verdictOf}
 use Rattle.lictor_table.specs.declared.FsmInput.{FsmInput}
 use Rattle.lictor_table.specs.Consumed.{takenIn, consumedOf}
 use Rattle.lictor_table.specs.Helpers.{acceptedAck, settledOf}
 use Rattle.lictor_table.specs.Table.{nextFrom, nextOf}
 use Rattle.lictor_table.proofs.Stops.{StopLaw, stop-law, nonce-law, fresh-law}
-use Rattle.lictor_decide.specs.declared.Decided.{Decided}
-use Rattle.lictor_decide.specs.Decide.{readyOf, closedOf, closeClean, cleanTick, closeFault, faultTick}
+use Rattle.lictor_fuse.specs.declared.decide.Decided.{Decided}
+use Rattle.lictor_fuse.specs.CleanTick.{readyOf, closeClean, cleanTick}
+use Rattle.lictor_fuse.specs.FaultTick.{faultInput, faultVerdict, closeFault, faultTick}
+use Rattle.lictor_fuse.specs.Closed.{closedOf}
 use Rattle.lictor_fuse.specs.Tick.{givenOf}
 use Rattle.claims.specs.Runs.{All, total, Step}
-use Rattle.claims.specs.Calls.{Call, Under, guardBits, tripsOf, bitsOf, ackOf, tookOf, Seen, seenOf, stepOf, ticksFrom}
+use Rattle.claims.specs.Calls.{Call, Under, guardBits, tripsOf, bitsOf, ackAccepted, tookOf, TickSeen, seenOf, stepOf, ticksFrom}
 use Rattle.claims.specs.Demand3.{maxRearms, Sized, rearms, Stops, Faults, Acks, StopsClose}
 use Rattle.claims.proofs.Runs.{Run, Meets, runs}
 use Rattle.claims.proofs.Law.{Arm, ArmLaw, NonceLaw, stops-by, faults-by, rearms-by, acks-by}
@@ -36,9 +38,9 @@ use Rattle.claims.proofs.Rows.{armIn, arm-law, floorIn, stored-law, sti
 use Rattle.claims.proofs.Tick.{by-step, by-guard, guard-faults, decided, foundOf, cleanTurn, faultTurn}
 
 -- the state that the machine answers is the one that it stores
-pub settled : (cfg : FuseConfig) (rt : Control) (pos : List Float) (inp : FsmInput) → nextOf cfg rt pos inp .rt .state ≡ nextOf cfg rt pos inp .state
+pub state-agrees : (cfg : FuseConfig) (rt : Control) (pos : List Float) (inp : FsmInput) → nextOf cfg rt pos inp .rt .state ≡ nextOf cfg rt pos inp .state
 unfolding nextOf nextFrom settledOf
-settled cfg rt pos inp = refl
+state-agrees cfg rt pos inp = refl
 
 -- ---- the arm
 
@@ -55,17 +57,17 @@ module _ (s : Settings) (z : Sized s) where
       let t = nextOf (configOf s) start pos inp in
       let ack = acceptedAck (start .«handoff_seq») (start .«last_nonce») (inp .ack) in
       let l : StopLaw (configOf s) (start .state) bits ack start t = rw e at (stop-law (configOf s) start pos inp) in
-      rw (settled (configOf s) start pos inp) (arm-law s z bits ack start (t .rt) (t .extra) (t .reason) (start .state) (t .state) took shown u l)
+      rw (state-agrees (configOf s) start pos inp) (arm-law s z bits ack start (t .rt) (t .extra) (t .reason) (start .state) (t .state) took shown u l)
 
 true-of : (b : Bool) → T b → b ≡ true
 true-of true h = refl
 true-of false h = absurd h
 
 -- what is seen of a tick, by the guard's test and its verdict's state
-abbrev seenBy : FuseRt → Call → Bool → FuseState → Seen
+abbrev seenBy : FuseRt → Call → Bool → FuseState → TickSeen
 seenBy r c clean p =
     let bits = not clean || anyOf (tripsOf c) faultBits in
-    record { from = r .control .state; to = p; took = cond bits NoAck (takenIn (r .control .state) (ackOf r c)); bits = bits; ack = ackOf r c }
+    record { from = r .control .state; to = p; took = cond bits NoAck (takenIn (r .control .state) (ackAccepted r c)); bits = bits; ack = ackAccepted r c }
 
 module _ (r : FuseRt) (c : Call) (z : Sized (c .settings)) where
   -- the law of the arm, for a tick under the call's own settings that ends in p and leaves r′
@@ -73,7 +75,7 @@ module _ (r : FuseRt) (c : Call) (z : Sized (c .settings)) where
   Holds clean p r′ = ArmLaw (c .settings) (armOf (c .settings) r) (seenBy r c clean p) (armIn (c .settings) (r′ .state) r′)
 
   clean-turns : Holds true (cleanTurn r c .state) (cleanTurn r c .rt)
-  unfolding readyOf machineInput judgeOf tripsOf ackOf configOf
+  unfolding readyOf machineInput findingsOf tripsOf ackAccepted configOf
   clean-turns = turns (c .settings) z (readyOf (r .control) (foundOf r c)) _ _ _ _ _ refl refl
 
   fault-turns : anyOf (guardBits r c) faultBits ≡ true → Holds false (faultTurn r c .state) (faultTurn r c .rt)
@@ -90,7 +92,7 @@ module _ (s : Settings) (z : Sized s) where
   abbrev Any : FuseRt → Type 0
   Any r = Unit {0}
 
-  abbrev Arms : FuseRt → Step FuseRt Seen → Type 0
+  abbrev Arms : FuseRt → Step FuseRt TickSeen → Type 0
   Arms = Meets (stepOf seenOf) (armOf s) Any (Under s) (ArmLaw s)
 
   -- a call under s meets the law, and a refused one changes nothing that is seen
@@ -130,7 +132,7 @@ module _ (r : FuseRt) (c : Call) (o : Eight r) where
   Spends clean p after = (length after ≡ 8) × NonceLaw (floorOf r) (seenBy r c clean p) (floorIn after)
 
   clean-spends : Spends true (cleanTurn r c .state) (cleanTurn r c .rt .«last_nonce»)
-  unfolding readyOf machineInput judgeOf tripsOf ackOf configOf consumedOf
+  unfolding readyOf machineInput findingsOf tripsOf ackAccepted configOf consumedOf
   clean-spends = spends (configOf (c .settings)) (readyOf (r .control) (foundOf r c)) _ _ _ _ _ _ _ o refl
 
   fault-spends : anyOf (guardBits r c) faultBits ≡ true → Spends false (faultTurn r c .state) (faultTurn r c .rt .«last_nonce»)
@@ -146,7 +148,7 @@ module _ (r : FuseRt) (c : Call) (o : Eight r) where
 abbrev Calls : Call → Type 0
 Calls c = Unit {0}
 
-abbrev Nonces : FuseRt → Step FuseRt Seen → Type 0
+abbrev Nonces : FuseRt → Step FuseRt TickSeen → Type 0
 Nonces = Meets (stepOf seenOf) floorOf Eight Calls NonceLaw
 
 nonce-meets : (r : FuseRt) (c : Call) → Eight r → Unit {0} → Nonces r (stepOf seenOf r c)

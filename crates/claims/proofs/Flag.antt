@@ -19,21 +19,23 @@ use Rattle.lictor_core.specs.declared.state.FuseState.the-variants.{Idle, Armed
 use Rattle.lictor_core.specs.Codes.{reasonCode}
 use Rattle.lictor_core.specs.Masks.{anyOf, faultBits}
 use Rattle.lictor_settings.specs.Settings.{configOf}
-use Rattle.lictor_stages.specs.Judge.{judgeOf, machineInput}
-use Rattle.lictor_verdict.specs.Verdict.{hasAck, consumedFlag, verdictOf, faultVerdict}
+use Rattle.lictor_stages.specs.Findings.{findingsOf, machineInput}
+use Rattle.lictor_stages.specs.Verdict.{hasAck, consumedFlag, verdictOf}
 use Rattle.lictor_table.specs.declared.FsmInput.{FsmInput}
 use Rattle.lictor_table.specs.declared.Turn.{Turn}
 use Rattle.lictor_table.specs.Consumed.{takenIn, consumedOf}
 use Rattle.lictor_table.specs.Helpers.{faultReason, clampReason, armedReason, acceptedAck, cleanOf, countRun, settledOf}
-use Rattle.lictor_table.specs.Rows.{faultRow, resumeRow, terminateRow, timeoutRow, waitRow, waitingOf, escalatedOf, rearmRow, escalateRow, holdRow, holdingOf, heldOf, standstillRow, stoppingRow, brakingOf, brakeRow, clampRow, clearRow, quietOf, runningOf, byFrom, transitionOf, nextByRows}
+use Rattle.lictor_table.specs.Rows.{faultRow, resumeRow, terminateRow, timeoutRow, waitRow, unansweredOf, escalatedOf, rearmRow, escalateRow, holdRow, holdingOf, heldOf, standstillRow, stoppingRow, brakingOf, brakeRow, clampRow, clearRow, quietOf, runningOf, byFrom, transitionOf, nextByRows}
 use Rattle.lictor_table.specs.Table.{nextOf}
 use Rattle.lictor_table.proofs.ByTable.{tells}
 use Rattle.lictor_table.proofs.Lines.{by-bool}
-use Rattle.lictor_decide.specs.declared.Decided.{Decided}
-use Rattle.lictor_fuse.specs.declared.tick.Ticked.{Ticked}
-use Rattle.lictor_decide.specs.Decide.{readyOf, closedOf, closeClean, cleanTick, closeFault, faultTick}
+use Rattle.lictor_fuse.specs.declared.decide.Decided.{Decided}
+use Rattle.lictor_fuse.specs.declared.Ticked.{Ticked}
+use Rattle.lictor_fuse.specs.CleanTick.{readyOf, closeClean, cleanTick}
+use Rattle.lictor_fuse.specs.FaultTick.{faultVerdict, closeFault, faultTick}
+use Rattle.lictor_fuse.specs.Closed.{closedOf}
 use Rattle.lictor_fuse.specs.Tick.{givenOf}
-use Rattle.claims.specs.Calls.{Call, accepted, tripsOf, bitsOf, ackOf, tookOf}
+use Rattle.claims.specs.Calls.{Call, settingsPass, tripsOf, bitsOf, ackAccepted, tookOf}
 use Rattle.claims.specs.Demand3.{none?}
 use Rattle.claims.specs.Flag.{FlagTells}
 use Rattle.claims.proofs.Tick.{by-call, by-guard, decided, foundOf, cleanTurn}
@@ -53,9 +55,9 @@ record Elsewhere (t : Turn) : Type 0 where
 said : (w : ReasonCode) → acked w ≡ false → Other w
 said w e = record { told = e }
 
-either : (b : Bool) (v w : ReasonCode) → Other v → Other w → Other (cond b v w)
-either true v w f g = f
-either false v w f g = g
+either-other : (b : Bool) (v w : ReasonCode) → Other v → Other w → Other (cond b v w)
+either-other true v w f g = f
+either-other false v w f g = g
 
 by-reason : (t : Turn) → Other (t .reason) → Elsewhere t
 by-reason t o = record { told = o .told }
@@ -66,15 +68,15 @@ either-turn false s t f g = g
 
 fault-reasons : (trips : ℕ) → Other (faultReason trips)
 unfolding faultReason
-fault-reasons trips = search (either, said)
+fault-reasons trips = search (either-other, said)
 
 clamp-reasons : (soft : ℕ) → Other (clampReason soft)
 unfolding clampReason
-clamp-reasons soft = search (either, said) depth 12
+clamp-reasons soft = search (either-other, said) depth 12
 
 armed-reasons : (mode : FuseMode) → Other (armedReason mode)
 unfolding armedReason
-armed-reasons mode = search (either, said)
+armed-reasons mode = search (either-other, said)
 
 ruleset rows = (either-turn, by-reason, said, fault-reasons, clamp-reasons, armed-reasons)
 
@@ -99,8 +101,8 @@ module _ (cfg : FuseConfig) (rt : Control) (pos : List Float) (clean : Bool) (in
   unfolding holdingOf rearmRow escalateRow holdRow
   holding-rows = search rows depth 12
 
-  waiting-rows : (limit : ℕ) → Elsewhere (waitingOf limit rt)
-  unfolding waitingOf timeoutRow waitRow
+  waiting-rows : (limit : ℕ) → Elsewhere (unansweredOf limit rt)
+  unfolding unansweredOf timeoutRow waitRow
   waiting-rows limit = search rows
 
   -- ---- the rows of Held and Escalated, by the acknowledgement that is accepted
@@ -169,10 +171,10 @@ brought false q handoff nonces NoAck = sym (none-taken q)
 
 module _ (r : FuseRt) (c : Call) where
   abbrev Tells-by : Bool → Bool → Type 0
-  Tells-by clean flag = flag ≡ not (none? (cond (not clean || anyOf (tripsOf c) faultBits) NoAck (takenIn (r .control .state) (ackOf r c))))
+  Tells-by clean flag = flag ≡ not (none? (cond (not clean || anyOf (tripsOf c) faultBits) NoAck (takenIn (r .control .state) (ackAccepted r c))))
 
   clean-tells : Tells-by true (consumedFlag (c .input .ack) (cleanTurn r c .reason))
-  unfolding consumedFlag readyOf machineInput judgeOf tripsOf ackOf configOf consumedOf
+  unfolding consumedFlag readyOf machineInput findingsOf tripsOf ackAccepted configOf consumedOf
   clean-tells =
       rw (reason-tells (configOf (c .settings)) (readyOf (r .control) (foundOf r c)) _ (machineInput (configOf (c .settings)) (c .input) (foundOf r c)))
       (brought (anyOf (tripsOf c) faultBits) (r .control .state) (r .control .«handoff_seq») (r .control .«last_nonce») (c .input .ack))
@@ -183,4 +185,4 @@ module _ (r : FuseRt) (c : Call) where
 
 pub flag-tells : FlagTells
 unfolding givenOf
-flag-tells r c a = by-call (λ (x : Ticked). x .verdict .«ack_consumed» ≡ not (none? (tookOf r c))) r c (λ h. tick-tells r c) (λ h. absurd (T-not (accepted c) h a))
+flag-tells r c a = by-call (λ (x : Ticked). x .verdict .«ack_consumed» ≡ not (none? (tookOf r c))) r c (λ h. tick-tells r c) (λ h. absurd (T-not (settingsPass c) h a))

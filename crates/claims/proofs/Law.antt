@@ -7,7 +7,7 @@ use lib.Dec.{T}
 use Rattle.lictor_core.specs.declared.envelope.Settings.{Settings}
 use Rattle.lictor_core.specs.declared.state.FuseState.the-variants.{Fault}
 use Rattle.claims.specs.Runs.{total}
-use Rattle.claims.specs.Calls.{Seen}
+use Rattle.claims.specs.Calls.{TickSeen}
 use Rattle.claims.specs.Demand3.{begins, closes, endsIn, rearms, Consumes, limit, Stops, Faults, Acks}
 use Rattle.claims.proofs.Runs.{Run, answered, latched, within, once}
 
@@ -19,7 +19,7 @@ pub record Arm : Type 0 where
   pub left : ℕ
   pub budget : ℕ
 
-pub record ArmLaw (s : Settings) (c : Arm) (x : Seen) (c′ : Arm) : Type 0 where
+pub record ArmLaw (s : Settings) (c : Arm) (x : TickSeen) (c′ : Arm) : Type 0 where
   pub opens : T (begins x) → (0 < c′ .left) × (c′ .left ≤ limit s)
   pub falls : 0 < c .left → T (not (closes x)) → (0 < c′ .left) × (c′ .left < c .left)
   pub latches : T (endsIn Fault x) → T (c′ .faulted)
@@ -30,7 +30,7 @@ closed-or : (b : Bool) {P : Type 0} → (T (not b) → P) → T b ⊎ P
 closed-or Bool.true f = inl tt
 closed-or Bool.false f = inr (f tt)
 
-module _ (s : Settings) {c : Arm} {l : List Seen} (r : Run (ArmLaw s) c l) where
+module _ (s : Settings) {c : Arm} {l : List TickSeen} (r : Run (ArmLaw s) c l) where
   pub stops-by : Stops s l
   stops-by =
       answered (ArmLaw s) (λ c. c .left) (λ x. T (closes x)) (λ c x c′ h p. closed-or (closes x) (h .falls p))
@@ -44,9 +44,9 @@ module _ (s : Settings) {c : Arm} {l : List Seen} (r : Run (ArmLaw s) c l) where
 
 -- ---- the stored nonces, by slot: none falls, and one that is consumed lies above its slot's and is stored
 
-pub record NonceLaw (f : ℕ → ℕ) (x : Seen) (f′ : ℕ → ℕ) : Type 0 where
+pub record NonceLaw (f : ℕ → ℕ) (x : TickSeen) (f′ : ℕ → ℕ) : Type 0 where
   pub kept : (slot : ℕ) → f slot ≤ f′ slot
   pub fresh : (slot nonce : ℕ) → Consumes x slot nonce → (f slot < nonce) × (nonce ≤ f′ slot)
 
-pub acks-by : {f : ℕ → ℕ} {l : List Seen} → Run NonceLaw f l → Acks l
+pub acks-by : {f : ℕ → ℕ} {l : List TickSeen} → Run NonceLaw f l → Acks l
 acks-by r slot nonce = once NonceLaw (λ f. f) Consumes (λ f x f′ h. h .kept) (λ f x f′ h. h .fresh) slot nonce r

@@ -21,31 +21,33 @@ use Rattle.lictor_core.specs.declared.fuse.FuseRt.{FuseRt}
 use Rattle.lictor_core.specs.declared.state.FuseState.{FuseState}
 use Rattle.lictor_core.specs.declared.state.FuseState.the-variants.{Idle, Armed, Watching, Clamped, Braking, Held, Escalated, Fault, Terminated}
 use Rattle.lictor_core.specs.Codes.{stateCode, isState, modeOf, rearmOf}
-use Rattle.lictor_core.specs.Initial.{zeroFloat, zeros, freshControl, freshMotion, freshClock, resetOf}
+use Rattle.lictor_core.specs.Initial.{zeroFloat, oneFloat, zeros, freshControl, freshMotion, freshClock, resetOf}
 use Rattle.lictor_core.specs.Masks.{anyOf, faultBits}
-use Rattle.lictor_core.specs.Rows.{rowTo}
-use Rattle.lictor_settings.specs.Settings.{badCode, badSize, badFloat, anyBelow, crossedOf, badBox, settingsTable, firstRow, checkOf, configOf}
-use Rattle.lictor_core.proofs.Rows.{row-length}
-use Rattle.lictor_delivery.specs.Delivery.{deliveredOf, sizesBad, placeBad, headBad, deliveryBad}
+use Rattle.lictor_core.specs.Rows.{rowTo, takenRow}
+use Rattle.lictor_core.specs.FirstThat.{firstThat}
+use Rattle.lictor_settings.specs.Settings.{badCode, badSize, badFloat, anyBelow, crossedOf, badBox, settingsTable, checkOf, configOf}
+use Rattle.lictor_core.proofs.RowLaws.{row-length}
+use Rattle.lictor_guard.specs.Delivery.{deliveredOf, sizesBad, placeBad, headBad, deliveryBad}
 use Rattle.lictor_guard.specs.Guard.{nonFinite, lengthsOf, shapeBad, clockBad, schemaBad, bitIf, guardOf}
-use Rattle.lictor_ingest.specs.Ingest.{takenRow, velocityOf, ingestOf}
-use Rattle.lictor_stages.specs.Judge.{withBrake, maskedOf, slowOf, standstillOf, judgeOf, machineInput}
-use Rattle.lictor_verdict.specs.Verdict.{verdictOf}
+use Rattle.lictor_stages.specs.Ingest.{velocityOf, ingestOf}
+use Rattle.lictor_stages.specs.Findings.{withBrake, maskedOf, slowOf, standstillOf, findingsOf, machineInput}
+use Rattle.lictor_stages.specs.Verdict.{verdictOf}
 use Rattle.lictor_table.specs.declared.FsmInput.{FsmInput}
 use Rattle.lictor_table.specs.Helpers.{acceptedAck, settledOf, countRun}
 use Rattle.lictor_table.specs.Rows.{confirmedOf, standstillRow, stoppingRow, brakingOf, brakeRow, runningOf, byFrom, transitionOf, nextByRows}
 use Rattle.lictor_table.specs.Table.{nextOf}
 use Rattle.lictor_table.proofs.ByTable.{tells}
 use Rattle.lictor_table.proofs.Stops.{StopLaw, stop-law}
-use Rattle.lictor_decide.specs.declared.Decided.{Decided}
-use Rattle.lictor_decide.specs.Decide.{readyOf, cleanClock, closedOf, closeClean, cleanTick}
+use Rattle.lictor_fuse.specs.declared.decide.Decided.{Decided}
+use Rattle.lictor_fuse.specs.CleanTick.{readyOf, cleanClock, closeClean, cleanTick}
+use Rattle.lictor_fuse.specs.Closed.{closedOf}
 use Rattle.lictor_fuse.specs.Tick.{isAccepted, givenOf}
 use Rattle.claims.specs.Runs.{All, Some, here, later, First, Where, at, past, series, Step, silent, event, andThen, trace}
 use Rattle.claims.specs.Demand3.{begins, closes, limit, StopsWithin}
-use Rattle.claims.specs.Calls.{Seen, Call, accepted, guardBits, stepOf, seenOf, ticksFrom}
+use Rattle.claims.specs.Calls.{TickSeen, Call, settingsPass, guardBits, stepOf, seenOf, ticksFrom}
 use Rattle.claims.specs.ClockEnd.{lastTime}
-use Rattle.claims.specs.Limit.{oneFloat, slowSettings, callAt, trips, moves, stands, slowest, Met, LimitMet}
-use Rattle.claims.proofs.Demand3.{settled}
+use Rattle.claims.specs.Limit.{slowSettings, callAt, trips, moves, stands, slowest, Met, LimitMet}
+use Rattle.claims.proofs.Demand3.{state-agrees}
 use Rattle.claims.proofs.Tick.{by-step, by-guard, decided, foundOf, cleanTurn}
 
 -- ---- the n-th of a list, and none before it
@@ -63,7 +65,7 @@ module _ {A : Type 0} (P : A → Type 0) where
   first-none (suc n) (x ∷ l) f (later k) = first-none n l (f .1) k
 
 -- so the limit cannot be one less
-one-less : (n : ℕ) (l : List Seen) → Where (λ x after. T (begins x) × First (λ y. T (closes y)) (suc n) after) l → StopsWithin n l → ⊥
+one-less : (n : ℕ) (l : List TickSeen) → Where (λ x after. T (begins x) × First (λ y. T (closes y)) (suc n) after) l → StopsWithin n l → ⊥
 one-less n (x ∷ l) (at p) s = first-none (λ y. T (closes y)) n l (p .1) (s .0 (p .0) (first-length (λ y. T (closes y)) n l (p .1)))
 one-less n (x ∷ l) (past w) s = one-less n l w (s .1)
 
@@ -114,13 +116,13 @@ module _ (cfg : FuseConfig) (rt : Control) (pos : List Float) (inp : FsmInput) (
   unfolding nextByRows settledOf countRun brakingOf confirmedOf stoppingRow
   moving h k m = rw (← tells cfg rt pos inp, braking-rows (rt .state) _ _ _ h, lt-leb _ _ k, m) refl
 
-  -- what stands is held at once, where one tick confirms it
+  -- an arm that stands still is held at once, where one tick confirms it
   standing : T (isState Braking (rt .state)) → rt .«brake_ticks» < cfg .hyst .«brake_timeout_ticks» → cfg .hyst .«stop_confirm_ticks» ≡ 1 → inp .stopped ≡ true
       → nextOf cfg rt pos inp .state ≡ Held
   unfolding nextByRows settledOf countRun brakingOf confirmedOf standstillRow
   standing h k c m = rw (← tells cfg rt pos inp, braking-rows (rt .state) _ _ _ h, lt-leb _ _ k, m, c, le-leb 1 (rt .«stopped_ticks» + 1) (omega arith)) refl
 
--- ---- what a tick of the stop needs of the run state: a chunk was taken, the clock stands at i, the velocity has a first component
+-- ---- what a tick of the stop needs of the run state: a chunk was taken, the clock is at i, the velocity has a first component
 
 record Running (i : ℕ) (r : FuseRt) : Type 0 where
   filled : r .clock .filled ≡ true
@@ -128,7 +130,7 @@ record Running (i : ℕ) (r : FuseRt) : Type 0 where
   time : r .clock .«last_t» ≡ i
   room : 0 < length (r .motion .vel)
 
--- ---- whether the arm stands
+-- ---- whether the arm stands still
 
 take-one : (l : List Float) (v : Float) → 0 < length l → take 1 (set l 0 v) ≡ v ∷ []
 take-one [] v h = absurd (omega arith)
@@ -136,16 +138,16 @@ take-one (x ∷ l) v h = refl
 
 module _ (b h e i : ℕ) (r : FuseRt) (o : Running i r) where
   moves-on : foundOf r (moves (slowSettings b h e) (suc i)) .stopped ≡ false
-  unfolding judgeOf standstillOf slowOf normOf addSquares rootOf ingestOf velocityOf takenRow rowTo configOf modeOf add mul le
+  unfolding findingsOf standstillOf slowOf normOf addSquares rootOf ingestOf velocityOf takenRow rowTo configOf modeOf add mul le
   moves-on = rw (take-one (r .motion .vel) oneFloat (o .room)) refl
 
   stands-still : foundOf r (stands (slowSettings b h e) (suc i)) .stopped ≡ true
-  unfolding judgeOf standstillOf slowOf normOf addSquares rootOf ingestOf velocityOf takenRow rowTo configOf modeOf add mul le
+  unfolding findingsOf standstillOf slowOf normOf addSquares rootOf ingestOf velocityOf takenRow rowTo configOf modeOf add mul le
   stands-still = rw (take-one (r .motion .vel) zeroFloat (o .room)) refl
 
 -- ---- the words of the stop
 
-abbrev Closes : Seen → Type 0
+abbrev Closes : TickSeen → Type 0
 Closes x = T (closes x)
 
 -- the stop is open
@@ -173,14 +175,14 @@ open-as q p h k = subst (λ (n : ℕ). T (eqb 4 n || (eqb 5 n || eqb 6 n))) (eqb
 abbrev Leads : (FuseRt → Type 0) → FuseRt → Call → Type 0
 Leads Q r c = Quiet (stepOf seenOf) Closes Q (stepOf seenOf r c)
 
--- the state is q, its count is n, and the clock stands at i
+-- the state is q, its count is n, and the clock is at i
 record At (q : FuseState) (count : Control → ℕ) (n i : ℕ) (r : FuseRt) : Type 0 where
   state : T (isState q (r .control .state))
   counted : count (r .control) ≡ n
   running : Running i r
 
 passes : (b h e : ℕ) → T (isAccepted (checkOf (slowSettings b h e)))
-unfolding checkOf firstRow settingsTable badCode badSize badFloat badBox crossedOf anyBelow allFinite isNan lt zeros
+unfolding checkOf firstThat settingsTable badCode badSize badFloat badBox crossedOf anyBelow allFinite isNan lt zeros
 passes b h e = tt
 
 -- ---- one tick of the stop, whatever its velocity
@@ -208,7 +210,7 @@ module _ (b h e i : ℕ) (v : Float) (fine : finite v ≡ true) (r : FuseRt) (o 
 
   -- no fault bit comes, and no acknowledgement
   law : StopLaw cfg (r .control .state) false NoAck (readyOf (r .control) (foundOf r tick)) (cleanTurn r tick)
-  unfolding readyOf machineInput judgeOf maskedOf withBrake anyOf acceptedAck configOf
+  unfolding readyOf machineInput findingsOf maskedOf withBrake anyOf acceptedAck configOf
   law = stop-law cfg (readyOf (r .control) (foundOf r tick)) _ (machineInput cfg (tick .input) (foundOf r tick))
 
   -- the tick ends as the machine says
@@ -219,7 +221,7 @@ module _ (b h e i : ℕ) (v : Float) (fine : finite v ≡ true) (r : FuseRt) (o 
   next-at : (q : FuseState) (count : Control → ℕ) (n : ℕ) → T (isState q (cleanTurn r tick .state)) → count (cleanTurn r tick .rt) ≡ n → At q count n (suc i) (decided r tick .rt)
   next-at q count n p k =
       record {
-        state = rw (ended .1) (rw (settled cfg (readyOf (r .control) (foundOf r tick)) _ (machineInput cfg (tick .input) (foundOf r tick))) p);
+        state = rw (ended .1) (rw (state-agrees cfg (readyOf (r .control) (foundOf r tick)) _ (machineInput cfg (tick .input) (foundOf r tick))) p);
         counted = rw (ended .1) k;
         running = runs-on;
       }
@@ -229,7 +231,7 @@ module _ (b h e i : ℕ) (v : Float) (fine : finite v ≡ true) (r : FuseRt) (o 
       → Leads (At q count n (suc i)) r tick
   unfolding givenOf
   leads q count n k p c =
-      by-step seenOf (λ r′ (s : Step FuseRt Seen). Quiet (stepOf seenOf) Closes (At q count n (suc i)) s) r tick
+      by-step seenOf (λ r′ (s : Step FuseRt TickSeen). Quiet (stepOf seenOf) Closes (At q count n (suc i)) s) r tick
       (λ a. (not-closed (decided r tick .verdict .state) (rw (ended .0) (open-as q (cleanTurn r tick .state) k p)), next-at q count n p c))
       (λ f. absurd (T-not (isAccepted (checkOf (slowSettings b h e))) f (passes b h e)))
 
@@ -258,7 +260,7 @@ module _ (b h e : ℕ) (small : b ≤ 65535) (short : h ≤ 65535) (fits : e ≤
   st = slowSettings b h e
 
   brakes-on : At Braking brake n i r → n < b → Leads (At Braking brake (suc n) (suc i)) r (moves st (suc i))
-  unfolding readyOf machineInput judgeOf maskedOf withBrake anyOf configOf
+  unfolding readyOf machineInput findingsOf maskedOf withBrake anyOf configOf
   brakes-on a k =
       let c = moves st (suc i) in
       let o = a .running in
@@ -269,7 +271,7 @@ module _ (b h e : ℕ) (small : b ≤ 65535) (short : h ≤ 65535) (fits : e ≤
       leads b h e i oneFloat refl r o Braking brake (suc n) tt t (omega (arith, l .brakeCounts t (a .state), a .counted))
 
   stops : At Braking brake n i r → n < b → Leads (At Held held 0 (suc i)) r (stands st (suc i))
-  unfolding readyOf machineInput judgeOf maskedOf withBrake anyOf configOf
+  unfolding readyOf machineInput findingsOf maskedOf withBrake anyOf configOf
   stops a k =
       let c = stands st (suc i) in
       let o = a .running in
@@ -316,7 +318,7 @@ module _ (b h e : ℕ) (small : b ≤ 65535) (short : h ≤ 65535) (fits : e ≤
   ends a k =
       let l = law b h e i zeroFloat refl r (a .running) in
       let t = or-right (isState Escalated end) (isState Terminated end) (l .waitCalm (a .state) tt tt) (λ x. omega (arith, l .waitCounts x (a .state), a .counted)) in
-      by-step seenOf (λ r′ (s : Step FuseRt Seen). First Closes 1 (andThen s (λ r″. ticksFrom r″ []))) r (stands st (suc i))
+      by-step seenOf (λ r′ (s : Step FuseRt TickSeen). First Closes 1 (andThen s (λ r″. ticksFrom r″ []))) r (stands st (suc i))
       (λ z. rw (ended b h e i zeroFloat refl r (a .running) .0) (terminated-closes end t))
       (λ z. absurd (T-not (isAccepted (checkOf (slowSettings b h e))) z (passes b h e)))
 
@@ -329,7 +331,7 @@ module _ (b h e : ℕ) (least : 1 ≤ b) (small : b ≤ 65535) (short : h ≤ 65
   long : e ≤ 4294967295
   long = omega arith
 
-  -- a call at t, where the clock stands before it
+  -- a call at t, where the clock is before it
   standing-at : (Q : FuseRt → Type 0) (r : FuseRt) {t i : ℕ} → t ≡ suc i → Leads Q r (stands slow (suc i)) → Leads Q r (stands slow t)
   standing-at Q r u l = subst (λ (t : ℕ). Leads Q r (stands slow t)) (sym u) l
 
@@ -390,11 +392,11 @@ module _ (b h e : ℕ) (least : 1 ≤ b) (small : b ≤ 65535) (short : h ≤ 65
 
     -- an infeasible brake
     begun-turn : cleanTurn start (trips slow) .state ≡ Braking
-    unfolding nextByRows settledOf transitionOf byFrom runningOf brakeRow readyOf machineInput judgeOf maskedOf withBrake anyOf resetOf freshControl configOf
+    unfolding nextByRows settledOf transitionOf byFrom runningOf brakeRow readyOf machineInput findingsOf maskedOf withBrake anyOf resetOf freshControl configOf
     begun-turn = rw (← tells (configOf slow) (readyOf (start .control) (foundOf start (trips slow))) _ (machineInput (configOf slow) (trips slow .input) (foundOf start (trips slow)))) refl
 
     begun-law : StopLaw (configOf slow) Armed false NoAck (readyOf (start .control) (foundOf start (trips slow))) (cleanTurn start (trips slow))
-    unfolding readyOf machineInput judgeOf maskedOf withBrake anyOf acceptedAck configOf resetOf freshControl
+    unfolding readyOf machineInput findingsOf maskedOf withBrake anyOf acceptedAck configOf resetOf freshControl
     begun-law = stop-law (configOf slow) (readyOf (start .control) (foundOf start (trips slow))) _ (machineInput (configOf slow) (trips slow .input) (foundOf start (trips slow)))
 
     abbrev Begun : Decided → Type 0
@@ -408,7 +410,7 @@ module _ (b h e : ℕ) (least : 1 ≤ b) (small : b ≤ 65535) (short : h ≤ 65
         (λ z. (
           begun-turn,
           record {
-            state = rw (settled (configOf slow) (readyOf (start .control) (foundOf start (trips slow))) _ (machineInput (configOf slow) (trips slow .input) (foundOf start (trips slow)))) t;
+            state = rw (state-agrees (configOf slow) (readyOf (start .control) (foundOf start (trips slow))) _ (machineInput (configOf slow) (trips slow .input) (foundOf start (trips slow)))) t;
             counted = begun-law .brakeBegins t tt;
             running = record { filled = refl; begun = omega arith; time = refl; room = rw row-length (omega arith) };
           },
@@ -419,7 +421,7 @@ module _ (b h e : ℕ) (least : 1 ≤ b) (small : b ≤ 65535) (short : h ≤ 65
     unfolding givenOf resetOf freshControl
     exact =
         let n : suc (b - 1 + suc (h + suc (e + 0))) ≡ limit slow = omega arith in
-        by-step seenOf (λ r′ (s : Step FuseRt Seen). Where (λ x after. T (begins x) × First Closes (limit slow) after) (andThen s (λ r″. ticksFrom r″ inBraking))) start (trips slow)
+        by-step seenOf (λ r′ (s : Step FuseRt TickSeen). Where (λ x after. T (begins x) × First Closes (limit slow) after) (andThen s (λ r″. ticksFrom r″ inBraking))) start (trips slow)
         (λ z. at (
           rw (begun .0) tt,
           subst (λ (k : ℕ). First Closes k (ticksFrom (decided start (trips slow) .rt) inBraking)) n (braking-on (decided start (trips slow) .rt) (begun .1)),
@@ -454,7 +456,7 @@ module _ (b h e : ℕ) (least : 1 ≤ b) (small : b ≤ 65535) (short : h ≤ 65
     met =
         record {
           sized = record { brake = small; hold = short; handoff = long; rearms = omega arith };
-          under = every-call (λ c. T (accepted c) × (c .settings ≡ slow)) (passes b h e, refl) (λ t k. (passes b h e, refl)) (λ t k. (passes b h e, refl));
+          under = every-call (λ c. T (settingsPass c) × (c .settings ≡ slow)) (passes b h e, refl) (λ t k. (passes b h e, refl)) (λ t k. (passes b h e, refl));
           times = every-call (λ c. c .input .t ≤ lastTime) (omega arith) (λ t k. k) (λ t k. k);
           exact = exact;
           tight = tight exact;

@@ -23,7 +23,7 @@ use Rattle.lictor_table.specs.Helpers.{to}
 use Rattle.lictor_table.specs.Consumed.{takenIn}
 use Rattle.lictor_table.proofs.Lines.{by-test}
 use Rattle.lictor_table.proofs.Stops.{StopLaw, Fresh}
-use Rattle.claims.specs.Calls.{Seen}
+use Rattle.claims.specs.Calls.{TickSeen}
 use Rattle.claims.specs.Demand3.{B, H, E, maxRearms, Sized, rearms, none?, Is, limit}
 use Rattle.claims.proofs.Law.{Arm, ArmLaw, NonceLaw}
 
@@ -148,7 +148,7 @@ abbrev pub storedIn : List ℕ → MaybeAck → List ℕ
 storedIn l taken = byAck taken l (λ a. set l (a .«operator_slot») (a .nonce))
 
 module _ (l : List ℕ) (eight : length l ≡ 8) (q p : FuseState) (bits : Bool) (ack : MaybeAck) where
-  abbrev seen : MaybeAck → Seen
+  abbrev seen : MaybeAck → TickSeen
   seen taken = record { from = q; to = p; took = taken; bits = bits; ack = ack }
 
   pub stored-law : (taken : MaybeAck) → Fresh l taken → NonceLaw (floorIn l) (seen taken) (floorIn (storedIn l taken))

@@ -6,20 +6,22 @@ use lib.Bits.{bitOr}
 use Rattle.lictor_core.specs.declared.fuse.FuseRt.{FuseRt}
 use Rattle.lictor_core.specs.Masks as M
 use Rattle.lictor_settings.specs.Settings.{checkOf, configOf}
-use Rattle.lictor_delivery.specs.Delivery.{deliveredOf}
+use Rattle.lictor_guard.specs.Delivery.{deliveredOf}
 use Rattle.lictor_guard.specs.Guard.{bitIf, guardOf}
-use Rattle.lictor_stages.specs.declared.judge.Findings.{Findings}
-use Rattle.lictor_ingest.specs.Ingest.{ingestOf, faultMotion}
-use Rattle.lictor_stages.specs.Judge.{judgeOf, machineInput, faultInput}
+use Rattle.lictor_stages.specs.declared.findings.Findings.{Findings}
+use Rattle.lictor_stages.specs.Ingest.{ingestOf}
+use Rattle.lictor_stages.specs.Findings.{findingsOf, machineInput}
 use Rattle.lictor_table.specs.declared.Turn.{Turn}
 use Rattle.lictor_table.specs.Table.{nextOf}
 use Rattle.lictor_table.proofs.Lines.{by-test}
-use Rattle.lictor_decide.specs.declared.Decided.{Decided}
-use Rattle.lictor_fuse.specs.declared.tick.Ticked.{Ticked}
-use Rattle.lictor_decide.specs.Decide.{readyOf, cleanTick, faultTick, decideBy, decideOf}
+use Rattle.lictor_fuse.specs.declared.decide.Decided.{Decided}
+use Rattle.lictor_fuse.specs.declared.Ticked.{Ticked}
+use Rattle.lictor_fuse.specs.Decide.{decideBy, decideOf}
+use Rattle.lictor_fuse.specs.CleanTick.{readyOf, cleanTick}
+use Rattle.lictor_fuse.specs.FaultTick.{faultMotion, faultInput, faultTick}
 use Rattle.lictor_fuse.specs.Tick.{givenOf, acceptedTick, refusedTick, tickBy, tickOf}
 use Rattle.claims.specs.Runs.{Step, silent, event}
-use Rattle.claims.specs.Calls.{Call, answerOf, accepted, guardBits, stepBy, stepOf}
+use Rattle.claims.specs.Calls.{Call, tickAnswer, settingsPass, guardBits, stepBy, stepOf}
 
 -- ---- a call
 
@@ -29,24 +31,24 @@ decided r c = decideOf (configOf (c .settings)) r (c .input) (c .outcome) (c .po
 
 -- what holds of a tick and of a refusal holds of the call
 pub by-call : (P : Ticked → Type 0) (r : FuseRt) (c : Call)
-    → (T (accepted c) → P (givenOf (decided r c))) → (T (not (accepted c)) → P (refusedTick (checkOf (c .settings)) r)) → P (answerOf r c)
+    → (T (settingsPass c) → P (givenOf (decided r c))) → (T (not (settingsPass c)) → P (refusedTick (checkOf (c .settings)) r)) → P (tickAnswer r c)
 unfolding tickOf tickBy acceptedTick
-by-call P r c f g = by-test P (accepted c) _ _ f g
+by-call P r c f g = by-test P (settingsPass c) _ _ f g
 
 -- a refused call leaves the run state as it was
-pub refused-keeps : (r : FuseRt) (c : Call) → T (not (accepted c)) → answerOf r c .rt ≡ r
+pub refused-keeps : (r : FuseRt) (c : Call) → T (not (settingsPass c)) → tickAnswer r c .rt ≡ r
 unfolding refusedTick
-refused-keeps r c h = by-call (λ (a : Ticked). a .rt ≡ r) r c (λ f. absurd (T-not (accepted c) h f)) (λ g. refl)
+refused-keeps r c h = by-call (λ (a : Ticked). a .rt ≡ r) r c (λ f. absurd (T-not (settingsPass c) h f)) (λ g. refl)
 
 module _ {A : Type 0} (see : FuseRt → Call → Ticked → A) where
   -- what holds of the event of a tick and the run state that it leaves, and of silence that leaves the run state as it was, holds of the step
   pub by-step : (P : FuseRt → Step FuseRt A → Type 0) (r : FuseRt) (c : Call)
-      → (T (accepted c) → P (decided r c .rt) (event (see r c (givenOf (decided r c))) (decided r c .rt))) → (T (not (accepted c)) → P r (silent r))
-      → P (answerOf r c .rt) (stepOf see r c)
+      → (T (settingsPass c) → P (decided r c .rt) (event (see r c (givenOf (decided r c))) (decided r c .rt))) → (T (not (settingsPass c)) → P r (silent r))
+      → P (tickAnswer r c .rt) (stepOf see r c)
   unfolding givenOf refusedTick
   by-step P r c f g =
       by-call (λ (a : Ticked). P (a .rt) (stepBy see r c a)) r c f
-      (λ h. by-test (P r) (accepted c) _ (silent r) (λ k. absurd (T-not (accepted c) h k)) (λ k. g h))
+      (λ h. by-test (P r) (settingsPass c) _ (silent r) (λ k. absurd (T-not (settingsPass c) h k)) (λ k. g h))
 
 -- ---- a tick
 
@@ -84,7 +86,7 @@ guard-faults r c = three-bits _ _ _
 
 abbrev pub foundOf : FuseRt → Call → Findings
 foundOf r c =
-    judgeOf (configOf (c .settings)) (deliveredOf (c .input .chunk)) (c .outcome) (r .control .window)
+    findingsOf (configOf (c .settings)) (deliveredOf (c .input .chunk)) (c .outcome) (r .control .window)
     (ingestOf (configOf (c .settings)) (r .motion) (c .input .«has_vel») (c .pos) (c .vel) .vel)
 
 abbrev pub cleanTurn : FuseRt → Call → Turn

@@ -15,10 +15,10 @@ use Rattle.lictor_core.specs.declared.state.FuseState.{FuseState}
 use Rattle.lictor_core.specs.Masks.{anyOf, faultBits}
 use Rattle.lictor_settings.specs.Settings.{checkOf, configOf}
 use Rattle.lictor_guard.specs.Guard.{guardOf}
-use Rattle.lictor_stages.specs.Judge.{maskedOf}
+use Rattle.lictor_stages.specs.Findings.{maskedOf}
 use Rattle.lictor_table.specs.Helpers.{acceptedAck}
 use Rattle.lictor_table.specs.Consumed.{takenIn}
-use Rattle.lictor_fuse.specs.declared.tick.Ticked.{Ticked}
+use Rattle.lictor_fuse.specs.declared.Ticked.{Ticked}
 use Rattle.lictor_fuse.specs.Tick.{isAccepted, tickOf}
 use Rattle.claims.specs.Runs.{Step, silent, event, trace}
 
@@ -35,17 +35,17 @@ pub record Call : Type 0 where
   pub ext : List Float
   pub chunk : List Float
 
--- what `tick` answers: the definition that it promises (crates/lictor_fuse/src/tick.rt)
-abbrev pub answerOf : FuseRt → Call → Ticked
-answerOf r c = tickOf (c .settings) r (c .input) (c .outcome) (c .pos) (c .vel) (c .aux) (c .ext) (c .chunk)
+-- what `tick` answers: the definition that it promises (crates/lictor_fuse/src/lib.rt)
+abbrev pub tickAnswer : FuseRt → Call → Ticked
+tickAnswer r c = tickOf (c .settings) r (c .input) (c .outcome) (c .pos) (c .vel) (c .aux) (c .ext) (c .chunk)
 
 -- the settings pass the check
-abbrev pub accepted : Call → Bool
-accepted c = isAccepted (checkOf (c .settings))
+abbrev pub settingsPass : Call → Bool
+settingsPass c = isAccepted (checkOf (c .settings))
 
 -- the call's settings are s, if they pass the check
 abbrev pub Under : Settings → Call → Type 0
-Under s c = T (accepted c) → c .settings ≡ s
+Under s c = T (settingsPass c) → c .settings ≡ s
 
 -- ---- what a tick brings, and what it does with it
 
@@ -61,19 +61,21 @@ tripsOf c = maskedOf (c .outcome .trips) (c .outcome .feasible) (c .settings .«
 unfoldable pub bitsOf : FuseRt → Call → Bool
 bitsOf r c = not (eqb (guardBits r c) 0) || anyOf (tripsOf c) faultBits
 
--- the acknowledgement that comes, if it is accepted (01-scope.md, Transitions; lictor_table, specs/Helpers, acceptedBy)
-unfoldable pub ackOf : FuseRt → Call → MaybeAck
-ackOf r c = acceptedAck (r .control .«handoff_seq») (r .control .«last_nonce») (c .input .ack)
+-- the acknowledgement that comes, if it is accepted
+-- (01-scope.md, Transitions; lictor_table, specs/Helpers, acceptedBy)
+unfoldable pub ackAccepted : FuseRt → Call → MaybeAck
+ackAccepted r c = acceptedAck (r .control .«handoff_seq») (r .control .«last_nonce») (c .input .ack)
 
--- The one that the tick consumes (01-scope.md, The list in demand 3), from what the tick brings and the state that it starts from. A fault bit decides the tick
--- before the lines for Held and Escalated; where none comes, these decide the ticks from those two states, and takenIn says what they consume. That the
--- verdict's flag says the same is proved too (Flag).
+-- The one that the tick consumes (01-scope.md, The list in demand 3), from what the tick brings and
+-- the state that it starts from. A fault bit decides the tick before the lines for Held and
+-- Escalated; where none comes, these decide the ticks from those two states, and takenIn says what
+-- they consume. That the verdict's flag says the same is proved too (Flag).
 unfoldable pub tookOf : FuseRt → Call → MaybeAck
-tookOf r c = cond (bitsOf r c) NoAck (takenIn (r .control .state) (ackOf r c))
+tookOf r c = cond (bitsOf r c) NoAck (takenIn (r .control .state) (ackAccepted r c))
 
 -- ---- what is seen of a tick
 
-pub record Seen : Type 0 where
+pub record TickSeen : Type 0 where
   -- the state in the run state that the tick gets
   pub from : FuseState
   -- the state of its verdict
@@ -85,25 +87,31 @@ pub record Seen : Type 0 where
   pub ack : MaybeAck
 
 -- of the call c on the run state r, which was answered a
-abbrev pub seenOf : FuseRt → Call → Ticked → Seen
-seenOf r c a = record { from = r .control .state; to = a .verdict .state; took = tookOf r c; bits = bitsOf r c; ack = ackOf r c }
+abbrev pub seenOf : FuseRt → Call → Ticked → TickSeen
+seenOf r c a = record {
+  from = r .control .state;
+  to = a .verdict .state;
+  took = tookOf r c;
+  bits = bitsOf r c;
+  ack = ackAccepted r c;
+}
 
 -- ---- the list
 
 module _ {A : Type 0} (see : FuseRt → Call → Ticked → A) where
-  -- A call and its answer. The next call gets the run state that this one returns, refused or not: a refused one returns what it got (proofs/Tick,
-  -- refused-keeps). It is no tick.
+  -- A call and its answer. The next call gets the run state that this one returns, refused or not:
+  -- a refused one returns what it got (proofs/Tick, refused-keeps). It is no tick.
   abbrev pub stepBy : FuseRt → Call → Ticked → Step FuseRt A
   stepBy r c a = cond (isAccepted (a .check)) (event (see r c a) (a .rt)) (silent (a .rt))
 
   abbrev pub stepOf : FuseRt → Call → Step FuseRt A
-  stepOf r c = stepBy r c (answerOf r c)
+  stepOf r c = stepBy r c (tickAnswer r c)
 
 -- the run state that a list of calls leaves
-abbrev pub after : FuseRt → List Call → FuseRt
-after r [] = r
-after r (c ∷ cs) = after (answerOf r c .rt) cs
+abbrev pub leftBy : FuseRt → List Call → FuseRt
+leftBy r [] = r
+leftBy r (c ∷ cs) = leftBy (tickAnswer r c .rt) cs
 
 -- the ticks of a list of calls, from the run state r
-abbrev pub ticksFrom : FuseRt → List Call → List Seen
+abbrev pub ticksFrom : FuseRt → List Call → List TickSeen
 ticksFrom r cs = trace (stepOf seenOf) r cs

@@ -1,4 +1,5 @@
--- What one tick makes of each counter of the run state, and so what the counters do at their ends (fsm.rs, fuse.rs; docs/COUNTERS.md tells it in words).
+-- What one tick makes of each counter of the run state, and so what the counters do at their ends
+-- (fsm.rs, fuse.rs; docs/COUNTERS.md tells it in words).
 -- Proved in proofs/Counters, `counters-go`.
 use mathlib.Core.Path.{_≡_}
 use Prim.Native.Nat.{ℕ}
@@ -7,9 +8,9 @@ use Rattle.lictor_core.specs.declared.fuse.Clock.{Clock}
 use Rattle.lictor_core.specs.declared.fuse.Control.{Control}
 use Rattle.lictor_core.specs.declared.fuse.FuseRt.{FuseRt}
 use Rattle.lictor_core.specs.Num.{satUp, wrapUp}
-use Rattle.claims.specs.Calls.{Call, accepted, answerOf}
+use Rattle.claims.specs.Calls.{Call, settingsPass, tickAnswer}
 
--- a count x of k bits after a tick: the same, or one more up to its end; nothing but a reset takes it back
+-- a count x of k bits after a tick: the same, or one more up to its end; only a reset takes it back
 pub data Rises (k x : ℕ) : ℕ → Type 0 where
   stays : Rises k x x
   rises : Rises k x (satUp k x)
@@ -45,9 +46,9 @@ pub record ClockCounts (t : ℕ) (k k′ : Clock) : Type 0 where
   pub chunk : Numbers 32 (k .«next_chunk_seq») (k′ .«next_chunk_seq»)
 
 pub record CountersGo (r : FuseRt) (c : Call) : Type 0 where
-  pub machine : MachineCounts (r .control) (answerOf r c .rt .control)
-  pub clock : ClockCounts (c .input .t) (r .clock) (answerOf r c .rt .clock)
+  pub machine : MachineCounts (r .control) (tickAnswer r c .rt .control)
+  pub clock : ClockCounts (c .input .t) (r .clock) (tickAnswer r c .rt .clock)
 
 -- of every tick
 abbrev pub CountersTold : Type 0
-CountersTold = (r : FuseRt) (c : Call) → T (accepted c) → CountersGo r c
+CountersTold = (r : FuseRt) (c : Call) → T (settingsPass c) → CountersGo r c

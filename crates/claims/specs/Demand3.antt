@@ -1,6 +1,9 @@
--- Demand 3, stops close: one claim about every list of calls from a reset on (00-demands.md, Demand 3; 01-scope.md, The list in demand 3). It stands at the end
--- of this file, and is proved in proofs/Demand3, `stops-close`. Of other files it names: what is said of a list (Runs); a call, its settings, what is seen of
--- its tick, the ticks of a list (Calls); the state that `reset` leaves, by the definition that it promises (lictor_core, specs/Initial, resetOf).
+-- Demand 3, stops close: one claim about every list of calls from a reset on
+-- (00-demands.md, Demand 3; 01-scope.md, The list in demand 3).
+-- It is at the end of this file, and is proved in proofs/Demand3, `stops-close`.
+-- Of other files it names: what is said of a list (Runs); a call, its settings, what is seen of its
+-- tick, the ticks of a list (Calls); the state that `reset` leaves (lictor_core, specs/Initial,
+-- resetOf).
 use mathlib.Core.Bool.{Bool, true, false, cond, not, _&&_, _||_}
 use mathlib.Core.List.{List}
 use mathlib.Core.Path.{_≡_}
@@ -17,7 +20,7 @@ use Rattle.lictor_core.specs.Cases.{byAck}
 use Rattle.lictor_core.specs.Codes.{isState}
 use Rattle.lictor_core.specs.Initial.{resetOf}
 use Rattle.claims.specs.Runs.{Each, All, Some, total}
-use Rattle.claims.specs.Calls.{Call, Under, Seen, ticksFrom}
+use Rattle.claims.specs.Calls.{Call, Under, TickSeen, ticksFrom}
 
 -- ---- the settings' limits
 
@@ -34,8 +37,9 @@ E s = s .hyst .«handoff_timeout_ticks»
 abbrev pub maxRearms : Settings → ℕ
 maxRearms s = s .hyst .«max_rearms»
 
--- Each limit is a number that its field can hold: a u16, a u16, a u32 and a u8 in the code (crates/lictor_core/src/envelope.rt, Hysteresis). A definition has
--- whole numbers without bounds, so it is said here; every record that the code holds meets it, as `sized` promises (src/lib.rt).
+-- Each limit is a number that its field can hold: a u16, a u16, a u32 and a u8 in the code
+-- (crates/lictor_core/src/envelope.rt, Hysteresis). A definition has whole numbers without bounds,
+-- so it is said here; every record that the code holds meets it, as `sized` promises (src/lib.rt).
 pub record Sized (s : Settings) : Type 0 where
   pub brake : B s ≤ 65535
   pub hold : H s ≤ 65535
@@ -45,19 +49,19 @@ pub record Sized (s : Settings) : Type 0 where
 -- ---- the words of the claim
 
 -- the tick ends in q
-abbrev pub endsIn : FuseState → Seen → Bool
+abbrev pub endsIn : FuseState → TickSeen → Bool
 endsIn q x = isState q (x .to)
 
 -- it starts from q
-abbrev pub startsFrom : FuseState → Seen → Bool
+abbrev pub startsFrom : FuseState → TickSeen → Bool
 startsFrom q x = isState q (x .from)
 
 -- a stop begins (the paper: braking begins)
-abbrev pub begins : Seen → Bool
+abbrev pub begins : TickSeen → Bool
 begins x = endsIn Braking x && not (startsFrom Braking x)
 
 -- a stop is over with this tick, whichever way
-abbrev pub closes : Seen → Bool
+abbrev pub closes : TickSeen → Bool
 closes x = endsIn Armed x || (endsIn Fault x || endsIn Terminated x)
 
 -- it is the acknowledgement with this slot and nonce: these two alone tell one from another
@@ -66,14 +70,14 @@ Is NoAck slot nonce = ⊥
 Is (Given a) slot nonce = (a .«operator_slot» ≡ slot) × (a .nonce ≡ nonce)
 
 -- the tick consumes that one (what it consumes, if anything: Calls, tookOf)
-abbrev pub Consumes : Seen → ℕ → ℕ → Type 0
+abbrev pub Consumes : TickSeen → ℕ → ℕ → Type 0
 Consumes x slot nonce = Is (x .took) slot nonce
 
 abbrev pub none? : MaybeAck → Bool
 none? ack = byAck ack true (λ a. false)
 
 -- the fuse rearms by itself in this tick: 1, or it does not: 0
-abbrev pub rearms : Seen → ℕ
+abbrev pub rearms : TickSeen → ℕ
 rearms x = cond (endsIn Armed x && (startsFrom Held x && none? (x .took))) 1 0
 
 -- a sum of whole numbers, which no type cuts off
@@ -82,35 +86,39 @@ limit s = B s + H s + E s + 2
 
 -- ---- the four parts, in the order of 00-demands.md
 
--- of every tick with which a stop begins: of the n after it, where there are as many, one closes the stop
-abbrev pub StopsWithin : ℕ → List Seen → Type 0
+-- of every tick that begins a stop: of the n after it, where there are as many, one closes the stop
+abbrev pub StopsWithin : ℕ → List TickSeen → Type 0
 StopsWithin n l = Each (λ x after. T (begins x) → n ≤ length after → Some (λ y. T (closes y)) (take n after)) l
 
 -- stops: within the limit
-abbrev pub Stops : Settings → List Seen → Type 0
+abbrev pub Stops : Settings → List TickSeen → Type 0
 Stops s l = StopsWithin (limit s) l
 
 -- faults: Fault is for good
-abbrev pub Faults : List Seen → Type 0
+abbrev pub Faults : List TickSeen → Type 0
 Faults l = Each (λ x after. T (endsIn Fault x) → All (λ y. T (endsIn Fault y)) after) l
 
--- rearms: by itself the fuse rearms no more often than the settings say. Counted from the reset, since a Resume adds to the rearm count and does not clear it.
-abbrev pub Rearms : Settings → List Seen → Type 0
+-- rearms: by itself the fuse rearms no more often than the settings say.
+-- Counted from the reset, since a Resume adds to the rearm count and does not clear it.
+abbrev pub Rearms : Settings → List TickSeen → Type 0
 Rearms s l = total rearms l ≤ maxRearms s
 
 -- acks: what is consumed once is not consumed again
-abbrev pub Acks : List Seen → Type 0
+abbrev pub Acks : List TickSeen → Type 0
 Acks l = (slot nonce : ℕ) → Each (λ x after. Consumes x slot nonce → All (λ y. ¬ Consumes y slot nonce) after) l
 
 -- ---- the claim
 
-pub record Demand3 (s : Settings) (l : List Seen) : Type 0 where
+pub record Demand3 (s : Settings) (l : List TickSeen) : Type 0 where
   pub stops : Stops s l
   pub faults : Faults l
   pub rearms : Rearms s l
   pub acks : Acks l
 
--- For every settings record s, of every list of calls that are under s or refused, from what a reset of any run state leaves. (Where s itself does not pass
--- the check, every call is refused, and the list has no tick.)
+-- For every settings record s, of every list of calls that are under s or refused, from what a
+-- reset of any run state leaves. (Where s itself does not pass the check, every call is refused: no
+-- tick.)
 abbrev pub StopsClose : Type 0
-StopsClose = (s : Settings) → Sized s → (r : FuseRt) (cs : List Call) → All (Under s) cs → Demand3 s (ticksFrom (resetOf r) cs)
+StopsClose =
+    (s : Settings) → Sized s → (r : FuseRt) (cs : List Call) → All (Under s) cs
+    → Demand3 s (ticksFrom (resetOf r) cs)

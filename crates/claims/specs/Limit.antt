@@ -1,66 +1,49 @@
--- The limit of demand 3 is met: for all B from 1, all H and E, where B + H + E + 2 is at most 4294967295, settings and a list of calls from a reset on whose stop
--- closes with the last tick of the limit. So B + H + E + 1 would be false. Proved in proofs/Limit, `limit-met`.
--- (At B = 0 the first tick in Braking ends in Fault. Where the sum passes 4294967296 the clock's end comes first, with a fault: specs/ClockEnd.)
+-- The limit of demand 3 is met: for all B from 1, all H and E, where B + H + E + 2 is at most
+-- 4294967295, settings and a list of calls from a reset on whose stop closes with the last tick of
+-- the limit. So B + H + E + 1 would be false. Proved in proofs/Limit, `limit-met`.
+-- (At B = 0 the first tick in Braking ends in Fault. Where the sum passes 4294967296 the clock's
+-- end comes first, with a fault: specs/ClockEnd.)
 -- It is of demand 3's first part (00-demands.md, Demand 3), and beyond what the papers ask.
 use mathlib.Core.Path.{_≡_}
 use mathlib.Core.Bool.{Bool, true, false}
 use mathlib.Core.List.{List, [], _∷_, _++_}
 use Prim.Native.Nat.{ℕ, _+_, _-_, _≤_}
 use lib.Dec.{T}
-use lib.Ieee.{Float, fin}
-use lib.IntN.{pos}
+use lib.Ieee.{Float}
 use Rattle.lictor_core.specs.declared.ack.MaybeAck.the-variants.{NoAck}
 use Rattle.lictor_core.specs.declared.chunk.MaybeChunk.{MaybeChunk}
 use Rattle.lictor_core.specs.declared.chunk.MaybeChunk.the-variants.{NoChunk, Delivered}
+use Rattle.lictor_core.specs.declared.envelope.Hysteresis.{Hysteresis}
 use Rattle.lictor_core.specs.declared.envelope.Settings.{Settings}
 use Rattle.lictor_core.specs.declared.fuse.FuseRt.{FuseRt}
-use Rattle.lictor_core.specs.Initial.{zeroFloat, zeros, resetOf}
+use Rattle.lictor_core.specs.Initial.{zeroFloat, oneFloat, resetOf}
+use Rattle.samples.specs.Samples.{sampleSettings, sampleOutcome, sampleInput, sampleChunk}
 use Rattle.claims.specs.Runs.{All, First, Where, series}
-use Rattle.claims.specs.Calls.{Call, accepted, ticksFrom}
+use Rattle.claims.specs.Calls.{Call, settingsPass, ticksFrom}
 use Rattle.claims.specs.ClockEnd.{lastTime}
 use Rattle.claims.specs.Demand3.{Sized, begins, closes, limit, StopsWithin}
 
--- 1.0
-abbrev pub oneFloat : Float
-oneFloat = fin false 1 (pos 0)
-
--- Enforce, AckOnly, one component, standstill confirmed by one tick at speed 0; nothing but the limits B, H and E matters besides
-abbrev pub slowSettings : ℕ → ℕ → ℕ → Settings
-slowSettings b h e =
+-- the limits B, H and E; standstill is confirmed by one tick at speed 0, and nothing else matters
+abbrev pub slowLimits : ℕ → ℕ → ℕ → Hysteresis
+slowLimits b h e =
     record {
-      mode = 1;
-      kind = 0;
-      clamp = 1;
-      rearm = 1;
-      dim = 1;
-      «pos_dim» = 1;
-      horizon = 1;
-      exec = 1;
-      dt = oneFloat;
-      «inv_dt» = oneFloat;
-      «a_max» = oneFloat;
-      «box_lo» = zeros 8;
-      «box_hi» = zeros 8;
-      hyst =
-          record {
-            k = 255;
-            «warn_margin» = zeroFloat;
-            «clear_ticks» = 1;
-            «clamp_streak_to_brake» = 255;
-            «max_clamps_per_episode» = 0;
-            «stop_confirm_ticks» = 1;
-            «v_stop_eps» = zeroFloat;
-            «brake_timeout_ticks» = b;
-            «rearm_hold» = 0;
-            «max_rearms» = 0;
-            «escalate_after_hold_ticks» = h;
-            «handoff_timeout_ticks» = e;
-            «watchdog_ticks» = 0;
-          };
-      «window_mask» = 0;
-      «tier0_enabled» = 0;
-      calib = record { mask = 0; tau = zeroFloat };
+      k = 255;
+      «warn_margin» = zeroFloat;
+      «clear_ticks» = 1;
+      «clamp_streak_to_brake» = 255;
+      «max_clamps_per_episode» = 0;
+      «stop_confirm_ticks» = 1;
+      «v_stop_eps» = zeroFloat;
+      «brake_timeout_ticks» = b;
+      «rearm_hold» = 0;
+      «max_rearms» = 0;
+      «escalate_after_hold_ticks» = h;
+      «handoff_timeout_ticks» = e;
+      «watchdog_ticks» = 0;
     }
+
+abbrev pub slowSettings : ℕ → ℕ → ℕ → Settings
+slowSettings b h e = sampleSettings (slowLimits b h e) 0 0 oneFloat
 
 module _ (s : Settings) where
   -- a call at t with this velocity, and a chunk or none; its brake is feasible or not
@@ -68,18 +51,8 @@ module _ (s : Settings) where
   callAt t v feasible head values =
       record {
         settings = s;
-        input =
-            record { t = t; idx = 0; «missed_ticks» = 0; «schema_fault» = false; «has_vel» = true; chunk = head; ack = NoAck };
-        outcome =
-            record {
-              trips = 0;
-              «clamped_dims» = 0;
-              feasible = feasible;
-              margin = zeroFloat;
-              scores = record { z = zeros 12; s = zeroFloat; valid = 0; fired = 0 };
-              policy = zeros 8;
-              clamped = zeros 8;
-            };
+        input = sampleInput t 0 true head NoAck;
+        outcome = sampleOutcome 0 feasible zeroFloat;
         pos = zeroFloat ∷ [];
         vel = v ∷ [];
         aux = [];
@@ -89,7 +62,7 @@ module _ (s : Settings) where
 
   -- the first call: a chunk whose brake is infeasible, so that braking begins
   abbrev pub trips : Call
-  trips = callAt 0 zeroFloat false (Delivered (record { seq = 0; «t_emit» = 0; horizon = 1; dim = 1; «exec_steps» = 1 })) (zeroFloat ∷ [])
+  trips = callAt 0 zeroFloat false (Delivered (sampleChunk 0)) (zeroFloat ∷ [])
 
   -- later ones: the arm moves, or stands
   abbrev pub moves : ℕ → Call
@@ -98,7 +71,8 @@ module _ (s : Settings) where
   abbrev pub stands : ℕ → Call
   stands t = callAt t zeroFloat true NoChunk []
 
--- braking begins; B - 1 ticks that move; one that stands, and Held begins; H that wait there, one that escalates; E that wait there, one that terminates
+-- braking begins; B - 1 ticks that move; one that stands, and Held begins;
+-- H that wait there, one that escalates; E that wait there, one that terminates
 abbrev pub slowest : ℕ → ℕ → ℕ → List Call
 slowest b h e =
     let s = slowSettings b h e in
@@ -113,14 +87,15 @@ slowest b h e =
 -- ---- the claim
 
 pub record Met (r : FuseRt) (s : Settings) (cs : List Call) : Type 0 where
-  -- the list is one of those that demand 3 speaks of, of ticks all, and its times are within the clock
+  -- the list is one of those that demand 3 speaks of, all ticks, and its times are within the clock
   pub sized : Sized s
-  pub under : All (λ c. T (accepted c) × (c .settings ≡ s)) cs
+  pub under : All (λ c. T (settingsPass c) × (c .settings ≡ s)) cs
   pub times : All (λ c. c .input .t ≤ lastTime) cs
-  -- braking begins, and the first tick after it that closes the stop is the one with the number of the limit
+  -- braking begins, and the first tick after it that closes the stop has the number of the limit
   pub exact : Where (λ x after. T (begins x) × First (λ y. T (closes y)) (limit s) after) (ticksFrom (resetOf r) cs)
   -- so the limit cannot be one less
   pub tight : ¬ StopsWithin (limit s - 1) (ticksFrom (resetOf r) cs)
 
 abbrev pub LimitMet : Type 0
-LimitMet = (b h e : ℕ) → 1 ≤ b → b ≤ 65535 → h ≤ 65535 → b + h + e + 2 ≤ lastTime → (r : FuseRt) → Met r (slowSettings b h e) (slowest b h e)
+LimitMet = (b h e : ℕ) → 1 ≤ b → b ≤ 65535 → h ≤ 65535 → b + h + e + 2 ≤ lastTime
+    → (r : FuseRt) → Met r (slowSettings b h e) (slowest b h e)

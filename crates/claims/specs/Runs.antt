@@ -6,7 +6,8 @@ use Prim.Native.Nat.{ℕ, zero, suc, _+_}
 -- ---- what is said of a list
 
 module _ {A : Type 0} where
-  -- of each element, and of those after it: of every way to cut the list in two at an element (proofs/Runs, each-at and each-cut)
+  -- of each element, and of those after it: of every way to cut the list in two at an element
+  -- (proofs/Runs, each-at and each-cut)
   abbrev pub Each : (A → List A → Type 0) → List A → Type 0
   Each P [] = Unit {0}
   Each P (x ∷ l) = P x l × Each P l

@@ -1,4 +1,5 @@
--- The tally and its ticks: what the run state's tally holds after any list of calls from a reset on, or from the settings on (01-scope.md, Modules 4).
+-- The tally and its ticks: what the run state's tally holds after any list of calls from a reset
+-- on, or from the settings on (01-scope.md, Modules 4).
 -- Proved in proofs/Tallies, `tally-told`.
 use mathlib.Core.Path.{_≡_}
 use mathlib.Core.Bool.{Bool, cond, _&&_}
@@ -13,29 +14,31 @@ use Rattle.lictor_core.specs.declared.tally.Tally.{Tally}
 use Rattle.lictor_core.specs.declared.verdict.SafetyVerdict.{SafetyVerdict}
 use Rattle.lictor_core.specs.Codes.{isState}
 use Rattle.lictor_core.specs.Initial.{newOf, resetOf}
-use Rattle.lictor_delivery.specs.Delivery.{deliveredOf}
-use Rattle.lictor_verdict.specs.Verdict.{eventsOf, noEvents, rejectedOf}
+use Rattle.lictor_guard.specs.Delivery.{deliveredOf}
+use Rattle.lictor_stages.specs.Verdict.{eventsOf, rejectedOf}
+use Rattle.lictor_fuse.specs.FaultTick.{noEvents}
 use Rattle.lictor_table.specs.declared.Turn.{Turn}
 use Rattle.lictor_tally.specs.History.{Item, tallyOf}
 use Rattle.lictor_tally.specs.Tally.{isNominal}
-use Rattle.lictor_fuse.specs.declared.tick.Ticked.{Ticked}
+use Rattle.lictor_fuse.specs.declared.Ticked.{Ticked}
 use Rattle.claims.specs.Runs.{total, trace}
-use Rattle.claims.specs.Calls.{Call, guardBits, tripsOf, stepOf, after}
+use Rattle.claims.specs.Calls.{Call, guardBits, tripsOf, stepOf, leftBy}
 
 -- ---- what the tally takes in of a tick
 
 -- what the state machine answered, as far as the events go by it
-abbrev pub turnOf : FuseRt → SafetyVerdict → Turn
-turnOf r v = record { rt = r .control; state = v .state; extra = 0; reason = v .reason }
+abbrev pub turnSeen : FuseRt → SafetyVerdict → Turn
+turnSeen r v = record { rt = r .control; state = v .state; extra = 0; reason = v .reason }
 
--- a call on r, clean or not, that leaves r′ and gives v: its verdict; of a clean tick its chunk, if it brings one, and the events, which a fault tick has not
+-- of a call on r, clean or not, that leaves r′ and gives v: its verdict;
+-- of a clean tick also its chunk, if it brings one, and its events
 abbrev pub itemBy : Bool → FuseRt → Call → FuseRt → SafetyVerdict → Item
 itemBy clean r c r′ v =
     record {
       chunk = clean && deliveredOf (c .input .chunk);
       rejected = rejectedOf (tripsOf c);
       verdict = v;
-      events = cond clean (eventsOf (c .settings .calib) (c .outcome .scores) (r .control) (turnOf r′ v)) noEvents;
+      events = cond clean (eventsOf (c .settings .calib) (c .outcome .scores) (r .control) (turnSeen r′ v)) noEvents;
     }
 
 abbrev pub itemOf : FuseRt → Call → Ticked → Item
@@ -56,8 +59,8 @@ verdictsFrom r cs = trace (stepOf verdictIn) r cs
 -- ---- the claim
 
 -- how many of the verdicts have the property
-abbrev pub number : (SafetyVerdict → Bool) → List SafetyVerdict → ℕ
-number p l = total (λ v. cond (p v) 1 0) l
+abbrev pub howMany : (SafetyVerdict → Bool) → List SafetyVerdict → ℕ
+howMany p l = total (λ v. cond (p v) 1 0) l
 
 abbrev pub endedIn : FuseState → SafetyVerdict → Bool
 endedIn q v = isState (v .state) q
@@ -69,21 +72,23 @@ endedNominal v = isNominal (v .state)
 -- every tick is counted, by its verdict's state
 pub record StateCounts (t : Tally) (l : List SafetyVerdict) : Type 0 where
   pub ticks : t .ticks ≡ length l
-  pub sum : t .nominal + t .watching + t .clamped + t .braking + t .held + t .escalated + t .fault + t .terminated ≡ t .ticks
-  pub nominal : t .nominal ≡ number endedNominal l
-  pub watching : t .watching ≡ number (endedIn S.Watching) l
-  pub clamped : t .clamped ≡ number (endedIn S.Clamped) l
-  pub braking : t .braking ≡ number (endedIn S.Braking) l
-  pub held : t .held ≡ number (endedIn S.Held) l
-  pub escalated : t .escalated ≡ number (endedIn S.Escalated) l
-  pub fault : t .fault ≡ number (endedIn S.Fault) l
-  pub terminated : t .terminated ≡ number (endedIn S.Terminated) l
+  pub sum : t .nominal + t .watching + t .clamped + t .braking
+      + t .held + t .escalated + t .fault + t .terminated ≡ t .ticks
+  pub nominal : t .nominal ≡ howMany endedNominal l
+  pub watching : t .watching ≡ howMany (endedIn S.Watching) l
+  pub clamped : t .clamped ≡ howMany (endedIn S.Clamped) l
+  pub braking : t .braking ≡ howMany (endedIn S.Braking) l
+  pub held : t .held ≡ howMany (endedIn S.Held) l
+  pub escalated : t .escalated ≡ howMany (endedIn S.Escalated) l
+  pub fault : t .fault ≡ howMany (endedIn S.Fault) l
+  pub terminated : t .terminated ≡ howMany (endedIn S.Terminated) l
 
 pub record TallyTold (r : FuseRt) (cs : List Call) : Type 0 where
-  -- of whatever length: the tally is that of the history, every field (lictor_tally, specs/History, says of each what it holds, at its ceiling too)
-  pub whole : after r cs .tally ≡ tallyOf (historyFrom r cs)
+  -- of whatever length: the tally is that of the history, every field
+  -- (lictor_tally, specs/History, says of each what it holds, at its ceiling too)
+  pub whole : leftBy r cs .tally ≡ tallyOf (historyFrom r cs)
   -- below 2^32 ticks
-  pub states : length (verdictsFrom r cs) < 2 ^ 32 → StateCounts (after r cs .tally) (verdictsFrom r cs)
+  pub states : length (verdictsFrom r cs) < 2 ^ 32 → StateCounts (leftBy r cs .tally) (verdictsFrom r cs)
 
 -- after any calls, whatever their settings, refused ones among them
 pub record TalliesTold : Type 0 where

@@ -1,5 +1,7 @@
-// Claims about whole lists of calls: demand 3, the tally and its history, the end of the clock, the counters. The statements are in specs/, their proofs in
-// proofs/; they speak of the definitions that `tick` of lictor_fuse and `reset` of lictor_episode promise, so the only code here is what ties their sizes to the types.
+// Claims about whole lists of calls: demand 3, the tally and its history, the end of the clock,
+// the counters. The statements are in specs/, their proofs in proofs/. They speak of the
+// definitions that `tick` of lictor_fuse and `reset` of lictor_fuse::episode promise,
+// so the only code here is what ties their sizes to the types.
 ghost use mathlib.Core.Path.{_≡_};
 ghost use mathlib.Core.Bool.{true};
 ghost use Prim.Native.Nat.{_≤_};

@@ -1,19 +1,24 @@
-// Plays a journal from standard input to its end or its first refusal, in constant memory, and writes the text of its ticks and its last line.
+// Plays a journal from standard input to its end or its first refusal, in constant memory, and
+// writes the text of its ticks and its last line.
+mod intake; // the bytes that are at hand
+
 ghost use mathlib.Core.Path.{_≡_};
 ghost use Prim.Native.Nat.{_<_, _≤_};
 ghost use lib.ListN.{length, take};
 ghost use Rattle.lictor_core.specs.Initial.{zeros};
 ghost use Rattle.text.specs.Line.{lineOf};
-ghost use Rattle.journal_tick.specs.Tick.{wholeOf};
-ghost use Rattle.intake.specs.Intake.{Came};
-ghost use Rattle.player.specs.Play.{tickRoom};
-ghost use Rattle.console.specs.Console.{Taken, roundOf, Rounded, endedOf, Ran, lastOf};
-use journal_tick::Run;
-use judge::Refusal;
+ghost use Rattle.journal_reader.specs.State.{places};
+ghost use Rattle.journal.specs.Tick.{wholeOf};
+ghost use Rattle.console.specs.Intake.{Came};
+ghost use Rattle.report.specs.Text.{tickRoom};
+ghost use Rattle.console.specs.Console.{bufferRoom, Taken, roundOf, Rounded, endedOf, Ran, lastLineOf};
+use journal::tick::Run;
+use journal_reader::waiting::PLACES;
+use journal_reader::waiting::Reader;
+use journal_refusals::Refusal;
 use libc::STDOUT_FILENO;
-use player::Turn;
+use player::Played;
 use text::Line;
-use waiting::Reader;
 
 // ---- part by part
 
@@ -23,31 +28,31 @@ fn write_part(out: &[u8], n: usize)
     io::write_all(STDOUT_FILENO, &out[..n]);
 }
 
-// Plays what is to be had of the first `have` bytes, writes its text, and moves the rest to the front.
+// Plays what is to be had of the first `have` bytes, writes its text, and moves the rest down.
 fn take_in(
     code: u8,
     rd: Reader,
     run: Run,
-    lists: &mut [f64; 576],
+    lists: &mut [f64; PLACES],
     buf: &mut [u8],
     have: usize,
     out: &mut [u8],
-) -> Turn
+) -> Played
     requires { ⌜ have ≤ length (now buf) ⌝ }
     ensures { λ r. ⌜ Taken code (wholeOf rd run (now (lists .entry))) (take have (now (buf .entry))) (now (out .entry)) r (now (lists .exit)) (now (buf .exit)) (now (out .exit)) ⌝ }
 {
-    let t = player::feed(code, rd, run, lists, &buf[..have], out);
-    write_part(out, t.n);
-    intake::move_down(buf, t.at, have);
-    t
+    let played = player::feed(code, rd, run, lists, &buf[..have], out);
+    write_part(out, played.n);
+    crate::intake::move_down(buf, played.at, have);
+    played
 }
 
-// Reads once behind the first `have` bytes, where there is room.
+// Reads once after the first `have` bytes, where there is room.
 fn read_on(buf: &mut [u8], have: usize) -> usize
     requires { ⌜ have < length (now buf) ⌝ }
     ensures { λ r. ⌜ Came (take have (now (buf .entry))) r (now (buf .exit)) ⌝ }
 {
-    intake::read_more(buf, have)
+    crate::intake::read_more(buf, have)
 }
 
 struct Round {
@@ -65,51 +70,52 @@ struct Round {
     more: bool,
 }
 
-// A round that came to t, with so many bytes at hand and reads left.
-fn round_of(t: Turn, have: usize, reads: u64, more: bool) -> Round
-    ensures { λ r. ⌜ r ≡ roundOf t have reads more ⌝ }
+// A round that played this, with so many bytes at hand and reads left.
+fn round_of(played: Played, have: usize, reads: u64, more: bool) -> Round
+    ensures { λ r. ⌜ r ≡ roundOf played have reads more ⌝ }
 {
-    let reader = t.reader;
-    let run = t.run;
+    let reader = played.reader;
+    let run = played.run;
     Round {
         reader,
         run,
-        taken: t.at,
+        taken: played.at,
         have,
-        n: t.n,
-        refused: t.refused,
+        n: played.n,
+        refused: played.refused,
         reads,
         more,
     }
 }
 
-// Plays what is there, and reads once where that was all. Where no read is left, the input counts as ended.
+// Plays what is there, and reads once where that was all.
+// Where no read is left, the input counts as ended.
 fn play_round(
     code: u8,
     rd: Reader,
     run: Run,
-    lists: &mut [f64; 576],
+    lists: &mut [f64; PLACES],
     buf: &mut [u8],
     have: usize,
     out: &mut [u8],
     reads: u64,
 ) -> Round
-    requires { ⌜ (have ≤ length (now buf)) × (65536 ≡ length (now buf)) × (tickRoom ≤ length (now out)) ⌝ }
+    requires { ⌜ (have ≤ length (now buf)) × (bufferRoom ≡ length (now buf)) × (tickRoom ≤ length (now out)) ⌝ }
     ensures { λ r. ⌜ Rounded code (wholeOf rd run (now (lists .entry))) (take have (now (buf .entry))) reads r (now (lists .exit)) (now (buf .exit)) (now (out .exit)) ⌝ }
 {
-    let t = take_in(code, rd, run, lists, buf, have, out);
-    let left = have - t.at;
-    if t.ticked {
-        return round_of(t, left, reads, true);
+    let played = take_in(code, rd, run, lists, buf, have, out);
+    let left = have - played.at;
+    if played.more {
+        return round_of(played, left, reads, true);
     }
-    if t.refused != 0 {
-        return round_of(t, left, reads, false);
+    if played.refused != 0 {
+        return round_of(played, left, reads, false);
     }
     if reads == 0 {
-        return round_of(t, left, reads, false);
+        return round_of(played, left, reads, false);
     }
-    let e = read_on(buf, left);
-    round_of(t, e, reads - 1, left < e)
+    let then = read_on(buf, left);
+    round_of(played, then, reads - 1, left < then)
 }
 
 // ---- the whole
@@ -138,7 +144,7 @@ fn finish(run: Run, refused: u8, have: usize, place: u64) -> Ended
         return Ended {
             run,
             place,
-            refused: judge::number(Refusal::CutBody),
+            refused: journal_refusals::number(Refusal::CutBody),
         };
     }
     Ended {
@@ -152,13 +158,13 @@ fn finish(run: Run, refused: u8, have: usize, place: u64) -> Ended
 const READS: u64 = 140737488355328;
 
 // Round by round to the end of the input or to the first refusal.
-fn run_rounds(code: u8, lists: &mut [f64; 576], buf: &mut [u8], out: &mut [u8]) -> Ended
-    requires { ⌜ (now lists ≡ zeros 576) × (65536 ≡ length (now buf)) × (tickRoom ≤ length (now out)) ⌝ }
+fn run_rounds(code: u8, lists: &mut [f64; PLACES], buf: &mut [u8], out: &mut [u8]) -> Ended
+    requires { ⌜ (now lists ≡ zeros places) × (bufferRoom ≡ length (now buf)) × (tickRoom ≤ length (now out)) ⌝ }
     ensures { λ r. ⌜ Ran r ⌝ }
 {
-    let rd = waiting::start();
+    let rd = journal_reader::waiting::start();
     let run = journal::start();
-    let mut r = Round {
+    let mut round = Round {
         reader: rd,
         run,
         taken: 0,
@@ -169,28 +175,37 @@ fn run_rounds(code: u8, lists: &mut [f64; 576], buf: &mut [u8], out: &mut [u8]) 
         more: true,
     };
     let mut place: u64 = 0;
-    while r.more {
-        let q = r.reader;
-        let u = r.run;
-        r = play_round(code, q, u, lists, buf, r.have, out, r.reads);
-        place += r.taken as u64;
+    while round.more {
+        let reader = round.reader;
+        let before = round.run;
+        round = play_round(
+            code,
+            reader,
+            before,
+            lists,
+            buf,
+            round.have,
+            out,
+            round.reads,
+        );
+        place += round.taken as u64;
     }
-    let after = r.run;
-    finish(after, r.refused, r.have, place)
+    let after = round.run;
+    finish(after, round.refused, round.have, place)
 }
 
 // The last line of a journal.
-fn last_line(e: Ended) -> Line
-    ensures { λ r. ⌜ r ≡ lineOf (lastOf e) ⌝ }
+fn last_line(ended: Ended) -> Line
+    ensures { λ r. ⌜ r ≡ lineOf (lastLineOf ended) ⌝ }
 {
-    let refused = e.refused;
+    let refused = ended.refused;
     if refused != 0 {
-        return report::lines::refused_line(refused, e.place);
+        return report::refused_line(refused, ended.place);
     }
-    let run = e.run;
+    let run = ended.run;
     let rt = run.rt;
     let tally = rt.tally;
-    report::lines::end_line(tally)
+    report::end_line(tally)
 }
 
 fn write_line(l: Line) {
@@ -201,20 +216,20 @@ fn write_line(l: Line) {
     }
 }
 
-fn no_lists() -> [f64; 576]
-    ensures { λ r. ⌜ r ≡ zeros 576 ⌝ }
+fn no_lists() -> [f64; PLACES]
+    ensures { λ r. ⌜ r ≡ zeros places ⌝ }
 {
-    [0.0; 576]
+    [0.0; PLACES]
 }
 
-// Plays the journal on standard input; what is written of a tick is chosen by the code (LINES or TRACE of `render`).
+// Plays the journal on standard input; LINES or TRACE of `report::render` chooses the text.
 pub fn play(code: u8) -> Ended
     ensures { λ r. ⌜ Ran r ⌝ }
 {
     let mut lists = no_lists();
     let mut buf = io::large_buffer();
     let mut out = io::large_buffer();
-    let e = run_rounds(code, &mut lists, &mut buf, &mut out);
-    write_line(last_line(e));
-    e
+    let ended = run_rounds(code, &mut lists, &mut buf, &mut out);
+    write_line(last_line(ended));
+    ended
 }

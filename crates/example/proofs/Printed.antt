@@ -1,54 +1,36 @@
 -- The definitions print the example as the paper says: everything is computed, from the bytes to the text.
 use mathlib.Core.Path.{_≡_, refl}
-use Rattle.fmath.specs.Float.{minOf, maxOf, clampOf, allFinite, addSquares, normOf}
-use Rattle.fmath.specs.Root.{rootIn, wholeRoot, rootOf}
-use Rattle.lictor_core.specs.Codes.{modeOf, kindOf, clampModeOf, rearmOf, decisionOf}
-use Rattle.lictor_core.specs.Initial.{zeros, emptyTally, freshControl, freshMotion, freshClock, newOf, resetOf}
-use Rattle.lictor_core.specs.Masks.{anyOf}
-use Rattle.lictor_core.specs.Rows.{rowTo}
-use Rattle.lictor_settings.specs.Settings.{badCode, badSize, badFloat, anyBelow, crossedOf, badBox, settingsTable, firstRow, checkOf, configOf}
-use Rattle.lictor_brake.specs.Brake.{component, boxedComponent, boxedRow, scaledComponent, scaledRow, boxedAction, scaledAction, eps, brakeFactor, brakeAction, holdAction}
-use Rattle.lictor_detect.specs.Window.{bitOf, pushOf, hitsOf, tripOf}
-use Rattle.lictor_delivery.specs.Delivery.{deliveredOf, sizesBad, placeBad, headBad, deliveryBad}
-use Rattle.lictor_guard.specs.Guard.{nonFinite, lengthsOf, shapeBad, clockBad, schemaBad, bitIf, guardOf}
-use Rattle.lictor_table.specs.Consumed.{consumedOf}
-use Rattle.lictor_table.specs.Helpers.{faultReason, clampReason, armedReason, acceptedBy, acceptedAck, consumeNonce, latchedOf, latchHold, countIf, upIf, isClean, countRun, settledOf}
-use Rattle.lictor_table.specs.Rows.{faultRow, rearmAck, resumeRow, terminateRow, timeoutRow, waitRow, waitingOf, escalatedOf, mayRearm, rearmRow, escalateRow, holdRow, holdingOf, heldOf, confirmedOf, standstillRow, stoppingRow, brakingOf, enterBraking, brakeRow, unclampableOf, overBudget, clampRow, clearedOf, clearRow, watchedOf, quietOf, runningOf, byFrom, transitionOf, nextByRows}
-use Rattle.lictor_table.specs.Table.{firstOf, table, nextFrom, nextOf}
-use Rattle.lictor_tally.specs.History.{recorded}
-use Rattle.lictor_tally.specs.Tally.{count, bitOf as bitOf·lictor_tally, countBit, eachFrom, countBits, first, firstReason, mostAt, mostLive, recordOf, recordChunk}
-use Rattle.lictor_ingest.specs.Ingest.{takenRow, stepRate, ratesRow, stillRow, velocityOf, ingestOf, isFit, withPos, faultMotion}
-use Rattle.lictor_stages.specs.Judge.{withBrake, maskedOf, warnOf, slowOf, standstillOf, chunkOk, scoredOf, judgeOf, machineInput, faultInput}
-use Rattle.lictor_act.specs.Act.{statusOf, sourceOf, cutRow, passedOf, insteadOf, enforcedOf, byMode, actOf}
-use Rattle.lictor_verdict.specs.Verdict.{liveValid, scoresOf, disarmedScores, actionDim, enteredOf, handoffOf, hasAck, consumedFlag, verdictOf, faultVerdict, eventsOf, noEvents, rejectedOf}
-use Rattle.lictor_steps.specs.Steps.{readyOf}
-use Rattle.lictor_closing.specs.Clock.{nextChunk, cleanClock, chunkTally, faultClock}
-use Rattle.lictor_decide.specs.Decide.{closedOf, closeClean, cleanTick, closeFault, faultTick, decideBy, decideOf}
-use Rattle.lictor_fuse.specs.Tick.{noVerdict, refusedTick, givenOf, acceptedTick, tickBy, tickOf}
-use Rattle.text.specs.Commas.{behindCommas, commas, numbersText, floatsText}
-use Rattle.text.specs.Line.{lineOf, putOf, pushOf as pushOf·text}
-use Rattle.text.specs.Number.{decimalIn, signedOf, hexIn, floatText}
-use Rattle.report.specs.Lines.{marginText, tickText, stoppedOf, endText, refusedText}
-use Rattle.margin.specs.Margin.{nearestWhole, marginOf}
-use Rattle.bytes_le.specs.Little.{leAt, floatAt, floatsAt}
-use Rattle.records.specs.Body.{ackOf, headOf, tickNumbers, recordOf as recordOf·records}
-use Rattle.long_records.specs.Long.{limitsOf, calibrationOf, settingsOf, scoresOf as scoresOf·long_records, outcomeOf}
-use Rattle.records.specs.Kinds.{isKnown, bodyLen}
-use Rattle.judge.specs.Causes.{unknownKind, bodyCut, beforeSettings, again, codeNotListed, sizeOutside, floatNotFinite, boxCrossed, listFull, notReady}
-use Rattle.judge.specs.Table.{refusalTable, firstRow as firstRow·judge, judgedOf, contentsOf}
-use Rattle.reader.specs.Reading.{lookAs, lookOf, callOf, onRecord, onLook, nextOf as nextOf·reader, readOf, listsAfter}
-use Rattle.waiting.specs.State.{ackWaits, headWaits, valueWaits, stored, outcomeWaits, settingsCame, emptied, startReader, valuesOf, inputOf}
-use Rattle.reader.specs.Stream.{settle, settled, advance, advanced, fed, whole}
+use Rattle.text.specs.Commas.{afterCommas, commas, numbersText, floatsText}
+use Rattle.text.specs.Line.{lineOf, putOf, pushOf}
+use Rattle.text.specs.Number.{hexIn, floatText}
+use Rattle.journal_records.specs.Little.{leAt, floatAt, floatsAt}
+use Rattle.journal_records.specs.Body.{ackOf, headOf, tickNumbers, decodeOf}
+use Rattle.journal_records.specs.Long.{limitsOf, calibrationOf, settingsOf, scoresIn, outcomeOf}
+use Rattle.journal_records.specs.Kinds.{isKnown, bodyLen}
+use Rattle.journal_refusals.specs.Causes.{unknownKind, bodyCut, beforeSettings, again, codeNotListed, sizeOutside, floatNotFinite, boxCrossed, listFull, notReady}
+use Rattle.journal_refusals.specs.Table.{refusalTable, judgedOf, contentsOf}
+use Rattle.journal_reader.specs.Reading.{lookAs, lookOf, broughtOf, onRecord, onLook, onBytes, readOf, listsRead}
+use Rattle.journal_reader.specs.State.{ackWaits, headWaits, valueWaits, stored, outcomeWaits, settingsCame, emptied, startReader, valuesOf, inputOf}
+use Rattle.stream.specs.Stream.{settle, settled, advance, advanced, fed, whole}
 use Rattle.journal.specs.Ends.{judgedAt}
-use Rattle.journal_tick.specs.Tick.{decidedOf, tickedOf, journalTick}
-use Rattle.journal.specs.Journal.{begunOf, restartedOf, obey, obeyed, replayOf, startRun, startWhole, journalOf, advancedOf, listsAfter as listsAfter·journal, begunAt, resetAt}
-use Rattle.render.specs.Text.{traceUpTo, eventText, placeAfter, memoryAfter}
-use Rattle.player.specs.Play.{eventsText, played, playOf, fedOf, turnOf, goesOnOf}
-use Rattle.console.specs.Console.{lastText, textOf, endedOf, endNumber, endPlace, lastOf}
-use lib.Ieee.{add, sub, mul, div, lt, le, eq, ofBits, toBits, round, isNan}
-use lib.Count.{ones}
-use Rattle.example.specs.Example.{number, times, settings, reset, outcome, tick, journal, printed}
+use Rattle.journal.specs.Tick.{decidedOf, tickedOf, journalTick}
+use Rattle.journal.specs.Journal.{begunOf, restartedOf, obey, obeyed, replayOf, startRun, startWhole, journalOf, advancedOf, listsAfter, begunAt, resetAt}
+use Rattle.report.specs.Text.{traceUpTo, eventText, placeAfter, memoryAfter}
+use Rattle.player.specs.Play.{eventsText, withText, playOf, fedOf, playedOf, goesOnOf}
+use Rattle.console.specs.Console.{lastText, textOf, endedOf, endNumber, endPlace, lastLineOf}
+use Rattle.starred.proofs.Opened.{tick-opened}
+use Rattle.example.specs.Example.{inBytes, times, settingsBytes, resetBytes, outcomeBytes, tickBytes, exampleBytes, exampleText}
 
-pub example-printed : textOf 0 journal ≡ printed
-unfolding minOf maxOf clampOf allFinite addSquares normOf rootIn wholeRoot rootOf modeOf kindOf clampModeOf rearmOf decisionOf zeros emptyTally freshControl freshMotion freshClock newOf resetOf anyOf rowTo badCode badSize badFloat anyBelow crossedOf badBox settingsTable firstRow checkOf configOf component boxedComponent boxedRow scaledComponent scaledRow boxedAction scaledAction eps brakeFactor brakeAction holdAction bitOf pushOf hitsOf tripOf deliveredOf nonFinite lengthsOf shapeBad sizesBad placeBad headBad deliveryBad clockBad schemaBad bitIf guardOf consumedOf faultReason clampReason armedReason acceptedBy acceptedAck consumeNonce latchedOf latchHold countIf upIf isClean countRun settledOf faultRow rearmAck resumeRow terminateRow timeoutRow waitRow waitingOf escalatedOf mayRearm rearmRow escalateRow holdRow holdingOf heldOf confirmedOf standstillRow stoppingRow brakingOf enterBraking brakeRow unclampableOf overBudget clampRow clearedOf clearRow watchedOf quietOf runningOf byFrom transitionOf nextByRows firstOf table nextFrom nextOf recorded count bitOf·lictor_tally countBit eachFrom countBits first firstReason mostAt mostLive recordOf recordChunk takenRow stepRate ratesRow stillRow velocityOf ingestOf isFit withPos faultMotion withBrake maskedOf warnOf slowOf standstillOf chunkOk scoredOf judgeOf machineInput faultInput statusOf sourceOf cutRow passedOf insteadOf enforcedOf byMode actOf liveValid scoresOf disarmedScores actionDim enteredOf handoffOf hasAck consumedFlag verdictOf faultVerdict eventsOf noEvents rejectedOf nextChunk cleanClock readyOf chunkTally faultClock closedOf closeClean cleanTick closeFault faultTick decideBy decideOf noVerdict refusedTick givenOf acceptedTick tickBy tickOf behindCommas commas numbersText floatsText lineOf putOf pushOf·text decimalIn signedOf hexIn floatText marginText tickText stoppedOf endText refusedText nearestWhole marginOf leAt floatAt floatsAt limitsOf calibrationOf settingsOf ackOf headOf scoresOf·long_records outcomeOf tickNumbers recordOf·records isKnown bodyLen unknownKind bodyCut beforeSettings again codeNotListed sizeOutside floatNotFinite boxCrossed listFull notReady refusalTable firstRow·judge judgedOf contentsOf lookAs lookOf callOf onRecord onLook nextOf·reader readOf listsAfter ackWaits headWaits valueWaits stored outcomeWaits settingsCame emptied startReader valuesOf inputOf settle settled advance advanced fed whole judgedAt begunOf restartedOf decidedOf tickedOf obey obeyed replayOf startRun startWhole journalOf advancedOf listsAfter·journal journalTick begunAt resetAt traceUpTo eventText placeAfter memoryAfter eventsText played playOf fedOf turnOf goesOnOf lastText textOf endedOf endNumber endPlace lastOf add sub mul div lt le eq ofBits toBits round isNan ones number times settings reset outcome tick journal
+pub example-printed : textOf 0 exampleBytes ≡ exampleText
+unfolding
+    tick-opened afterCommas commas numbersText floatsText lineOf putOf pushOf hexIn floatText leAt floatAt
+    floatsAt limitsOf calibrationOf settingsOf ackOf headOf scoresIn outcomeOf tickNumbers decodeOf isKnown
+    bodyLen unknownKind bodyCut beforeSettings again codeNotListed sizeOutside floatNotFinite boxCrossed
+    listFull notReady refusalTable judgedOf contentsOf lookAs lookOf broughtOf onRecord onLook
+    onBytes readOf listsRead ackWaits headWaits valueWaits stored outcomeWaits settingsCame emptied startReader
+    valuesOf inputOf settle settled advance advanced fed whole judgedAt begunOf restartedOf decidedOf tickedOf
+    obey obeyed replayOf startRun startWhole journalOf advancedOf listsAfter journalTick begunAt resetAt
+    traceUpTo eventText placeAfter memoryAfter eventsText withText playOf fedOf playedOf goesOnOf lastText
+    textOf endedOf endNumber endPlace lastLineOf inBytes times settingsBytes resetBytes outcomeBytes tickBytes
+    exampleBytes
 example-printed = refl

@@ -24,11 +24,13 @@ unfoldable pub allFinite : List Float → Bool
 allFinite [] = true
 allFinite (x ∷ xs) = finite x && allFinite xs
 
--- s with the squares of the elements added to it, the first element's first, each square and each sum rounded
+-- s with the squares of the elements added to it, the first element's first, each square and each
+-- sum rounded
 unfoldable pub addSquares : Float → List Float → Float
 addSquares s [] = s
 addSquares s (x ∷ xs) = addSquares (add binary64 s (mul binary64 x x)) xs
 
--- fmath.rs, norm: the root of the sum of the squares of the first n components, from +0. There are fewer where v is shorter; there fmath.rs stops with an index out of range.
+-- fmath.rs, norm: the root of the sum of the squares of the first n components, from +0. There are
+-- fewer where v is shorter; there fmath.rs stops with an index out of range.
 unfoldable pub normOf : List Float → ℕ → Float
 normOf v n = rootOf (addSquares plusZero (take n v))

@@ -1,7 +1,6 @@
-// The float helpers of fmath.rs. Every operation is IEEE 754's on binary64, one rounding each, and all NaNs count as one value.
-//
-// What Rust takes from its library, `is_finite`, `sqrt` (in the crate `root`) and the special values, is worked out from the bits:
-// bit 63 is the sign, bits 52 to 62 are the exponent field, and bits 0 to 51 are the stored digits.
+// The float helpers of fmath.rs. Every operation is IEEE 754's on binary64, one rounding each, and
+// all NaNs count as one value. What Rust takes from its library, `is_finite`, `sqrt` (in the crate
+// `root`) and the special values, is worked out from the bits (the crate `floats`).
 ghost use mathlib.Core.Path.{_≡_};
 ghost use mathlib.Core.Bool.{true, false, not};
 ghost use Prim.Native.Nat.{min as Nat·min};
@@ -9,13 +8,10 @@ ghost use lib.Ieee.{inf, nan as Ieee·nan};
 ghost use lib.Ieee.Scale.{finite};
 ghost use Rattle.fmath.specs.Float.{minOf, maxOf, clampOf, allFinite, normOf};
 ghost use Rattle.fmath.specs.Root.{rootOf};
+use floats::INF;
+use floats::PLACE;
 
-// 2 ^ 52: the place of the exponent field.
-const PLACE: u64 = 0x10_0000_0000_0000;
-
-// The patterns of the two infinities.
-const INF: u64 = 0x7ff0_0000_0000_0000;
-
+// The pattern of the infinity below zero.
 const MINUS_INF: u64 = 0xfff0_0000_0000_0000;
 
 // ---- special values
@@ -41,8 +37,9 @@ pub fn nan() -> f64
 
 // ---- finite
 
-// Neither a NaN nor an infinity: the exponent field is not all ones. A NaN is told first, by not being equal to itself,
-// since `to_bits` is not defined of it: compiled code may give any of its patterns.
+// Neither a NaN nor an infinity: the exponent field is not all ones. A NaN is told first, by not
+// being equal to itself, since `to_bits` is not defined of it: compiled code may give any of its
+// patterns.
 pub fn is_finite(x: f64) -> bool
     ensures { λ r. ⌜ r ≡ finite x ⌝ }
 {
@@ -104,7 +101,8 @@ fn least(n: usize, k: usize) -> usize
     if n < k { n } else { k }
 }
 
-// The Euclidean norm of the first n components, or of all where there are fewer, added up by rising index.
+// The Euclidean norm of the first n components, or of all where there are fewer, added up by rising
+// index.
 pub fn norm(v: &[f64], n: usize) -> f64
     ensures { λ r. ⌜ r ≡ normOf (now (v .entry)) n ⌝ }
 {
@@ -120,8 +118,8 @@ pub fn norm(v: &[f64], n: usize) -> f64
 
 // ---- square root
 
-// The square root, rounded to the nearest; of the infinity, of +0 and of -0 the argument itself, and of a NaN and of what
-// is below zero a NaN.
+// The square root, rounded to the nearest; of the infinity, of +0 and of -0 the argument itself,
+// and of a NaN and of what is below zero a NaN.
 pub fn sqrt(x: f64) -> f64
     ensures { λ r. ⌜ r ≡ rootOf x ⌝ }
 {

@@ -1,6 +1,7 @@
-// Reads a journal from standard input; writes a line for each tick, and `end` or `refused` at the end (01-scope.md, Journal).
+// Reads a journal from standard input; writes a line for each tick, and `end` or `refused` at the
+// end (01-scope.md, Journal).
 //
 // All that matters is in the libraries (crates/console).
 fn main() {
-    console::play(render::LINES);
+    console::play(report::render::LINES);
 }

@@ -1,5 +1,7 @@
--- The types of the fuse as a walk takes them (the crate `lent`, `Data.antt`), and how the core's result and the answer lie.
---     S, G, I, O   the run state, the settings, a tick's numbers, the outcome.        R, Z     the result of the by-value `tick`, and the answer of the lent one
+-- The types of the fuse as a walk takes them (the crate `lent`, proofs/Data),
+-- and how the core's result and the answer lie.
+--     fuseRun, fuseSettings, fuseInput, fuseOutcome    what a tick gets
+--     fuseResult, fuseAnswer                           the result of the tick by value, the answer of the lent one
 -- Assumes nothing.
 use mathlib.Core.Path.{refl}
 use denote.Struct.Laws as LL
@@ -16,34 +18,34 @@ use Rattle.lictor_settings.proofs.SettingsCheck as Ck
 use Rattle.lictor_settings.proofs.SettingsCheck.Laws as Ck′
 use Rattle.lictor_core.proofs.verdict.SafetyVerdict as Ve
 use Rattle.lictor_core.proofs.verdict.SafetyVerdict.Laws as Ve′
-use Rattle.lictor_fuse.proofs.tick.Ticked as Tk
-use Rattle.lictor_fuse.proofs.tick.Ticked.Laws as Tk′
-use Rattle.host.specs.Host.{answerOf}
-use Rattle.host.proofs.Answer as An
-use Rattle.host.proofs.Answer.Laws as An′
+use Rattle.lictor_fuse.proofs.Ticked as Tk
+use Rattle.lictor_fuse.proofs.Ticked.Laws as Tk′
+use Rattle.host.specs.Host.{hostAnswerOf}
+use Rattle.host.proofs.HostAnswer as An
+use Rattle.host.proofs.HostAnswer.Laws as An′
 use Rattle.lent.proofs.Call.{Parts}
 use Rattle.lent.proofs.Data.{Data, struct, vals}
 
-abbrev pub S : Data
-S = struct St.the-type St′.the-laws St′.the-plain
+abbrev pub fuseRun : Data
+fuseRun = struct St.the-type St′.the-laws St′.the-plain
 
-abbrev pub G : Data
-G = struct Se.the-type Se′.the-laws Se′.the-plain
+abbrev pub fuseSettings : Data
+fuseSettings = struct Se.the-type Se′.the-laws Se′.the-plain
 
-abbrev pub I : Data
-I = struct Ti.the-type Ti′.the-laws Ti′.the-plain
+abbrev pub fuseInput : Data
+fuseInput = struct Ti.the-type Ti′.the-laws Ti′.the-plain
 
-abbrev pub O : Data
-O = struct Oc.the-type Oc′.the-laws Oc′.the-plain
+abbrev pub fuseOutcome : Data
+fuseOutcome = struct Oc.the-type Oc′.the-laws Oc′.the-plain
 
-abbrev pub R : Data
-R = struct Tk.the-type Tk′.the-laws Tk′.the-plain
+abbrev pub fuseResult : Data
+fuseResult = struct Tk.the-type Tk′.the-laws Tk′.the-plain
 
-abbrev pub Z : Data
-Z = struct An.the-type An′.the-laws An′.the-plain
+abbrev pub fuseAnswer : Data
+fuseAnswer = struct An.the-type An′.the-laws An′.the-plain
 
-abbrev pub parts : Parts S R Z
-parts = record {
+abbrev pub fuseParts : Parts fuseRun fuseResult fuseAnswer
+fuseParts = record {
   τc = Ck′.mir;
   τv = Ve′.mir;
   νR = Tk.the-type .name;
@@ -51,11 +53,11 @@ parts = record {
   cv = λ r. EL.val Ck.the-type Ck′.the-laws (r .check);
   vv = λ r. LL.val Ve.the-type Ve′.the-laws (r .verdict);
   st = λ r. r .rt;
-  an = answerOf;
+  an = hostAnswerOf;
   R-ty = refl;
   Z-ty = refl;
   R-val = λ r. refl;
   Z-val = λ r. refl;
-  st-of = λ r is. LL.owed Tk.the-type Tk′.the-laws r (vals R r) is .1 .0;
-  an-of = λ r is. LL.owes An.the-type An′.the-laws (answerOf r) (LL.owed Tk.the-type Tk′.the-laws r (vals R r) is .0, (LL.owed Tk.the-type Tk′.the-laws r (vals R r) is .1 .1 .0, tt));
+  st-of = λ r is. LL.owed Tk.the-type Tk′.the-laws r (vals fuseResult r) is .1 .0;
+  an-of = λ r is. LL.owes An.the-type An′.the-laws (hostAnswerOf r) (LL.owed Tk.the-type Tk′.the-laws r (vals fuseResult r) is .0, (LL.owed Tk.the-type Tk′.the-laws r (vals fuseResult r) is .1 .1 .0, tt));
 }

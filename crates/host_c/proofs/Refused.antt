@@ -10,13 +10,13 @@ use Rattle.lictor_core.specs.declared.fuse.FuseRt.{FuseRt}
 use Rattle.lictor_core.specs.declared.fuse.TickInput.{TickInput}
 use Rattle.lictor_core.specs.declared.outcome.Outcome.{Outcome}
 use Rattle.lictor_settings.specs.Settings.{checkOf, checkNumber}
-use Rattle.lictor_decide.specs.declared.Decided.{Decided}
-use Rattle.lictor_fuse.specs.declared.tick.Ticked.{Ticked}
+use Rattle.lictor_fuse.specs.declared.decide.Decided.{Decided}
+use Rattle.lictor_fuse.specs.declared.Ticked.{Ticked}
 use Rattle.lictor_fuse.specs.Tick.{isAccepted, noVerdict, givenOf, tickOf}
 use Rattle.host.proofs.Refused.{refused-call}
-use Rattle.host_state.specs.declared.RunState.{RunState}
-use Rattle.host_c.specs.Call.{steppedOf, keptOf, callOf, answerOf}
-use Rattle.host_state.specs.State.{stateOut}
+use Rattle.host_layout.specs.declared.state.RunState.{RunState}
+use Rattle.host_c.specs.Call.{tickedOut, keptOf, callOf, answerOf}
+use Rattle.host_layout.specs.State.{stateOut}
 use Rattle.host_layout.specs.Verdict.{verdictOut}
 
 -- the number of the cause, no verdict, and every field of the run state
@@ -38,11 +38,11 @@ no true other = absurd other
 no false other = refl
 
 -- of a call whose settings are accepted all of the run state is stored
-pub all-stored : (before : RunState) (t : Ticked) (d : Decided) → t ≡ givenOf d → steppedOf t .rt ≡ callOf before t .rt
-unfolding steppedOf callOf keptOf givenOf
-all-stored before t d e = subst (λ (y : Ticked). steppedOf y .rt ≡ callOf before y .rt) (sym e) refl
+pub all-stored : (before : RunState) (t : Ticked) (d : Decided) → t ≡ givenOf d → tickedOut t .rt ≡ callOf before t .rt
+unfolding tickedOut callOf keptOf givenOf
+all-stored before t d e = subst (λ (y : Ticked). tickedOut y .rt ≡ callOf before y .rt) (sym e) refl
 
 -- number and verdict are those of the fuse
-pub answer-same : (before : RunState) (t : Ticked) → answerOf (steppedOf t) ≡ answerOf (callOf before t)
-unfolding steppedOf callOf
+pub answer-same : (before : RunState) (t : Ticked) → answerOf (tickedOut t) ≡ answerOf (callOf before t)
+unfolding tickedOut callOf
 answer-same before t = refl

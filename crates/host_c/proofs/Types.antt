@@ -1,5 +1,8 @@
--- The library's types as a walk takes them (the crate `lent`, `Data.antt`), how the result of a step and the answer lie, and how settings are turned away.
---     S, G, I, O   the run state, the settings, a tick's numbers, the outcome.        G², I², O²     the last three can be copied.        R, Z     the result of `stepped`, and the answer of `ticked` and `disklorva_tick`
+-- The library's types as a walk takes them (the crate `lent`, proofs/Data), how the result of a step
+-- and the answer lie, and how settings are refused.
+--     libRun, libSettings, libInput, libOutcome        what a tick gets
+--     settingsCopied, inputCopied, outcomeCopied       the last three can be copied
+--     libResult, libAnswer                             the result of `ticked_out`, the answer of `ticked`
 -- Assumes nothing.
 use mathlib.Core.Path.{refl}
 use mathlib.Core.Bool.{not}
@@ -13,8 +16,8 @@ use Rattle.lictor_fuse.specs.Tick.{isAccepted, noVerdict}
 use Rattle.host_layout.specs.Input.{settingsIn}
 use Rattle.host_layout.specs.Verdict.{verdictOut}
 use Rattle.host_c.specs.Call.{refusalOf, answerOf}
-use Rattle.host_state.proofs.RunState as St
-use Rattle.host_state.proofs.RunState.Laws as St′
+use Rattle.host_layout.proofs.state.RunState as St
+use Rattle.host_layout.proofs.state.RunState.Laws as St′
 use Rattle.host_layout.proofs.input.Settings as Se
 use Rattle.host_layout.proofs.input.Settings.Laws as Se′
 use Rattle.host_layout.proofs.input.Input as In
@@ -28,35 +31,35 @@ use Rattle.host_c.proofs.Called.Laws as Ca′
 use Rattle.host_c.proofs.Answer as An
 use Rattle.host_c.proofs.Answer.Laws as An′
 
-abbrev pub S : Data
-S = struct St.the-type St′.the-laws St′.the-plain
+abbrev pub libRun : Data
+libRun = struct St.the-type St′.the-laws St′.the-plain
 
-abbrev pub G : Data
-G = struct Se.the-type Se′.the-laws Se′.the-plain
+abbrev pub libSettings : Data
+libSettings = struct Se.the-type Se′.the-laws Se′.the-plain
 
-abbrev pub I : Data
-I = struct In.the-type In′.the-laws In′.the-plain
+abbrev pub libInput : Data
+libInput = struct In.the-type In′.the-laws In′.the-plain
 
-abbrev pub O : Data
-O = struct Oc.the-type Oc′.the-laws Oc′.the-plain
+abbrev pub libOutcome : Data
+libOutcome = struct Oc.the-type Oc′.the-laws Oc′.the-plain
 
-abbrev pub G² : Copied G
-G² = copied Se.the-type Se′.the-laws Se′.the-plain Se′.the-copy
+abbrev pub settingsCopied : Copied libSettings
+settingsCopied = copied Se.the-type Se′.the-laws Se′.the-plain Se′.the-copy
 
-abbrev pub I² : Copied I
-I² = copied In.the-type In′.the-laws In′.the-plain In′.the-copy
+abbrev pub inputCopied : Copied libInput
+inputCopied = copied In.the-type In′.the-laws In′.the-plain In′.the-copy
 
-abbrev pub O² : Copied O
-O² = copied Oc.the-type Oc′.the-laws Oc′.the-plain Oc′.the-copy
+abbrev pub outcomeCopied : Copied libOutcome
+outcomeCopied = copied Oc.the-type Oc′.the-laws Oc′.the-plain Oc′.the-copy
 
-abbrev pub R : Data
-R = struct Ca.the-type Ca′.the-laws Ca′.the-plain
+abbrev pub libResult : Data
+libResult = struct Ca.the-type Ca′.the-laws Ca′.the-plain
 
-abbrev pub Z : Data
-Z = struct An.the-type An′.the-laws An′.the-plain
+abbrev pub libAnswer : Data
+libAnswer = struct An.the-type An′.the-laws An′.the-plain
 
-abbrev pub parts : Parts S R Z
-parts = record {
+abbrev pub libParts : Parts libRun libResult libAnswer
+libParts = record {
   τc = tyInt w8;
   τv = Ve′.mir;
   νR = Ca.the-type .name;
@@ -69,11 +72,11 @@ parts = record {
   Z-ty = refl;
   R-val = λ r. refl;
   Z-val = λ r. refl;
-  st-of = λ r is. LL.owed Ca.the-type Ca′.the-laws r (vals R r) is .1 .0;
-  an-of = λ r is. LL.owes An.the-type An′.the-laws (answerOf r) (LL.owed Ca.the-type Ca′.the-laws r (vals R r) is .0, (LL.owed Ca.the-type Ca′.the-laws r (vals R r) is .1 .1 .0, tt));
+  st-of = λ r is. LL.owed Ca.the-type Ca′.the-laws r (vals libResult r) is .1 .0;
+  an-of = λ r is. LL.owes An.the-type An′.the-laws (answerOf r) (LL.owed Ca.the-type Ca′.the-laws r (vals libResult r) is .0, (LL.owed Ca.the-type Ca′.the-laws r (vals libResult r) is .1 .1 .0, tt));
 }
 
-abbrev pub turning : Turning G Z
+abbrev pub turning : Turning libSettings libAnswer
 turning = record {
   turn = λ s. refusalOf (checkOf (settingsIn s));
   tc = λ s. vint w8 (checkNumber (checkOf (settingsIn s)));

@@ -1,17 +1,24 @@
 -- One call of the library.
--- It joins numbers in the layout of C to the one tick of 01-scope.md (lictor_fuse, specs/Tick, tickOf) and to fuse.rs's reset.
+-- It joins numbers in the layout of C to the one tick of 01-scope.md (lictor_fuse, specs/Tick,
+-- tickOf) and to fuse.rs's reset.
 use mathlib.Core.Bool.{cond}
+use mathlib.Core.List.{List}
 use Prim.Native.Nat.{ℕ}
 use lib.Dec.{eqb}
+use lib.Ieee.{Float}
 use Rattle.lictor_core.specs.Initial.{resetOf}
 use Rattle.lictor_settings.specs.Settings.{checkNumber}
 use Rattle.lictor_settings.specs.declared.SettingsCheck.{SettingsCheck}
-use Rattle.lictor_fuse.specs.declared.tick.Ticked.{Ticked}
-use Rattle.lictor_fuse.specs.Tick.{noVerdict}
+use Rattle.lictor_fuse.specs.declared.Ticked.{Ticked}
+use Rattle.lictor_fuse.specs.Tick.{noVerdict, tickOf}
 use Rattle.host_c.specs.declared.Answer.{Answer}
 use Rattle.host_c.specs.declared.Called.{Called}
-use Rattle.host_state.specs.declared.RunState.{RunState}
-use Rattle.host_state.specs.State.{stateIn, stateOut}
+use Rattle.host_layout.specs.declared.input.Input.{Input}
+use Rattle.host_layout.specs.declared.input.Outcome.{Outcome}
+use Rattle.host_layout.specs.declared.input.Settings.{Settings}
+use Rattle.host_layout.specs.declared.state.RunState.{RunState}
+use Rattle.host_layout.specs.Input.{settingsIn, inputIn, outcomeIn}
+use Rattle.host_layout.specs.State.{stateIn, stateOut}
 use Rattle.host_layout.specs.Verdict.{verdictOut}
 
 -- what refused settings are answered: the number of the cause, and no verdict
@@ -19,8 +26,8 @@ abbrev pub refusalOf : SettingsCheck → Answer
 refusalOf c = record { number = checkNumber c; verdict = verdictOut noVerdict }
 
 -- what the fuse gives, as numbers
-unfoldable pub steppedOf : Ticked → Called
-steppedOf t = record { number = checkNumber (t .check); rt = stateOut (t .rt); verdict = verdictOut (t .verdict) }
+unfoldable pub tickedOut : Ticked → Called
+tickedOut t = record { number = checkNumber (t .check); rt = stateOut (t .rt); verdict = verdictOut (t .verdict) }
 
 -- a refused call keeps every field of the run state, as it was lent
 unfoldable pub keptOf : ℕ → RunState → RunState → RunState
@@ -28,7 +35,16 @@ keptOf number before after = cond (eqb number 0) after before
 
 -- what a call on the run state `before` gives, of what the fuse gives
 unfoldable pub callOf : RunState → Ticked → Called
-callOf before t = record { number = checkNumber (t .check); rt = keptOf (checkNumber (t .check)) before (stateOut (t .rt)); verdict = verdictOut (t .verdict) }
+callOf before t = record {
+  number = checkNumber (t .check);
+  rt = keptOf (checkNumber (t .check)) before (stateOut (t .rt));
+  verdict = verdictOut (t .verdict);
+}
+
+-- what a call gives, of all that the host lends: one tick of 01-scope.md on what the numbers mean
+abbrev pub calledOf : RunState → Settings → Input → Outcome → (pos vel aux ext chunk : List Float) → Called
+calledOf rt s inp out pos vel aux ext chunk =
+    callOf rt (tickOf (settingsIn s) (stateIn rt) (inputIn inp) (outcomeIn out) pos vel aux ext chunk)
 
 -- all of it but the run state, which is stored where the host lent it
 abbrev pub answerOf : Called → Answer

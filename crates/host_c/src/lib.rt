@@ -1,14 +1,17 @@
-// The fuse as a static library: what a controller in C or Rust calls. The host lends its run state, and each call changes it where it lies.
-// Every type here is numbers in the layout of C, and every pattern of their bytes has a meaning, so that a call asks nothing of its caller but memory.
+// The fuse as a static library: what a controller in C or Rust calls.
+// The host lends its run state, which each call changes where it lies,
+// and all that a tick is given, which is only read.
+// Every type here is numbers in the layout of C, and every pattern of their bytes has a meaning,
+// so that a call asks nothing of its caller but memory.
 ghost use mathlib.Core.Path.{_≡_};
 ghost use mathlib.Core.Bool.{false};
 ghost use Rattle.fmath.specs.Root.{rootOf};
 ghost use Rattle.lictor_core.specs.Initial.{newOf};
 ghost use Rattle.lictor_settings.specs.Settings.{checkOf, checkNumber};
-ghost use Rattle.lictor_fuse.specs.Tick.{acceptedTick, givenOf, tickOf, isAccepted, noVerdict};
-ghost use Rattle.host_c.specs.Call.{refusalOf, steppedOf, callOf, answerOf, resetRun};
+ghost use Rattle.lictor_fuse.specs.Tick.{acceptedTick, givenOf, isAccepted, noVerdict};
+ghost use Rattle.host_c.specs.Call.{refusalOf, tickedOut, calledOf, answerOf, resetRun};
 ghost use Rattle.host_layout.specs.Input.{settingsIn, inputIn, outcomeIn};
-ghost use Rattle.host_state.specs.State.{stateIn, stateOut};
+ghost use Rattle.host_layout.specs.State.{stateIn, stateOut};
 ghost use Rattle.host_layout.specs.Verdict.{verdictOut};
 use host_layout::input::Input;
 use host_layout::input::Outcome;
@@ -16,14 +19,14 @@ use host_layout::input::Settings;
 use host_layout::input::input_in;
 use host_layout::input::outcome_in;
 use host_layout::input::settings_in;
+use host_layout::state::RunState;
+use host_layout::state::state_in;
+use host_layout::state::state_out;
 use host_layout::verdict::Verdict;
 use host_layout::verdict::verdict_out;
-use host_state::RunState;
-use host_state::state_in;
-use host_state::state_out;
-use lictor_decide::Decided;
-use lictor_decide::decide;
-use lictor_fuse::tick::no_verdict;
+use lictor_fuse::decide::Decided;
+use lictor_fuse::decide::decide;
+use lictor_fuse::no_verdict;
 use lictor_settings::check;
 use lictor_settings::check_number;
 use lictor_settings::config;
@@ -42,7 +45,7 @@ pub struct Called {
     pub verdict: Verdict,
 }
 
-// What a call with these settings answers where they are refused, and the number 0 where they are accepted.
+// What a call with these settings answers where they are refused; number 0 where they are accepted.
 fn refusal(s: Settings) -> Answer
     ensures { λ r. ⌜ r ≡ refusalOf (checkOf (settingsIn s)) ⌝ }
 {
@@ -54,8 +57,9 @@ fn refusal(s: Settings) -> Answer
     Answer { number, verdict }
 }
 
+// What a tick gives, as numbers.
 fn packed(d: Decided) -> Called
-    ensures { λ r. ⌜ r ≡ steppedOf (givenOf d) ⌝ }
+    ensures { λ r. ⌜ r ≡ tickedOut (givenOf d) ⌝ }
 {
     let z = d.rt;
     let rt = state_out(z);
@@ -69,7 +73,7 @@ fn packed(d: Decided) -> Called
 }
 
 // One tick from numbers to numbers, with settings that are accepted.
-fn stepped(
+fn ticked_out(
     s: Settings,
     rt: RunState,
     inp: Input,
@@ -80,7 +84,7 @@ fn stepped(
     ext: &[f64],
     chunk: &[f64],
 ) -> Called
-    ensures { λ r. ⌜ r ≡ steppedOf (acceptedTick (settingsIn s) (stateIn rt) (inputIn inp) (outcomeIn out) (now (pos .entry)) (now (vel .entry)) (now (aux .entry)) (now (ext .entry)) (now (chunk .entry))) ⌝ }
+    ensures { λ r. ⌜ r ≡ tickedOut (acceptedTick (settingsIn s) (stateIn rt) (inputIn inp) (outcomeIn out) (now (pos .entry)) (now (vel .entry)) (now (aux .entry)) (now (ext .entry)) (now (chunk .entry))) ⌝ }
 {
     let g = settings_in(s);
     let cfg = config(g);
@@ -91,11 +95,12 @@ fn stepped(
     packed(d)
 }
 
+// The run state at the start of an episode.
 fn restarted(rt: RunState) -> RunState
     ensures { λ r. ⌜ r ≡ resetRun rt ⌝ }
 {
     let z = state_in(rt);
-    let n = lictor_episode::reset(z);
+    let n = lictor_fuse::episode::reset(z);
     state_out(n)
 }
 
@@ -111,15 +116,15 @@ fn ticked(
     ext: &[f64],
     chunk: &[f64],
 ) -> Answer
-    ensures { λ r. ⌜ (r ≡ answerOf (callOf (now (rt .entry)) (tickOf (settingsIn s) (stateIn (now (rt .entry))) (inputIn inp) (outcomeIn out) (now (pos .entry)) (now (vel .entry)) (now (aux .entry)) (now (ext .entry)) (now (chunk .entry)))))
-        × (now (rt .exit) ≡ callOf (now (rt .entry)) (tickOf (settingsIn s) (stateIn (now (rt .entry))) (inputIn inp) (outcomeIn out) (now (pos .entry)) (now (vel .entry)) (now (aux .entry)) (now (ext .entry)) (now (chunk .entry))) .rt)
+    ensures { λ r. ⌜ (r ≡ answerOf (calledOf (now (rt .entry)) s inp out (now (pos .entry)) (now (vel .entry)) (now (aux .entry)) (now (ext .entry)) (now (chunk .entry))))
+        × (now (rt .exit) ≡ calledOf (now (rt .entry)) s inp out (now (pos .entry)) (now (vel .entry)) (now (aux .entry)) (now (ext .entry)) (now (chunk .entry)) .rt)
         × (isAccepted (checkOf (settingsIn s)) ≡ false → (r .number ≡ checkNumber (checkOf (settingsIn s))) × (r .verdict ≡ verdictOut noVerdict) × (now (rt .exit) ≡ now (rt .entry))) ⌝ }
 {
     let a = refusal(s);
     if a.number != 0 {
         return a;
     }
-    let t = stepped(s, *rt, inp, out, pos, vel, aux, ext, chunk);
+    let t = ticked_out(s, *rt, inp, out, pos, vel, aux, ext, chunk);
     *rt = t.rt;
     Answer {
         number: t.number,
@@ -134,11 +139,12 @@ fn ticked(
 pub extern "C" fn disklorva_new() -> RunState
     ensures { λ r. ⌜ r ≡ stateOut newOf ⌝ }
 {
-    let z = lictor_episode::new();
+    let z = lictor_fuse::episode::new();
     state_out(z)
 }
 
-// Starts an episode in the lent run state. Every field is promised; the bytes between the fields, and which pattern a NaN has, are the program's choice.
+// Starts an episode in the lent run state. Every field is promised;
+// the bytes between the fields, and which pattern a NaN has, are the program's choice.
 #[no_mangle]
 pub extern "C" fn disklorva_reset(rt: &mut RunState)
     ensures { λ _. ⌜ now (rt .exit) ≡ resetRun (now (rt .entry)) ⌝ }
@@ -146,8 +152,10 @@ pub extern "C" fn disklorva_reset(rt: &mut RunState)
     *rt = restarted(*rt);
 }
 
-// One tick of the lent run state. Where the settings are refused, the answer has the number of the cause and no verdict, and nothing is written: not even the bytes between the fields change.
-// Where they are accepted every field of state and answer is promised; the bytes between the fields, and which pattern a NaN has, are the program's choice, and nothing depends on them.
+// One tick of the lent run state. Where the settings are refused, the answer has the number of the
+// cause and no verdict, and nothing is written: not even the bytes between the fields change.
+// Where they are accepted, every field of state and answer is promised; the bytes between the
+// fields, and which pattern a NaN has, are the program's choice, and nothing depends on them.
 // Settings, input, outcome and lists are only read.
 #[no_mangle]
 pub extern "C" fn disklorva_tick(
@@ -161,14 +169,15 @@ pub extern "C" fn disklorva_tick(
     ext: &[f64],
     chunk: &[f64],
 ) -> Answer
-    ensures { λ r. ⌜ (r ≡ answerOf (callOf (now (rt .entry)) (tickOf (settingsIn (now (s .entry))) (stateIn (now (rt .entry))) (inputIn (now (inp .entry))) (outcomeIn (now (out .entry))) (now (pos .entry)) (now (vel .entry)) (now (aux .entry)) (now (ext .entry)) (now (chunk .entry)))))
-        × (now (rt .exit) ≡ callOf (now (rt .entry)) (tickOf (settingsIn (now (s .entry))) (stateIn (now (rt .entry))) (inputIn (now (inp .entry))) (outcomeIn (now (out .entry))) (now (pos .entry)) (now (vel .entry)) (now (aux .entry)) (now (ext .entry)) (now (chunk .entry))) .rt)
+    ensures { λ r. ⌜ (r ≡ answerOf (calledOf (now (rt .entry)) (now (s .entry)) (now (inp .entry)) (now (out .entry)) (now (pos .entry)) (now (vel .entry)) (now (aux .entry)) (now (ext .entry)) (now (chunk .entry))))
+        × (now (rt .exit) ≡ calledOf (now (rt .entry)) (now (s .entry)) (now (inp .entry)) (now (out .entry)) (now (pos .entry)) (now (vel .entry)) (now (aux .entry)) (now (ext .entry)) (now (chunk .entry)) .rt)
         × (isAccepted (checkOf (settingsIn (now (s .entry)))) ≡ false → (r .number ≡ checkNumber (checkOf (settingsIn (now (s .entry))))) × (r .verdict ≡ verdictOut noVerdict) × (now (rt .exit) ≡ now (rt .entry))) ⌝ }
 {
     ticked(rt, *s, *inp, *out, pos, vel, aux, ext, chunk)
 }
 
-// The square root that the tick uses, the double nearest the exact root: for those who measure or compare it alone. Which pattern a NaN has is the program's choice.
+// The square root that the tick uses, the double nearest the exact root, to be measured or compared
+// alone. Which pattern a NaN has is the program's choice.
 #[no_mangle]
 pub extern "C" fn disklorva_sqrt(x: f64) -> f64
     ensures { λ r. ⌜ r ≡ rootOf x ⌝ }

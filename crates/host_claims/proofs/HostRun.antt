@@ -4,31 +4,31 @@ use mathlib.Core.List.{List, [], _∷_, map}
 use Rattle.lictor_core.specs.Initial.{resetOf}
 use Rattle.lictor_core.specs.declared.fuse.FuseRt.{FuseRt}
 use Rattle.claims.specs.Runs.{All}
-use Rattle.claims.specs.Calls.{Under, answerOf}
+use Rattle.claims.specs.Calls.{Under, tickAnswer}
 use Rattle.claims.proofs.Demand3.{stops-close}
 use Rattle.lictor_core.specs.declared.envelope.Settings.{Settings}
 use Rattle.host_layout.specs.Input.{settingsIn}
-use Rattle.host_state.specs.State.{stateIn, stateOut}
+use Rattle.host_layout.specs.State.{stateIn, stateOut}
 use Rattle.host_c.specs.declared.Called.{Called}
-use Rattle.host_c.specs.Call.{steppedOf, resetRun}
+use Rattle.host_c.specs.Call.{tickedOut, resetRun}
 use Rattle.host_c.proofs.Stored.{tick-on-stored}
 use Rattle.host_claims.specs.HostRun.{HostCall, meant, answered, answeredFrom, answersFrom, HostRun, HostsStop}
 
-stored-run : (r : FuseRt) (hs : List HostCall) → answeredFrom (stateOut r) hs ≡ map steppedOf (answersFrom r (map meant hs))
-unfolding steppedOf
+stored-run : (r : FuseRt) (hs : List HostCall) → answeredFrom (stateOut r) hs ≡ map tickedOut (answersFrom r (map meant hs))
+unfolding tickedOut
 stored-run r [] = refl
 stored-run r (h ∷ hs) =
     let c = meant h in
-    let e : answered (stateOut r) h ≡ steppedOf (answerOf r c) = tick-on-stored (c .settings) r (c .input) (c .outcome) (c .pos) (c .vel) (c .aux) (c .ext) (c .chunk) in
-    ap (λ (a : Called). a ∷ answeredFrom (a .rt) hs) e ∙ ap (λ l. steppedOf (answerOf r c) ∷ l) (stored-run (answerOf r c .rt) hs)
+    let e : answered (stateOut r) h ≡ tickedOut (tickAnswer r c) = tick-on-stored (c .settings) r (c .input) (c .outcome) (c .pos) (c .vel) (c .aux) (c .ext) (c .chunk) in
+    ap (λ (a : Called). a ∷ answeredFrom (a .rt) hs) e ∙ ap (λ l. tickedOut (tickAnswer r c) ∷ l) (stored-run (tickAnswer r c .rt) hs)
 
 pub host-run : HostRun
 unfolding resetRun
 host-run rt hs = stored-run (resetOf (stateIn rt)) hs
 
-all-under : (s : Settings) (hs : List HostCall) → All (λ h. Under s (meant h)) hs → All (Under s) (map meant hs)
-all-under s [] u = tt
-all-under s (h ∷ hs) u = (u .0, all-under s hs (u .1))
+all-meant-under : (s : Settings) (hs : List HostCall) → All (λ h. Under s (meant h)) hs → All (Under s) (map meant hs)
+all-meant-under s [] u = tt
+all-meant-under s (h ∷ hs) u = (u .0, all-meant-under s hs (u .1))
 
 pub host-stops : HostsStop
-host-stops s z rt hs u = record { answers = host-run rt hs; stops = stops-close (settingsIn s) z (stateIn rt) (map meant hs) (all-under (settingsIn s) hs u) }
+host-stops s z rt hs u = record { answers = host-run rt hs; stops = stops-close (settingsIn s) z (stateIn rt) (map meant hs) (all-meant-under (settingsIn s) hs u) }

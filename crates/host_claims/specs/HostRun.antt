@@ -1,22 +1,23 @@
--- A host in C or Rust calls the library again and again, each time on the run state that the call before left in the memory which it lends. What it is answered is what the fuse
--- answers to its own list of calls (01-scope.md, The list in demand 3), as numbers, and demand 3 holds of that list.
+-- A host in C or Rust calls the library again and again, each time on the run state that the call
+-- before left in the memory that it lends. The answers are those of the fuse to its own list of
+-- calls (01-scope.md, The list in demand 3), as numbers, and demand 3 holds of that list.
 use mathlib.Core.Path.{_≡_}
 use mathlib.Core.List.{List, [], _∷_, map}
 use lib.Ieee.{Float}
 use Rattle.lictor_core.specs.Initial.{resetOf}
 use Rattle.lictor_core.specs.declared.fuse.FuseRt.{FuseRt}
-use Rattle.lictor_fuse.specs.declared.tick.Ticked.{Ticked}
+use Rattle.lictor_fuse.specs.declared.Ticked.{Ticked}
 use Rattle.claims.specs.Runs.{All}
-use Rattle.claims.specs.Calls.{Call, Under, answerOf, ticksFrom}
+use Rattle.claims.specs.Calls.{Call, Under, tickAnswer, ticksFrom}
 use Rattle.claims.specs.Demand3.{Sized, Demand3}
 use Rattle.host_layout.specs.declared.input.Settings.{Settings}
 use Rattle.host_layout.specs.declared.input.Input.{Input}
 use Rattle.host_layout.specs.declared.input.Outcome.{Outcome}
-use Rattle.host_state.specs.declared.RunState.{RunState}
+use Rattle.host_layout.specs.declared.state.RunState.{RunState}
 use Rattle.host_layout.specs.Input.{settingsIn, inputIn, outcomeIn}
-use Rattle.host_state.specs.State.{stateIn}
+use Rattle.host_layout.specs.State.{stateIn}
 use Rattle.host_c.specs.declared.Called.{Called}
-use Rattle.host_c.specs.Call.{steppedOf, callOf, resetRun}
+use Rattle.host_c.specs.Call.{tickedOut, calledOf, resetRun}
 
 -- what a host hands to `disklorva_tick` beside the run state
 pub record HostCall : Type 0 where
@@ -31,11 +32,21 @@ pub record HostCall : Type 0 where
 
 -- the call of the fuse that this means
 abbrev pub meant : HostCall → Call
-meant h = record { settings = settingsIn (h .settings); input = inputIn (h .input); outcome = outcomeIn (h .outcome); pos = h .pos; vel = h .vel; aux = h .aux; ext = h .ext; chunk = h .chunk }
+meant h = record {
+  settings = settingsIn (h .settings);
+  input = inputIn (h .input);
+  outcome = outcomeIn (h .outcome);
+  pos = h .pos;
+  vel = h .vel;
+  aux = h .aux;
+  ext = h .ext;
+  chunk = h .chunk;
+}
 
--- what the library answers, with the run state that it leaves: the definition that both functions promise (crates/host_c/src/lib.rt)
+-- what the library answers, with the run state that it leaves:
+-- the definition that `disklorva_tick` promises (crates/host_c/src/lib.rt)
 abbrev pub answered : RunState → HostCall → Called
-answered rt h = callOf rt (answerOf (stateIn rt) (meant h))
+answered rt h = calledOf rt (h .settings) (h .input) (h .outcome) (h .pos) (h .vel) (h .aux) (h .ext) (h .chunk)
 
 -- the answers to a list of calls, each on the run state that the one before left
 abbrev pub answeredFrom : RunState → List HostCall → List Called
@@ -45,17 +56,23 @@ answeredFrom rt (h ∷ hs) = answered rt h ∷ answeredFrom (answered rt h .rt) 
 -- the same of the fuse itself
 abbrev pub answersFrom : FuseRt → List Call → List Ticked
 answersFrom r [] = []
-answersFrom r (c ∷ cs) = answerOf r c ∷ answersFrom (answerOf r c .rt) cs
+answersFrom r (c ∷ cs) = tickAnswer r c ∷ answersFrom (tickAnswer r c .rt) cs
 
--- From a reset on, whatever numbers were lent for it: number, run state and verdict of each call are those of the fuse's own run.
+-- From a reset on, whatever numbers were lent for it:
+-- number, run state and verdict of each call are those of the fuse's own run.
 abbrev pub HostRun : Type 0
-HostRun = (rt : RunState) (hs : List HostCall) → answeredFrom (resetRun rt) hs ≡ map steppedOf (answersFrom (resetOf (stateIn rt)) (map meant hs))
+HostRun =
+    (rt : RunState) (hs : List HostCall)
+    → answeredFrom (resetRun rt) hs ≡ map tickedOut (answersFrom (resetOf (stateIn rt)) (map meant hs))
 
--- Of calls under one settings record s, refused ones among them: the library's answers are those of the fuse's own run, and of the ticks of that run the four parts of
--- demand 3 hold. (That s is sized: every record that the code holds is, as `sized` of claims promises.)
+-- Of calls under one settings record s, refused ones among them: the library's answers are those of
+-- the fuse's own run, and of the ticks of that run the four parts of demand 3 hold.
+-- (That s is sized: every record that the code holds is, as `sized` of claims promises.)
 pub record HostStops (s : Settings) (rt : RunState) (hs : List HostCall) : Type 0 where
-  pub answers : answeredFrom (resetRun rt) hs ≡ map steppedOf (answersFrom (resetOf (stateIn rt)) (map meant hs))
+  pub answers : answeredFrom (resetRun rt) hs ≡ map tickedOut (answersFrom (resetOf (stateIn rt)) (map meant hs))
   pub stops : Demand3 (settingsIn s) (ticksFrom (resetOf (stateIn rt)) (map meant hs))
 
 abbrev pub HostsStop : Type 0
-HostsStop = (s : Settings) → Sized (settingsIn s) → (rt : RunState) (hs : List HostCall) → All (λ h. Under (settingsIn s) (meant h)) hs → HostStops s rt hs
+HostsStop =
+    (s : Settings) → Sized (settingsIn s) → (rt : RunState) (hs : List HostCall)
+    → All (λ h. Under (settingsIn s) (meant h)) hs → HostStops s rt hs

@@ -1,5 +1,7 @@
-// Two callers of `tick`, as an example and no part of the product: they show that the lent tick can be used and proved like any function by value.
-// `once` lends a local run state for one tick, and gives what the tick by value gives; `three` calls it three times, and its proof needs nothing more.
+// Two callers of the lent tick, as an example and no part of the product:
+// it can be used and proved like any function by value.
+// `once` lends a local run state for one tick, and gives what the tick by value gives;
+// `three` calls `once` three times, and its proof needs nothing more.
 ghost use mathlib.Core.Path.{_≡_};
 ghost use Rattle.lictor_fuse.specs.Tick.{tickOf};
 ghost use Rattle.host_example.specs.Example.{threeOf};
@@ -7,7 +9,7 @@ use lictor_core::envelope::Settings;
 use lictor_core::fuse::FuseRt;
 use lictor_core::fuse::TickInput;
 use lictor_core::outcome::Outcome;
-use lictor_fuse::tick::Ticked;
+use lictor_fuse::Ticked;
 
 // One tick by value, through the lent one: the two agree.
 pub fn once(

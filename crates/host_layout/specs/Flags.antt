@@ -1,6 +1,8 @@
--- A flag as a number: 0 is no and 1 is yes, and the library gives no other. A number that is neither is read to the safe side:
--- as a yes where a yes tells a fault or has something checked, as a no where a yes lets something through. Those of the run state, which the library alone writes, are read as a yes.
--- No paper and no Rust file has this: docs/DECISIONS.md, The library for C and Rust, says why.
+-- A flag as a number: 0 is no and 1 is yes, and the library gives no other.
+-- Any other value is taken as the safe choice: yes where a yes tells a fault or has something
+-- checked, no where a yes lets something through. In the run state, which the library alone writes,
+-- it is yes. No paper and no Rust file has this: docs/DECISIONS.md, The library for C and Rust,
+-- says why.
 use mathlib.Core.Bool.{Bool, cond, not}
 use Prim.Native.Nat.{ℕ}
 use lib.Dec.{eqb}

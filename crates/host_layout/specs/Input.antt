@@ -1,9 +1,11 @@
--- What the numbers that a tick is given mean: field by field the same, but for flags and what they stand beside.
--- It joins the layout of C to the types of lictor_core: settings, input, chunk head, acknowledgement and outcome (01-scope.md, Journal, kinds 1, 3, 4, 6 and 7).
+-- What the numbers that a tick is given mean: field by field the same,
+-- but for flags and what they are beside. It joins the layout of C to the types of lictor_core:
+-- settings, input, chunk head, acknowledgement, outcome (01-scope.md, Journal, kinds 1, 3, 4, 6,
+-- 7).
 use mathlib.Core.Bool.{cond}
 use Prim.Native.Nat.{ℕ}
 use lib.Dec.{eqb, leb}
-use Rattle.lictor_core.specs.Codes.{decisionOf}
+use Rattle.lictor_core.specs.Codes.{decisionOf, decisions}
 use Rattle.lictor_core.specs.declared.ack.MaybeAck.{MaybeAck}
 use Rattle.lictor_core.specs.declared.ack.MaybeAck.the-variants.{NoAck, Given}
 use Rattle.lictor_core.specs.declared.chunk.MaybeChunk.{MaybeChunk}
@@ -55,14 +57,30 @@ settingsIn s = record {
 
 -- a chunk's head, where its flag is not 0: a chunk is checked, and none is not
 unfoldable pub chunkIn : ℕ → Chunk → MaybeChunk
-chunkIn has c = cond (eqb has 0) NoChunk (Delivered (record { seq = c .seq; «t_emit» = c .«t_emit»; horizon = c .horizon; dim = c .dim; «exec_steps» = c .«exec_steps» }))
+chunkIn has c =
+    cond (eqb has 0) NoChunk
+    (Delivered
+    (record {
+      seq = c .seq;
+      «t_emit» = c .«t_emit»;
+      horizon = c .horizon;
+      dim = c .dim;
+      «exec_steps» = c .«exec_steps»;
+    }))
 
 -- an acknowledgement, where its flag is 1 and its decision is one of the three
 unfoldable pub ackGiven : Ack → MaybeAck
-ackGiven a = Given (record { decision = decisionOf (a .decision); «operator_slot» = a .«operator_slot»; nonce = a .nonce; «handoff_seq» = a .«handoff_seq» })
+ackGiven a =
+    Given
+    (record {
+      decision = decisionOf (a .decision);
+      «operator_slot» = a .«operator_slot»;
+      nonce = a .nonce;
+      «handoff_seq» = a .«handoff_seq»;
+    })
 
 unfoldable pub ackBy : Ack → MaybeAck
-ackBy a = cond (leb 3 (a .decision)) NoAck (ackGiven a)
+ackBy a = cond (leb decisions (a .decision)) NoAck (ackGiven a)
 
 unfoldable pub ackIn : ℕ → Ack → MaybeAck
 ackIn has a = cond (sureOf has) (ackBy a) NoAck

@@ -1,3 +1,4 @@
 pub mod Flags
 pub mod Input
 pub mod Verdict
+pub mod State

@@ -1,5 +1,6 @@
 -- The numbers that a verdict is given as: field by field the same, but for codes and flags.
--- It joins `SafetyVerdict` of lictor_core (verdict.rs) to the layout of C, with the codes of 01-scope.md, Modules 1.
+-- It joins `SafetyVerdict` of lictor_core (verdict.rs) to the layout of C,
+-- with the codes of 01-scope.md, Modules 1.
 use Prim.Native.Nat.{ℕ}
 use Rattle.lictor_core.specs.Codes.{stateCode, statusCode, sourceCode, reasonCode}
 use Rattle.lictor_core.specs.declared.verdict.MaybeHandoff.{MaybeHandoff}

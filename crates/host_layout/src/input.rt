@@ -1,5 +1,6 @@
 // What a tick is given, as numbers in the layout of C, and what it means.
-// A flag is 0 or 1, and where it is 0, what stands beside it is not looked at. Another number is read to the safe side: `feasible` and `has_ack` are then no, the others yes.
+// A flag is 0 or 1, and where it is 0, what is beside it is not looked at.
+// Any other value is taken as the safe choice: no for `feasible` and `has_ack`, yes for the others.
 ghost use mathlib.Core.Path.{_≡_};
 ghost use Rattle.host_layout.specs.Flags.{flagOf, sureOf};
 ghost use Rattle.host_layout.specs.Input.{settingsIn, chunkIn, ackGiven, ackBy, ackIn, inputIn, outcomeIn};
@@ -58,7 +59,7 @@ pub struct Chunk {
     pub exec_steps: u16,
 }
 
-// The decision is 0 Resume, 1 Abort, 2 Retune; with another number there is no acknowledgement.
+// The decision is 0 Resume, 1 Abort, 2 Retune; with any other value there is no acknowledgement.
 #[repr(C)]
 pub struct Ack {
     pub nonce: u64,
@@ -94,12 +95,14 @@ pub struct Outcome {
     pub clamped: [f64; 8],
 }
 
+// Any value but 0 is a yes.
 pub fn flag(n: u8) -> bool
     ensures { λ r. ⌜ r ≡ flagOf n ⌝ }
 {
     n != 0
 }
 
+// 1 alone is a yes.
 fn sure(n: u8) -> bool
     ensures { λ r. ⌜ r ≡ sureOf n ⌝ }
 {

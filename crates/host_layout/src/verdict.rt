@@ -1,4 +1,5 @@
-// What a tick gives, as numbers in the layout of C. Codes are those of lictor_core specs/Codes, and a flag is 0 or 1.
+// What a tick gives, as numbers in the layout of C.
+// Codes are those of lictor_core, specs/Codes, and a flag is 0 or 1.
 ghost use mathlib.Core.Path.{_≡_};
 ghost use Rattle.host_layout.specs.Flags.{flagCode};
 ghost use Rattle.host_layout.specs.Verdict.{handoffSet, handoffNumber, verdictOut};
@@ -38,12 +39,14 @@ pub struct Verdict {
     pub violation_reached_env: u8,
 }
 
+// A flag as a number.
 pub fn code(b: bool) -> u8
     ensures { λ r. ⌜ r ≡ flagCode b ⌝ }
 {
     if b { 1 } else { 0 }
 }
 
+// Whether a handoff begins with this verdict.
 fn handoff_set(h: MaybeHandoff) -> u8
     ensures { λ r. ⌜ r ≡ handoffSet h ⌝ }
 {
@@ -53,6 +56,7 @@ fn handoff_set(h: MaybeHandoff) -> u8
     }
 }
 
+// The number of the handoff that begins, or 0.
 fn handoff_number(h: MaybeHandoff) -> u32
     ensures { λ r. ⌜ r ≡ handoffNumber h ⌝ }
 {
@@ -70,17 +74,17 @@ pub fn verdict_out(v: SafetyVerdict) -> Verdict
     let from = v.prev_state;
     let src = v.action_src;
     let why = v.reason;
-    let h = v.handoff_seq;
-    let sc = v.scores;
+    let handoff = v.handoff_seq;
+    let scores = v.scores;
     let action = v.action;
-    let z = sc.z;
+    let z = scores.z;
     let status = status_code(st);
     let state = state_code(to);
     let prev_state = state_code(from);
     let action_src = source_code(src);
     let reason = reason_code(why);
-    let handoff_set = handoff_set(h);
-    let handoff_seq = handoff_number(h);
+    let handoff_set = handoff_set(handoff);
+    let handoff_seq = handoff_number(handoff);
     let substituted = code(v.substituted);
     let ack_consumed = code(v.ack_consumed);
     let violation_reached_env = code(v.violation_reached_env);
@@ -97,9 +101,9 @@ pub fn verdict_out(v: SafetyVerdict) -> Verdict
         substituted,
         clamped_dims: v.clamped_dims,
         z,
-        s: sc.s,
-        valid: sc.valid,
-        fired: sc.fired,
+        s: scores.s,
+        valid: scores.valid,
+        fired: scores.fired,
         tau: v.tau,
         window: v.window,
         window_hits: v.window_hits,

@@ -1,4 +1,4 @@
--- Demand 1: every journal ends, with its verdicts and the end of its bytes, or with a refusal; and exactly the causes of the table turn a record away.
+-- Demand 1: every journal ends, with its verdicts and the end of its bytes, or with a refusal; and exactly the causes of the table refuse a record.
 use Prim.Native.Nat.{ℕ, zero, suc, _+_, _-_, _≤_, _<_}
 use mathlib.Core.Path.{_≡_, refl, sym, ap, subst, _∙_}
 use mathlib.Core.List.{List, [], _∷_, _++_}
@@ -7,22 +7,22 @@ use native.Mathlib.Omega.{arith}
 use native.Mathlib.Numerals.{add-one}
 use lib.ListN.{length, take, drop, length-drop, take-append-drop}
 use lib.Seq.{drop-cons}
-use Rattle.bytes_le.specs.Little.{byteAt}
-use Rattle.lictor_decide.specs.declared.Decided.{Decided}
-use Rattle.judge.specs.declared.Refusal.{Refusal}
-use Rattle.judge.specs.declared.Refusal.the-variants.{CutBody}
-use Rattle.judge.specs.declared.Judged.{Judged}
-use Rattle.judge.specs.declared.Judged.the-variants.{Accepted, Refused}
-use Rattle.judge.specs.Table.{isCut}
-use Rattle.judge.proofs.Exactly.{numbers, cut-only}
-use Rattle.reader.specs.Stream.{Next, wait, halt, go, tell, End, waiting, halted, Settled, telling, settled}
-use Rattle.waiting.specs.State.{State}
-use Rattle.reader.specs.Reading.{Instruction, begin, restart, tick, nextOf}
-use Rattle.reader.proofs.Stream.{joined, settled-wait, settled-halt, settled-still, Front, front}
-use Rattle.reader.proofs.Reading.{next-refused, halted-judged, waiting-judged}
-use Rattle.journal_tick.specs.Tick.{Whole}
+use Rattle.journal_records.specs.Little.{byteAt}
+use Rattle.lictor_fuse.specs.declared.decide.Decided.{Decided}
+use Rattle.journal_refusals.specs.declared.Refusal.{Refusal}
+use Rattle.journal_refusals.specs.declared.Refusal.the-variants.{CutBody}
+use Rattle.journal_refusals.specs.declared.Judged.{Judged}
+use Rattle.journal_refusals.specs.declared.Judged.the-variants.{Accepted, Refused}
+use Rattle.journal_refusals.specs.Table.{isCutBody}
+use Rattle.journal_refusals.proofs.Exactly.{numbers, cut-only}
+use Rattle.stream.specs.Stream.{Next, wait, halt, go, tell, End, awaits, halted, Settled, telling, settled}
+use Rattle.journal_reader.specs.State.{State}
+use Rattle.journal_reader.specs.Reading.{Instruction, begin, restart, tick, onBytes}
+use Rattle.stream.proofs.Stream.{impossible, joined, settled-wait, settled-halt, settled-still, Front, front}
+use Rattle.journal_reader.proofs.Reading.{next-refused, halted-judged, waiting-judged}
+use Rattle.journal.specs.Tick.{Whole}
 use Rattle.journal.specs.Journal.{obey, obeyed, replayOf, startWhole, Ending, ended, refused, Meaning, endingOf, journalOf}
-use Rattle.journal.specs.Ends.{judgedAt, TurnedAway, LeftAsBefore, Ends, with-end, with-refusal}
+use Rattle.journal.specs.Ends.{judgedAt, RefusedAt, LeftAsBefore, Ends, with-end, with-refusal}
 use Rattle.journal.proofs.Replay.{replay-is, replay}
 
 abbrev Move : Type 0
@@ -40,45 +40,45 @@ at-place s p h = rw (drop-cons s p 0 h, add-one) refl
 -- a journal halts or waits where its reader does
 obey-moves : (w : Whole) (st : State) (n : ℕ) (i : Instruction) (y : Move) → obey w st n i ≡ y → (y ≡ wait → ⊥) × ((r : Refusal) → y ≡ halt r → ⊥)
 unfolding obey
-obey-moves w st n (begin x) y e = (λ p. (let z : _≡_ {A = ℕ} 0 1 = cc in omega arith), λ r p. (let z : _≡_ {A = ℕ} 0 1 = cc in omega arith))
-obey-moves w st n restart y e = (λ p. (let z : _≡_ {A = ℕ} 0 1 = cc in omega arith), λ r p. (let z : _≡_ {A = ℕ} 0 1 = cc in omega arith))
-obey-moves w st n (tick c) y e = (λ p. (let z : _≡_ {A = ℕ} 0 1 = cc in omega arith), λ r p. (let z : _≡_ {A = ℕ} 0 1 = cc in omega arith))
+obey-moves w st n (begin x) y e = (λ p. (impossible cc), λ r p. (impossible cc))
+obey-moves w st n restart y e = (λ p. (impossible cc), λ r p. (impossible cc))
+obey-moves w st n (tick c) y e = (λ p. (impossible cc), λ r p. (impossible cc))
 
 halts-as : (w : Whole) (x : Reads) (r : Refusal) → obeyed w x ≡ halt r → x ≡ halt r
 unfolding obeyed
-halts-as w wait r e = absurd (let z : _≡_ {A = ℕ} 0 1 = cc in omega arith)
+halts-as w wait r e = impossible cc
 halts-as w (halt r') r e = let q : r' ≡ r = cc in ap halt q
-halts-as w (go st n) r e = absurd (let z : _≡_ {A = ℕ} 0 1 = cc in omega arith)
+halts-as w (go st n) r e = impossible cc
 halts-as w (tell st n i) r e = absurd (obey-moves w st n i (obey w st n i) refl .1 r e)
 
 pub waits-as : (w : Whole) (x : Reads) → obeyed w x ≡ wait → x ≡ wait
 unfolding obeyed
 waits-as w wait e = refl
-waits-as w (halt r') e = absurd (let z : _≡_ {A = ℕ} 0 1 = cc in omega arith)
-waits-as w (go st n) e = absurd (let z : _≡_ {A = ℕ} 0 1 = cc in omega arith)
+waits-as w (halt r') e = impossible cc
+waits-as w (go st n) e = impossible cc
 waits-as w (tell st n i) e = absurd (obey-moves w st n i (obey w st n i) refl .0 e)
 
 module _ (w : Whole) (s : List ℕ) (p : ℕ) (h : p < length s) where
-  -- a journal that halts at p is turned away there by the table
+  -- a journal that halts at p is refused there by the table
   pub halted-at : (r : Refusal) → replayOf w (drop p s) ≡ halt r → judgedAt w s p ≡ Refused r
   unfolding judgedAt replayOf
   halted-at r e =
-      let n : nextOf (w .state) (byteAt s p ∷ drop (p + 1) s) ≡ halt r = rw (at-place s p h) at (halts-as w (nextOf (w .state) (drop p s)) r e) in
+      let n : onBytes (w .state) (byteAt s p ∷ drop (p + 1) s) ≡ halt r = rw (at-place s p h) at (halts-as w (onBytes (w .state) (drop p s)) r e) in
       halted-judged (w .state) (byteAt s p) (drop (p + 1) s) r n
 
   -- one that waits there has a record that is cut
   pub waiting-at : replayOf w (drop p s) ≡ wait → judgedAt w s p ≡ Refused CutBody
   unfolding judgedAt replayOf
   waiting-at e =
-      let n : nextOf (w .state) (byteAt s p ∷ drop (p + 1) s) ≡ wait = rw (at-place s p h) at (waits-as w (nextOf (w .state) (drop p s)) e) in
+      let n : onBytes (w .state) (byteAt s p ∷ drop (p + 1) s) ≡ wait = rw (at-place s p h) at (waits-as w (onBytes (w .state) (drop p s)) e) in
       waiting-judged (w .state) (byteAt s p) (drop (p + 1) s) n
 
-  -- and what the table turns away, the journal halts at, or waits for where it is cut
-  refused-at : (r : Refusal) → judgedAt w s p ≡ Refused r → replayOf w (drop p s) ≡ obeyed w (cond (isCut r) wait (halt r))
+  -- and what the table refuses, the journal halts at, or waits for where it is cut
+  refused-at : (r : Refusal) → judgedAt w s p ≡ Refused r → replayOf w (drop p s) ≡ obeyed w (cond (isCutBody r) wait (halt r))
   unfolding judgedAt
   refused-at r e =
-      replay-is w (drop p s) (cond (isCut r) wait (halt r))
-      (ap (nextOf (w .state)) (at-place s p h) ∙ next-refused (w .state) (byteAt s p) (drop (p + 1) s) r e)
+      replay-is w (drop p s) (cond (isCutBody r) wait (halt r))
+      (ap (onBytes (w .state)) (at-place s p h) ∙ next-refused (w .state) (byteAt s p) (drop (p + 1) s) r e)
 
 -- ---- a whole journal
 
@@ -103,7 +103,7 @@ module _ (s : List ℕ) (a : Settled Whole Decided Refusal) (f : Front replayOf 
     left = ap (λ (m : Meaning). m .left) (meaning-is s a e) ∙ sym (ap (λ (m : Meaning). m .left) before-is);
   }
 
-  turned-before : (r : Refusal) → f .place < length s → judgedAt (a .state) s (f .place) ≡ Refused r → TurnedAway s r (f .place)
+  turned-before : (r : Refusal) → f .place < length s → judgedAt (a .state) s (f .place) ≡ Refused r → RefusedAt s r (f .place)
   turned-before r h c = record {
     inside = h;
     before = ap (λ (m : Meaning). m .ending) before-is;
@@ -122,26 +122,27 @@ module _ (s : List ℕ) (a : Settled Whole Decided Refusal) (e : settled replayO
       with-refusal r (f .place) (q ∙ ap (refused r) (place-is s a f)) (turned-before s a f r h c) (refused-before s a f e r)
 
 -- no refusal has been there before the end
-no-refusal : (s : List ℕ) → journalOf s .ending ≡ ended → ((r : Refusal) (p : ℕ) → TurnedAway s r p → journalOf s .ending ≡ refused r p)
+no-refusal : (s : List ℕ) → journalOf s .ending ≡ ended → ((r : Refusal) (p : ℕ) → RefusedAt s r p → journalOf s .ending ≡ refused r p)
     → (p : ℕ) → p < length s → journalOf (take p s) .ending ≡ ended → (x : Judged) → judgedAt (journalOf (take p s) .left) s p ≡ x → x ≡ Accepted
 no-refusal s e back p h b Accepted c = refl
 no-refusal s e back p h b (Refused r) c =
-    absurd (let q : ended ≡ refused r p = sym e ∙ back r p (record { inside = h; before = b; cause = c }) in let z : _≡_ {A = ℕ} 0 1 = cc in omega arith)
+    let q : ended ≡ refused r p = sym e ∙ back r p (record { inside = h; before = b; cause = c }) in
+    impossible cc
 
--- ---- the other way: what the table turns away is refused, at its place
+-- ---- the other way: what the table refuses is refused, at its place
 
 -- a journal that ends with `ended` has settled with nothing left
-ended-by : (p : ℕ) (rest : List ℕ) (x : End Refusal) → endingOf p rest x ≡ ended → (rest ≡ []) × (x ≡ waiting)
-ended-by p [] waiting e = (refl, refl)
-ended-by p (k ∷ u) waiting e = absurd (let z : _≡_ {A = ℕ} 0 1 = cc in omega arith)
-ended-by p [] (halted r) e = absurd (let z : _≡_ {A = ℕ} 0 1 = cc in omega arith)
-ended-by p (k ∷ u) (halted r) e = absurd (let z : _≡_ {A = ℕ} 0 1 = cc in omega arith)
+ended-by : (p : ℕ) (rest : List ℕ) (x : End Refusal) → endingOf p rest x ≡ ended → (rest ≡ []) × (x ≡ awaits)
+ended-by p [] awaits e = (refl, refl)
+ended-by p (k ∷ u) awaits e = impossible cc
+ended-by p [] (halted r) e = impossible cc
+ended-by p (k ∷ u) (halted r) e = impossible cc
 
 module _ (s : List ℕ) (p : ℕ) (h : p < length s) where
   abbrev up-to : Settled Whole Decided Refusal
   up-to = settled replayOf startWhole (take p s)
 
-  -- the journal goes on behind the bytes before p
+  -- the journal goes on after the bytes before p
   goes-on : up-to .rest ≡ [] → settled replayOf startWhole s ≡ telling (up-to .told) (settled replayOf (up-to .state) (drop p s))
   goes-on e =
       ap (settled replayOf startWhole) (sym (take-append-drop p s))
@@ -159,30 +160,30 @@ module _ (s : List ℕ) (p : ℕ) (h : p < length s) where
       ∙ ap (λ (u : List ℕ). endingOf p u x) (at-place s p h)
       ∙ d p (byteAt s p) (drop (p + 1) s)
 
-  refused-by : (r : Refusal) (t : Bool) → isCut r ≡ t → up-to .rest ≡ [] → judgedAt (up-to .state) s p ≡ Refused r → journalOf s .ending ≡ refused r p
+  refused-by : (r : Refusal) (t : Bool) → isCutBody r ≡ t → up-to .rest ≡ [] → judgedAt (up-to .state) s p ≡ Refused r → journalOf s .ending ≡ refused r p
   unfolding obeyed
   refused-by r true t e c =
       let n : replayOf (up-to .state) (drop p s) ≡ wait = rw t at (refused-at (up-to .state) s p h r c) in
-      settles-at waiting r e (settled-wait replayOf (replay .there) (up-to .state) (drop p s) n) (λ q k u. ap (λ (x : Refusal). refused x q) (sym (cut-only r t)))
+      settles-at awaits r e (settled-wait replayOf (replay .there) (up-to .state) (drop p s) n) (λ q k u. ap (λ (x : Refusal). refused x q) (sym (cut-only r t)))
   refused-by r false t e c =
       let n : replayOf (up-to .state) (drop p s) ≡ halt r = rw t at (refused-at (up-to .state) s p h r c) in
       settles-at (halted r) r e (settled-halt replayOf (replay .there) (up-to .state) (drop p s) r n) (λ q k u. refl)
 
--- what the table turns away is refused, with its number and its place
-pub turned-away-refused : (s : List ℕ) (r : Refusal) (p : ℕ) → TurnedAway s r p → journalOf s .ending ≡ refused r p
+-- what the table refuses is refused, with its number and its place
+pub refused-at-ends : (s : List ℕ) (r : Refusal) (p : ℕ) → RefusedAt s r p → journalOf s .ending ≡ refused r p
 unfolding journalOf
-turned-away-refused s r p t =
+refused-at-ends s r p t =
     let b = ended-by (length (take p s) - length (up-to s p (t .inside) .rest)) (up-to s p (t .inside) .rest) (up-to s p (t .inside) .end) (t .before) in
-    refused-by s p (t .inside) r (isCut r) refl (b .0) (t .cause)
+    refused-by s p (t .inside) r (isCutBody r) refl (b .0) (t .cause)
 
 -- ---- demand 1
 
 ends-by : (s : List ℕ) (rest : List ℕ) (x : End Refusal) → settled replayOf startWhole s .rest ≡ rest → settled replayOf startWhole s .end ≡ x → Ends s
 unfolding journalOf
-ends-by s [] waiting e g =
+ends-by s [] awaits e g =
     let q : journalOf s .ending ≡ ended = rw (e, g) refl in
-    with-end q (λ p h b. no-refusal s q (turned-away-refused s) p h b _ refl)
-ends-by s (k ∷ u) waiting e g =
+    with-end q (λ p h b. no-refusal s q (refused-at-ends s) p h b _ refl)
+ends-by s (k ∷ u) awaits e g =
     let a = settled replayOf startWhole s in
     let f = front replayOf replay startWhole s in
     let h = rest-inside s (f .place) k u (sym e ∙ f .rest-is) in
@@ -193,7 +194,7 @@ ends-by s [] (halted r) e g =
     absurd (never-halts (a .state) r (rw e at (rw g at (settled-still replayOf replay startWhole s))))
   where
     never-halts : (w : Whole) (r : Refusal) → replayOf w [] ≡ halt r → ⊥
-    never-halts w r q = let n = replay .idle w in let z : _≡_ {A = ℕ} 0 1 = cc in omega arith
+    never-halts w r q = let n = replay .idle w in impossible cc
 ends-by s (k ∷ u) (halted r) e g =
     let a = settled replayOf startWhole s in
     let f = front replayOf replay startWhole s in

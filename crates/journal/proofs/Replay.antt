@@ -6,13 +6,13 @@ use mathlib.Core.Bool.{Bool, true, false}
 use native.Mathlib.Omega.{arith}
 use lib.ListN.{length, take, drop, length-drop}
 use lib.Seq.{drop-drop}
-use Rattle.lictor_decide.specs.declared.Decided.{Decided}
-use Rattle.judge.specs.declared.Refusal.{Refusal}
-use Rattle.reader.specs.Stream.{Next, wait, halt, go, tell, Advanced, past, advance, advanced, takes, size, Machine}
-use Rattle.waiting.specs.State.{State}
-use Rattle.reader.specs.Reading.{Instruction, begin, restart, tick, nextOf}
-use Rattle.reader.proofs.Reading.{machine}
-use Rattle.journal_tick.specs.Tick.{Whole}
+use Rattle.lictor_fuse.specs.declared.decide.Decided.{Decided}
+use Rattle.journal_refusals.specs.declared.Refusal.{Refusal}
+use Rattle.stream.specs.Stream.{Next, wait, halt, go, tell, Advanced, past, advance, advanced, takes, size, Machine}
+use Rattle.journal_reader.specs.State.{State}
+use Rattle.journal_reader.specs.Reading.{Instruction, begin, restart, tick, onBytes}
+use Rattle.journal_reader.proofs.Reading.{machine}
+use Rattle.journal.specs.Tick.{Whole}
 use Rattle.journal.specs.Journal.{obey, obeyed, replayOf}
 
 -- the journal takes what the reader takes
@@ -44,17 +44,17 @@ obeyed-size w (tell st n i) = obey-size w st n i
 
 module _ (w : Whole) (s : List ℕ) where
   -- the journal's move, by the reader's
-  pub replay-is : (x : Next State Instruction Refusal) → nextOf (w .state) s ≡ x → replayOf w s ≡ obeyed w x
+  pub replay-is : (x : Next State Instruction Refusal) → onBytes (w .state) s ≡ x → replayOf w s ≡ obeyed w x
   unfolding replayOf
   replay-is x e = rw e refl
 
-  reader-takes : takes (replayOf w s) ≡ true → takes (nextOf (w .state) s) ≡ true
+  reader-takes : takes (replayOf w s) ≡ true → takes (onBytes (w .state) s) ≡ true
   unfolding replayOf
-  reader-takes y = sym (obeyed-takes w (nextOf (w .state) s)) ∙ y
+  reader-takes y = sym (obeyed-takes w (onBytes (w .state) s)) ∙ y
 
-  same-size : size (replayOf w s) ≡ size (nextOf (w .state) s)
+  same-size : size (replayOf w s) ≡ size (onBytes (w .state) s)
   unfolding replayOf
-  same-size = obeyed-size w (nextOf (w .state) s)
+  same-size = obeyed-size w (onBytes (w .state) s)
 
   replay-there : takes (replayOf w s) ≡ true → (0 < size (replayOf w s)) × (size (replayOf w s) ≤ length s)
   replay-there y = let b = machine .there (w .state) s (reader-takes y) in (omega (arith, b .0, same-size), omega (arith, b .1, same-size))

@@ -9,27 +9,27 @@ use lib.Seq.{take-all, drop-drop, getD-drop}
 use lib.Ieee.{Float}
 use denote.Enum.Declared.{tagOf}
 use types.Run.{OneOf, miss}
-use Rattle.bytes_le.specs.Little.{byteAt}
+use Rattle.journal_records.specs.Little.{byteAt}
 use Rattle.lictor_core.specs.declared.fuse.TickInput.{TickInput}
-use Rattle.lictor_decide.specs.declared.Decided.{Decided}
-use Rattle.records.specs.Kinds.{journalKinds, bodyLen}
-use Rattle.long_records.specs.Long.{settingsOf}
-use Rattle.judge.specs.declared.Refusal.{Refusal}
-use Rattle.waiting.specs.declared.Reader.{Reader}
-use Rattle.reader.specs.declared.Progress.{Progress}
-use Rattle.reader.specs.declared.What.{What}
-use Rattle.reader.specs.declared.What.the-variants as W
-use Rattle.reader.proofs.What as K
-use Rattle.reader.specs.Stream.{Next, wait, halt, go, tell, Advanced, past, advanced, Reached, goesOn}
-use Rattle.waiting.specs.State.{State}
-use Rattle.reader.specs.Reading.{Instruction, begin, restart, tick, bodyOf, nextOf, whatOf, readOf, listsAfter}
-use Rattle.reader.proofs.Stream.{goes, tells-on, advanced-go, advanced-wait, advanced-halt, advanced-tell, Ahead, ahead, past-none, past-past, reached-one, reached-on}
-use Rattle.reader.proofs.Reading.{machine, begins-is, resets-is}
-use Rattle.journal_tick.specs.declared.Run.{Run}
+use Rattle.lictor_fuse.specs.declared.decide.Decided.{Decided}
+use Rattle.journal_records.specs.Kinds.{journalKinds, bodyLen}
+use Rattle.journal_records.specs.Long.{settingsOf}
+use Rattle.journal_refusals.specs.declared.Refusal.{Refusal}
+use Rattle.journal_reader.specs.declared.waiting.Reader.{Reader}
+use Rattle.journal_reader.specs.declared.Progress.{Progress}
+use Rattle.journal_reader.specs.declared.What.{What}
+use Rattle.journal_reader.specs.declared.What.the-variants as W
+use Rattle.journal_reader.proofs.What as K
+use Rattle.stream.specs.Stream.{Next, wait, halt, go, tell, Advanced, past, advanced, Reached, goesOn}
+use Rattle.journal_reader.specs.State.{State}
+use Rattle.journal_reader.specs.Reading.{Instruction, begin, restart, tick, bodyOf, onBytes, whatOf, readOf, listsRead}
+use Rattle.stream.proofs.Stream.{impossible, goes, tells-on, advanced-go, advanced-wait, advanced-halt, advanced-tell, Ahead, ahead, past-none, past-past, reached-one, reached-on}
+use Rattle.journal_reader.proofs.Reading.{machine, begins-is, resets-is}
+use Rattle.journal.specs.declared.tick.Run.{Run}
 use Rattle.journal.specs.declared.How.{How}
 use Rattle.journal.specs.declared.How.the-variants.{Waits, Refuses, Ticks}
 use Rattle.journal.specs.declared.Step.{Step}
-use Rattle.journal_tick.specs.Tick.{Whole, wholeOf}
+use Rattle.journal.specs.Tick.{Whole, wholeOf}
 use Rattle.journal.specs.Journal.{obey, obeyed, replayOf, howOf, begunAt, resetAt, howBy, Stepped}
 use Rattle.journal.proofs.Replay.{replay-is, replay}
 
@@ -43,24 +43,24 @@ Lifts run st s a =
 lifts-here : (run : Run) (st : State) (s : List ℕ) (x : Next State Instruction Refusal) → Lifts run st s (record { state = st; used = 0; next = x })
 lifts-here run st s x = past-none replayOf replay 0 (advanced replayOf (record { state = st; run = run }) s) refl
 
-lifts-by : (f : ℕ) (run : Run) → ((st : State) (s : List ℕ) → length s < f → Lifts run st s (advanced nextOf st s))
-    → (st : State) (s : List ℕ) → length s ≤ f → (x : Next State Instruction Refusal) → nextOf st s ≡ x → Lifts run st s (advanced nextOf st s)
+lifts-by : (f : ℕ) (run : Run) → ((st : State) (s : List ℕ) → length s < f → Lifts run st s (advanced onBytes st s))
+    → (st : State) (s : List ℕ) → length s ≤ f → (x : Next State Instruction Refusal) → onBytes st s ≡ x → Lifts run st s (advanced onBytes st s)
 unfolding obeyed
-lifts-by f run ih st s p wait e = rw (advanced-wait nextOf machine st s e) (lifts-here run st s wait)
-lifts-by f run ih st s p (halt r) e = rw (advanced-halt nextOf machine st s r e) (lifts-here run st s (halt r))
-lifts-by f run ih st s p (tell st' n i) e = rw (advanced-tell nextOf machine st s st' n i e) (lifts-here run st s (tell st' n i))
+lifts-by f run ih st s p wait e = rw (advanced-wait onBytes machine st s e) (lifts-here run st s wait)
+lifts-by f run ih st s p (halt r) e = rw (advanced-halt onBytes machine st s r e) (lifts-here run st s (halt r))
+lifts-by f run ih st s p (tell st' n i) e = rw (advanced-tell onBytes machine st s st' n i e) (lifts-here run st s (tell st' n i))
 lifts-by f run ih st s p (go st' n) e =
-    let b = goes nextOf (machine .there) st s st' n e in
-    let a = advanced nextOf st' (drop n s) in
-    rw (advanced-go nextOf machine st s st' n e)
+    let b = goes onBytes (machine .there) st s st' n e in
+    let a = advanced onBytes st' (drop n s) in
+    rw (advanced-go onBytes machine st s st' n e)
     (advanced-go replayOf replay (record { state = st; run = run }) s (record { state = st'; run = run }) n (replay-is (record { state = st; run = run }) s (go st' n) e)
     ∙ ap (past n) (ih st' (drop n s) (omega (arith, length-drop n s, b .0, b .1)))
     ∙ past-past replayOf replay n (a .used) (n + a .used) (advanced replayOf (record { state = a .state; run = run }) (drop (a .used) (drop n s))) refl
     ∙ ap (λ (u : List ℕ). past (n + a .used) (advanced replayOf (record { state = a .state; run = run }) u)) (drop-drop (a .used) n s))
 
-lifts : (f : ℕ) (run : Run) (st : State) (s : List ℕ) → length s < f → Lifts run st s (advanced nextOf st s)
+lifts : (f : ℕ) (run : Run) (st : State) (s : List ℕ) → length s < f → Lifts run st s (advanced onBytes st s)
 lifts zero run st s p = absurd (omega arith)
-lifts (suc f) run st s p = lifts-by f run (λ st' u q. lifts f run st' u q) st s (omega arith) (nextOf st s) refl
+lifts (suc f) run st s p = lifts-by f run (λ st' u q. lifts f run st' u q) st s (omega arith) (onBytes st s) refl
 
 -- ---- what the reader says, and what the journal does then
 
@@ -79,7 +79,7 @@ what-stops : (w : Whole) (y : Next State Instruction Refusal) → goesOn y ≡ f
 unfolding obeyed obey
 what-stops w wait g k = (refl, refl)
 what-stops w (halt r) g k = (refl, refl)
-what-stops w (go st n) g k = absurd (let z : _≡_ {A = ℕ} 0 1 = cc in omega arith)
+what-stops w (go st n) g k = impossible cc
 what-stops w (tell st n (begin s)) g k = absurd (miss others 2 tt k)
 what-stops w (tell st n restart) g k = absurd (miss others 3 tt k)
 what-stops w (tell st n (tick c)) g k = (refl, refl)
@@ -90,13 +90,13 @@ part-from s at = take-all (length s - at) (drop at s) (omega (arith, length-drop
 
 module _ (rd : Reader) (run : Run) (l : List Float) (s : List ℕ) (at : ℕ) (h : at ≤ length s) where
   abbrev read : Advanced State Instruction Refusal
-  read = advanced nextOf (record { reader = rd; lists = l }) (drop at s)
+  read = advanced onBytes (record { reader = rd; lists = l }) (drop at s)
 
   abbrev came : Whole
   came = record { state = read .state; run = run }
 
-  there : Ahead nextOf machine (record { reader = rd; lists = l }) (drop at s) read
-  there = ahead nextOf machine (record { reader = rd; lists = l }) (drop at s)
+  there : Ahead onBytes machine (record { reader = rd; lists = l }) (drop at s) read
+  there = ahead onBytes machine (record { reader = rd; lists = l }) (drop at s)
 
   reached-there : Reached replayOf (wholeOf rd run l) s at came (at + read .used)
   reached-there =
@@ -109,7 +109,7 @@ module _ (rd : Reader) (run : Run) (l : List Float) (s : List ℕ) (at : ℕ) (h
             ∙ rw (e, drop-drop (read .used) at s) refl;
       }
 
-  next-there : nextOf (read .state) (drop (at + read .used) s) ≡ read .next
+  next-there : onBytes (read .state) (drop (at + read .used) s) ≡ read .next
   next-there = rw (drop-drop (read .used) at s) at (there .then)
 
   stopped : (v : How) → (goesOn (obeyed came (read .next)) ≡ false) × (v ≡ howOf (read .next))
@@ -122,16 +122,16 @@ module _ (rd : Reader) (run : Run) (l : List Float) (s : List ℕ) (at : ℕ) (h
   }
     where
       no : false ≡ true → ⊥
-      no y = let f : _≡_ {A = ℕ} 0 1 = cc in omega arith
+      no y = impossible cc
 
-  module _ (p : Progress) (l' : List Float) (e : p ≡ readOf (record { reader = rd; lists = l }) (drop at s)) (f : l' ≡ listsAfter (record { reader = rd; lists = l }) (drop at s)) where
+  module _ (p : Progress) (l' : List Float) (e : p ≡ readOf (record { reader = rd; lists = l }) (drop at s)) (f : l' ≡ listsRead (record { reader = rd; lists = l }) (drop at s)) where
     pub read-within : at + p .used ≤ length s
     unfolding readOf
     read-within = omega (arith, reached-there .within, ap (λ (x : Progress). x .used) e)
 
     pub stepped-stops : OneOf others (tagOf K.the-type (p .what))
         → Stepped (wholeOf rd run l) s at (record { reader = p .reader; run = run; at = at + p .used; how = howBy (p .what); more = false }) l'
-    unfolding readOf listsAfter
+    unfolding readOf listsRead
     stepped-stops k =
         let y : p .what ≡ whatOf (read .next) = ap (λ (x : Progress). x .what) e in
         rw (e, f) (stopped (howBy (whatOf (read .next))) (what-stops came (read .next) (there .stops) (subst (λ (x : What). OneOf others (tagOf K.the-type x)) y k)))
@@ -158,27 +158,27 @@ module _ (w : Whole) (s : List ℕ) (at : ℕ) (v : Whole) (i : ℕ) (t : Reache
       }
     where
       no : true ≡ false → ⊥
-      no z = let f : _≡_ {A = ℕ} 0 1 = cc in omega arith
+      no z = impossible cc
 
 module _ (rd : Reader) (run : Run) (l : List Float) (s : List ℕ) (at : ℕ) (h : at ≤ length s)
-    (p : Progress) (l' : List Float) (e : p ≡ readOf (record { reader = rd; lists = l }) (drop at s)) (f : l' ≡ listsAfter (record { reader = rd; lists = l }) (drop at s)) where
+    (p : Progress) (l' : List Float) (e : p ≡ readOf (record { reader = rd; lists = l }) (drop at s)) (f : l' ≡ listsRead (record { reader = rd; lists = l }) (drop at s)) where
   abbrev st' : State
   st' = record { reader = p .reader; lists = l' }
 
-  what-there : whatOf (nextOf st' (drop (at + p .used) s)) ≡ p .what
-  unfolding readOf listsAfter
+  what-there : whatOf (onBytes st' (drop (at + p .used) s)) ≡ p .what
+  unfolding readOf listsRead
   what-there = rw (e, f) (ap whatOf (next-there rd run l s at h))
 
   reached-read : Reached replayOf (wholeOf rd run l) s at (wholeOf (p .reader) run l') (at + p .used)
-  unfolding readOf listsAfter
+  unfolding readOf listsRead
   reached-read = rw (e, f) (reached-there rd run l s at h)
 
   -- the record that comes next is there whole
   instruction-fits : {st'' : State} {i : Instruction}
-      → nextOf st' (drop (at + p .used) s) ≡ tell st'' (suc (bodyLen journalKinds (byteAt (drop (at + p .used) s) 0))) i
+      → onBytes st' (drop (at + p .used) s) ≡ tell st'' (suc (bodyLen journalKinds (byteAt (drop (at + p .used) s) 0))) i
       → at + p .used + bodyLen journalKinds (byteAt s (at + p .used)) < length s
   instruction-fits {st'' = st''} {i = i} q =
-      let b = tells-on nextOf (machine .there) st' (drop (at + p .used) s) st'' _ i q in
+      let b = tells-on onBytes (machine .there) st' (drop (at + p .used) s) st'' _ i q in
       omega (arith, b .1, length-drop (at + p .used) s, ap (bodyLen journalKinds) (byte-there s (at + p .used)))
 
   pub begins-fits : p .what ≡ W.Begins → at + p .used + bodyLen journalKinds (byteAt s (at + p .used)) < length s

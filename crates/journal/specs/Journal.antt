@@ -1,4 +1,5 @@
--- A journal on the fuse (01-scope.md, Journal): what its instructions do to the run state, and the meaning of a whole list of bytes.
+-- A journal on the fuse (01-scope.md, Journal): what its instructions do to the run state, and the
+-- meaning of a whole list of bytes.
 use mathlib.Core.Bool.{true, false}
 use mathlib.Core.List.{List, [], _∷_}
 use mathlib.Core.Path.{_≡_}
@@ -8,26 +9,26 @@ use lib.ListN.{length, take, drop}
 use Rattle.lictor_core.specs.declared.envelope.Settings.{Settings}
 use Rattle.lictor_core.specs.Initial.{zeros, newOf, resetOf}
 use Rattle.lictor_settings.specs.Settings.{configOf}
-use Rattle.lictor_decide.specs.declared.Decided.{Decided}
-use Rattle.bytes_le.specs.Little.{byteAt}
-use Rattle.records.specs.Kinds.{journalKinds, bodyLen}
-use Rattle.long_records.specs.Long.{settingsOf}
-use Rattle.judge.specs.declared.Refusal.{Refusal}
-use Rattle.judge.specs.declared.Refusal.the-variants.{CutBody}
-use Rattle.reader.specs.Stream.{Next, wait, halt, go, tell, End, waiting, halted, settled, advanced, Reached, goesOn}
-use Rattle.waiting.specs.declared.Reader.{Reader}
-use Rattle.reader.specs.declared.What.{What}
-use Rattle.reader.specs.declared.What.the-variants as W
-use Rattle.waiting.specs.State.{State, settingsCame, emptied, startReader}
-use Rattle.reader.specs.Reading.{Instruction, begin, restart, tick, nextOf}
-use Rattle.journal_tick.specs.declared.Run.{Run}
-use Rattle.journal_tick.specs.Tick.{decidedOf, tickedOf, Whole, wholeOf}
+use Rattle.lictor_fuse.specs.declared.decide.Decided.{Decided}
+use Rattle.journal_records.specs.Little.{byteAt}
+use Rattle.journal_records.specs.Kinds.{journalKinds, bodyLen}
+use Rattle.journal_records.specs.Long.{settingsOf}
+use Rattle.journal_refusals.specs.declared.Refusal.{Refusal}
+use Rattle.journal_refusals.specs.declared.Refusal.the-variants.{CutBody}
+use Rattle.stream.specs.Stream.{Next, wait, halt, go, tell, End, awaits, halted, settled, advanced, Reached, goesOn}
+use Rattle.journal_reader.specs.declared.waiting.Reader.{Reader}
+use Rattle.journal_reader.specs.declared.What.{What}
+use Rattle.journal_reader.specs.declared.What.the-variants as W
+use Rattle.journal_reader.specs.State.{State, places, settingsCame, emptied, startReader}
+use Rattle.journal_reader.specs.Reading.{Instruction, begin, restart, tick, onBytes}
+use Rattle.journal.specs.declared.tick.Run.{Run}
+use Rattle.journal.specs.Tick.{decidedOf, tickedOf, Whole, wholeOf}
 use Rattle.journal.specs.declared.How.{How}
 use Rattle.journal.specs.declared.How.the-variants.{Waits, Refuses, Ticks}
 use Rattle.journal.specs.declared.Advanced.{Advanced}
 use Rattle.journal.specs.declared.Step.{Step}
 
--- ---- what an instruction does; a tick: journal_tick specs/Tick
+-- ---- what an instruction does; a tick: journal specs/Tick
 
 -- settings give the run state of `new`
 unfoldable pub begunOf : Settings → Run
@@ -51,23 +52,26 @@ obeyed w (go st n) = go (record { state = st; run = w .run }) n
 obeyed w (tell st n i) = obey w st n i
 
 unfoldable pub replayOf : Whole → List ℕ → Next Whole Decided Refusal
-replayOf w s = obeyed w (nextOf (w .state) s)
+replayOf w s = obeyed w (onBytes (w .state) s)
 
 -- ---- a whole journal
 
--- before the first byte. There is no configuration yet, and no tick before the settings: zeros stand in its place.
+-- before the first byte. There is no configuration yet, and no tick before the settings: zeros are
+-- in its place.
 unfoldable pub startRun : Run
 startRun = begunOf (settingsOf [])
 
 unfoldable pub startWhole : Whole
-startWhole = record { state = record { reader = startReader; lists = zeros 576 }; run = startRun }
+startWhole = record { state = record { reader = startReader; lists = zeros places }; run = startRun }
 
--- how a journal ends: at the end of the input, or with a refusal, at the place of its record's kind byte
+-- how a journal ends: at the end of the input, or with a refusal, at the place of its record's kind
+-- byte
 pub data Ending : Type 0 where
   ended : Ending
   refused : Refusal → ℕ → Ending
 
--- the meaning of a journal: its ticks' verdicts, how it ends, and what is left: run state, collected records and lists
+-- the meaning of a journal: its ticks' verdicts, how it ends, and what is left: run state,
+-- collected records and lists
 pub record Meaning : Type 0 where
   pub events : List Decided
   pub ending : Ending
@@ -75,8 +79,8 @@ pub record Meaning : Type 0 where
 
 -- at place p, with these bytes left: a record whose body the end cuts is refused too
 abbrev pub endingOf : ℕ → List ℕ → End Refusal → Ending
-endingOf p [] waiting = ended
-endingOf p (k ∷ s) waiting = refused CutBody p
+endingOf p [] awaits = ended
+endingOf p (k ∷ s) awaits = refused CutBody p
 endingOf p s (halted r) = refused r p
 
 unfoldable pub journalOf : List ℕ → Meaning
@@ -86,7 +90,8 @@ journalOf s =
 
 -- ---- what the code answers
 
--- what comes next, where the journal goes no further by itself: the end of the bytes, a refusal, or a tick
+-- what comes next, where the journal goes no further by itself: the end of the bytes, a refusal, or
+-- a tick
 abbrev pub howOf : Next State Instruction Refusal → How
 howOf wait = Waits
 howOf (halt r) = Refuses r
@@ -95,7 +100,8 @@ howOf (tell st n (begin s)) = Waits
 howOf (tell st n restart) = Waits
 howOf (tell st n (tick c)) = Ticks (c .input)
 
--- all records up to the next tick: reader and fuse there, the bytes up to there, and what comes next
+-- all records up to the next tick: reader and fuse there, the bytes up to there, and what comes
+-- next
 unfoldable pub advancedOf : Whole → List ℕ → Advanced
 advancedOf w s =
     let a = advanced replayOf w s in
@@ -103,7 +109,7 @@ advancedOf w s =
       reader = a .state .state .reader;
       run = a .state .run;
       used = a .used;
-      how = howOf (nextOf (a .state .state) (drop (a .used) s));
+      how = howOf (onBytes (a .state .state) (drop (a .used) s));
     }
 
 unfoldable pub listsAfter : Whole → List ℕ → List Float
@@ -111,7 +117,7 @@ listsAfter w s = advanced replayOf w s .state .state .lists
 
 -- ---- what its own functions promise each other
 
--- settings, or a reset, of which the kind byte stands at place `at` of s
+-- settings, or a reset, of which the kind byte is at place `at` of s
 unfoldable pub begunAt : Reader → List ℕ → ℕ → Step
 begunAt rd s at =
     let n = bodyLen journalKinds (byteAt s at) in
@@ -133,4 +139,4 @@ pub record Stepped (w : Whole) (s : List ℕ) (at : ℕ) (r : Step) (l' : List F
   pub reached : Reached replayOf w s at (wholeOf (r .reader) (r .run) l') (r .at)
   pub further : r .more ≡ true → at < r .at
   pub stops : r .more ≡ false → goesOn (replayOf (wholeOf (r .reader) (r .run) l') (drop (r .at) s)) ≡ false
-  pub how : r .more ≡ false → r .how ≡ howOf (nextOf (record { reader = r .reader; lists = l' }) (drop (r .at) s))
+  pub how : r .more ≡ false → r .how ≡ howOf (onBytes (record { reader = r .reader; lists = l' }) (drop (r .at) s))

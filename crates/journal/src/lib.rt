@@ -1,17 +1,21 @@
-// A journal on the fuse, from tick to tick: its settings and resets, one after the other, from bytes that come in parts of any sizes. A tick itself: journal_tick.
+// A journal on the fuse, from tick to tick: its settings and resets, one after the other, from
+// bytes that come in parts of any sizes.
+pub mod tick; // a tick itself
+
 ghost use mathlib.Core.Path.{_≡_};
 ghost use Prim.Native.Nat.{_+_, _<_, _≤_};
 ghost use lib.ListN.{length};
-ghost use Rattle.bytes_le.specs.Little.{byteAt};
-ghost use Rattle.records.specs.Kinds.{journalKinds, bodyLen};
-ghost use Rattle.journal_tick.specs.Tick.{wholeOf};
+ghost use Rattle.journal_records.specs.Little.{byteAt};
+ghost use Rattle.journal_records.specs.Kinds.{journalKinds, bodyLen};
+ghost use Rattle.journal.specs.Tick.{wholeOf};
 ghost use Rattle.journal.specs.Journal.{begunOf, restartedOf, startRun, advancedOf, listsAfter, begunAt, resetAt, howBy, Stepped};
-use journal_tick::Run;
-use judge::Refusal;
+use crate::tick::Run;
+use journal_reader::What;
+use journal_reader::waiting::PLACES;
+use journal_reader::waiting::Reader;
+use journal_refusals::Refusal;
 use lictor_core::envelope::Settings;
 use lictor_core::fuse::TickInput;
-use reader::What;
-use waiting::Reader;
 
 // What a journal comes to: the end of the bytes, a refusal, or a tick.
 pub enum How {
@@ -34,7 +38,7 @@ fn begin(s: Settings) -> Run
     ensures { λ r. ⌜ r ≡ begunOf s ⌝ }
 {
     let config = lictor_settings::config(s);
-    let rt = lictor_episode::new();
+    let rt = lictor_fuse::episode::new();
     Run { config, rt }
 }
 
@@ -43,7 +47,7 @@ fn restart(run: Run) -> Run
 {
     let config = run.config;
     let old = run.rt;
-    let rt = lictor_episode::reset(old);
+    let rt = lictor_fuse::episode::reset(old);
     Run { config, rt }
 }
 
@@ -62,14 +66,14 @@ fn begin_at(rd: Reader, s: &[u8], at: usize) -> Step
     requires { ⌜ at + bodyLen journalKinds (byteAt (now s) at) < length (now s) ⌝ }
     ensures { λ r. ⌜ r ≡ begunAt rd (now (s .entry)) at ⌝ }
 {
-    let k = s[at];
-    let a = at + 1;
-    let e = a + records::body_len(k);
-    let settings = long_records::read_settings(&s[a..e]);
+    let kind = s[at];
+    let from = at + 1;
+    let end = from + journal_records::body_len(kind);
+    let settings = journal_records::long::read_settings(&s[from..end]);
     Step {
-        reader: waiting::begun(rd),
+        reader: journal_reader::waiting::begun(rd),
         run: begin(settings),
-        at: e,
+        at: end,
         how: How::Waits,
         more: true,
     }
@@ -80,13 +84,13 @@ fn reset_at(rd: Reader, run: Run, s: &[u8], at: usize) -> Step
     requires { ⌜ at + bodyLen journalKinds (byteAt (now s) at) < length (now s) ⌝ }
     ensures { λ r. ⌜ r ≡ resetAt rd run (now (s .entry)) at ⌝ }
 {
-    let k = s[at];
-    let a = at + 1;
-    let e = a + records::body_len(k);
+    let kind = s[at];
+    let from = at + 1;
+    let end = from + journal_records::body_len(kind);
     Step {
-        reader: waiting::emptied(rd),
+        reader: journal_reader::waiting::emptied(rd),
         run: restart(run),
-        at: e,
+        at: end,
         how: How::Waits,
         more: true,
     }
@@ -104,21 +108,21 @@ fn how_by(what: What) -> How
 }
 
 // All records from a place on up to the next instruction, and that one, unless it is a tick.
-fn take_step(rd: Reader, run: Run, lists: &mut [f64; 576], s: &[u8], at: usize) -> Step
+fn take_step(rd: Reader, run: Run, lists: &mut [f64; PLACES], s: &[u8], at: usize) -> Step
     requires { ⌜ at ≤ length (now s) ⌝ }
     ensures { λ r. ⌜ Stepped (wholeOf rd run (now (lists .entry))) (now (s .entry)) at r (now (lists .exit)) ⌝ }
 {
-    let p = reader::read(rd, lists, &s[at..]);
-    let q = p.reader;
-    let i = at + p.used;
-    let what = p.what;
+    let progress = journal_reader::read(rd, lists, &s[at..]);
+    let reader = progress.reader;
+    let next = at + progress.used;
+    let what = progress.what;
     match what {
-        What::Begins => begin_at(q, s, i),
-        What::Resets => reset_at(q, run, s, i),
+        What::Begins => begin_at(reader, s, next),
+        What::Resets => reset_at(reader, run, s, next),
         What::Waits | What::Refuses(_) | What::Ticks(_) => Step {
-            reader: q,
+            reader,
             run,
-            at: i,
+            at: next,
             how: how_by(what),
             more: false,
         },
@@ -129,33 +133,34 @@ fn take_step(rd: Reader, run: Run, lists: &mut [f64; 576], s: &[u8], at: usize) 
 pub fn start() -> Run
     ensures { λ r. ⌜ r ≡ startRun ⌝ }
 {
-    begin(long_records::read_settings(b""))
+    begin(journal_records::long::read_settings(b""))
 }
 
-// Takes all records up to the next tick, to one that is turned away or to one that is not there whole, and says which comes there.
-pub fn advance(rd: Reader, run: Run, lists: &mut [f64; 576], s: &[u8]) -> Advanced
+// Takes all records up to the next tick, to one that is refused or to one that is not there whole,
+// and says which comes there.
+pub fn advance(rd: Reader, run: Run, lists: &mut [f64; PLACES], s: &[u8]) -> Advanced
     ensures { λ r. ⌜ (r ≡ advancedOf (wholeOf rd run (now (lists .entry))) (now (s .entry))) × (now (lists .exit) ≡ listsAfter (wholeOf rd run (now (lists .entry))) (now (s .entry))) ⌝ }
 {
-    let mut t = Step {
+    let mut step = Step {
         reader: rd,
         run,
         at: 0,
         how: How::Waits,
         more: true,
     };
-    while t.more {
-        let r = t.reader;
-        let q = t.run;
-        let i = t.at;
-        t = take_step(r, q, lists, s, i);
+    while step.more {
+        let reader = step.reader;
+        let run = step.run;
+        let i = step.at;
+        step = take_step(reader, run, lists, s, i);
     }
-    let reader = t.reader;
-    let after = t.run;
-    let how = t.how;
+    let reader = step.reader;
+    let after = step.run;
+    let how = step.how;
     Advanced {
         reader,
         run: after,
-        used: t.at,
+        used: step.at,
         how,
     }
 }

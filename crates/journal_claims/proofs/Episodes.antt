@@ -1,27 +1,27 @@
--- Every tick behind an opening stands in an episode: the last opening before it begins one.
+-- Every tick after an opening is in an episode: the last opening before it begins one.
 use mathlib.Core.Path.{_≡_, refl, sym, ap, subst}
 use mathlib.Core.List.{List, [], _∷_, _++_, map, append-assoc}
 use Prim.Native.Nat.{ℕ}
-use native.Mathlib.Omega.{arith}
 use Rattle.lictor_core.specs.declared.envelope.Settings.{Settings}
-use Rattle.reader.specs.Reading.{Call, Instruction, begin, restart, tick}
+use Rattle.journal_reader.specs.Reading.{Brought, Instruction, begin, restart, tick}
+use Rattle.stream.proofs.Stream.{impossible}
 use Rattle.journal_claims.specs.JournalStops.{Opens, EndsWith}
 
 -- one tick more
-one-tick : (cs : List Call) (d : Call) (is : List Instruction) → map tick cs ++ (tick d ∷ is) ≡ map tick (cs ++ (d ∷ [])) ++ is
+one-tick : (cs : List Brought) (d : Brought) (is : List Instruction) → map tick cs ++ (tick d ∷ is) ≡ map tick (cs ++ (d ∷ [])) ++ is
 one-tick [] d is = refl
 one-tick (c ∷ cs) d is = ap (λ (l : List Instruction). tick c ∷ l) (one-tick cs d is)
 
-module _ (c : Call) (later : List Instruction) where
-  -- with the opening i and the ticks cs behind `pre`, and then more, up to c
-  abbrev Found : List Instruction → Instruction → List Call → List Instruction → Type 0
+module _ (c : Brought) (later : List Instruction) where
+  -- with the opening i and the ticks cs after `pre`, and then more, up to c
+  abbrev Found : List Instruction → Instruction → List Brought → List Instruction → Type 0
   Found pre i cs more = EndsWith (pre ++ (i ∷ (map tick cs ++ (more ++ (tick c ∷ later))))) c later
 
   -- the next opening takes its place
-  anew : (pre : List Instruction) (i : Instruction) (cs : List Call) (j : Instruction) (more : List Instruction) → Found (pre ++ (i ∷ map tick cs)) j [] more → Found pre i cs (j ∷ more)
+  anew : (pre : List Instruction) (i : Instruction) (cs : List Brought) (j : Instruction) (more : List Instruction) → Found (pre ++ (i ∷ map tick cs)) j [] more → Found pre i cs (j ∷ more)
   anew pre i cs j more f = subst (λ (l : List Instruction). EndsWith l c later) (append-assoc pre (i ∷ map tick cs) (j ∷ (more ++ (tick c ∷ later)))) f
 
-  find : (more pre : List Instruction) (i : Instruction) (cs : List Call) → Opens i → Found pre i cs more
+  find : (more pre : List Instruction) (i : Instruction) (cs : List Brought) → Opens i → Found pre i cs more
   find [] pre i cs o =
       record {
         before = pre;
@@ -37,7 +37,7 @@ module _ (c : Call) (later : List Instruction) where
   -- where the settings come first
   pub behind-settings : (before : List Instruction) (w : Settings) (rest : List Instruction) → before ++ (tick c ∷ later) ≡ begin w ∷ rest
       → EndsWith (before ++ (tick c ∷ later)) c later
-  behind-settings [] w rest e = absurd (let z : _≡_ {A = ℕ} 0 1 = cc in omega arith)
+  behind-settings [] w rest e = impossible cc
   behind-settings (begin s ∷ before) w rest e = find before [] (begin s) [] tt
   behind-settings (restart ∷ before) w rest e = find before [] restart [] tt
-  behind-settings (tick d ∷ before) w rest e = absurd (let z : _≡_ {A = ℕ} 0 1 = cc in omega arith)
+  behind-settings (tick d ∷ before) w rest e = impossible cc

@@ -3,23 +3,23 @@ use mathlib.Core.Path.{_≡_, refl}
 use mathlib.Core.List.{List}
 use Prim.Native.Nat.{ℕ, zero, suc}
 use lib.ListN.{drop}
-use Rattle.lictor_decide.specs.declared.Decided.{Decided}
-use Rattle.judge.specs.declared.Refusal.{Refusal}
-use Rattle.reader.specs.Stream.{Next, wait, halt, go, tell, Settled, after, settle, settled}
-use Rattle.waiting.specs.State.{State}
-use Rattle.reader.specs.Reading.{Instruction, begin, restart, tick, nextOf}
-use Rattle.journal_tick.specs.declared.Run.{Run}
-use Rattle.journal_tick.specs.Tick.{decidedOf, tickedOf, Whole}
+use Rattle.lictor_fuse.specs.declared.decide.Decided.{Decided}
+use Rattle.journal_refusals.specs.declared.Refusal.{Refusal}
+use Rattle.stream.specs.Stream.{Next, wait, halt, go, tell, Settled, after, settle, settled}
+use Rattle.journal_reader.specs.State.{State}
+use Rattle.journal_reader.specs.Reading.{Instruction, begin, restart, tick, onBytes}
+use Rattle.journal.specs.declared.tick.Run.{Run}
+use Rattle.journal.specs.Tick.{decidedOf, tickedOf, Whole}
 use Rattle.journal.specs.Journal.{begunOf, restartedOf, obey, obeyed, replayOf, startRun, startWhole, journalOf}
-use Rattle.journal_claims.specs.Instructions.{instructionsOf, leftBy, played}
+use Rattle.journal_claims.specs.Instructions.{instructionsOf, leavesAll, verdictsAll}
 
 -- where the reader and the journal settle, from the fuse r on
 abbrev Beside : Run → Settled State Instruction Refusal → Settled Whole Decided Refusal → Type 0
-Beside r a b = (b .told ≡ played r (a .told)) × (b .state .run ≡ leftBy r (a .told))
+Beside r a b = (b .told ≡ verdictsAll r (a .told)) × (b .state .run ≡ leavesAll r (a .told))
 
-module _ (f : ℕ) (ih : (w : Whole) (s : List ℕ) → Beside (w .run) (settle nextOf f (w .state) s) (settle replayOf f w s)) where
+module _ (f : ℕ) (ih : (w : Whole) (s : List ℕ) → Beside (w .run) (settle onBytes f (w .state) s) (settle replayOf f w s)) where
   one-more : (w : Whole) (s : List ℕ) (x : Next State Instruction Refusal)
-      → Beside (w .run) (after (w .state) s x (λ st n. settle nextOf f st (drop n s))) (after w s (obeyed w x) (λ w' n. settle replayOf f w' (drop n s)))
+      → Beside (w .run) (after (w .state) s x (λ st n. settle onBytes f st (drop n s))) (after w s (obeyed w x) (λ w' n. settle replayOf f w' (drop n s)))
   unfolding obeyed obey
   one-more w s wait = (refl, refl)
   one-more w s (halt r) = (refl, refl)
@@ -30,16 +30,16 @@ module _ (f : ℕ) (ih : (w : Whole) (s : List ℕ) → Beside (w .run) (settle 
       let i = ih (record { state = st; run = tickedOf (w .run) (decidedOf (w .run) c) }) (drop n s) in
       (rw (i .0) refl, i .1)
 
-beside : (f : ℕ) (w : Whole) (s : List ℕ) → Beside (w .run) (settle nextOf f (w .state) s) (settle replayOf f w s)
+beside : (f : ℕ) (w : Whole) (s : List ℕ) → Beside (w .run) (settle onBytes f (w .state) s) (settle replayOf f w s)
 unfolding settle replayOf
 beside zero w s = (refl, refl)
-beside (suc f) w s = one-more f (λ v u. beside f v u) w s (nextOf (w .state) s)
+beside (suc f) w s = one-more f (λ v u. beside f v u) w s (onBytes (w .state) s)
 
 -- its verdicts, and the fuse that it leaves
-pub events-played : (s : List ℕ) → journalOf s .events ≡ played startRun (instructionsOf s)
+pub events-played : (s : List ℕ) → journalOf s .events ≡ verdictsAll startRun (instructionsOf s)
 unfolding journalOf instructionsOf settled startWhole
 events-played s = beside _ startWhole s .0
 
-pub run-played : (s : List ℕ) → journalOf s .left .run ≡ leftBy startRun (instructionsOf s)
+pub run-played : (s : List ℕ) → journalOf s .left .run ≡ leavesAll startRun (instructionsOf s)
 unfolding journalOf instructionsOf settled startWhole
 run-played s = beside _ startWhole s .1

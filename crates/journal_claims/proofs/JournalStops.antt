@@ -10,20 +10,20 @@ use Rattle.lictor_core.specs.declared.fuse.FuseRt.{FuseRt}
 use Rattle.lictor_settings.specs.declared.SettingsCheck.the-variants.{Accepted}
 use Rattle.lictor_core.specs.Initial.{freshControl, newOf}
 use Rattle.lictor_settings.specs.Settings.{checkOf, configOf}
-use Rattle.lictor_decide.specs.declared.Decided.{Decided}
+use Rattle.lictor_fuse.specs.declared.decide.Decided.{Decided}
 use Rattle.lictor_fuse.specs.Tick.{givenOf}
 use Rattle.claims.specs.Runs.{All, Step, andThen}
 use Rattle.claims.specs.Calls as C
-use Rattle.claims.specs.Calls.{Under, accepted, ticksFrom}
+use Rattle.claims.specs.Calls.{Under, settingsPass, ticksFrom}
 use Rattle.claims.specs.Demand3.{Sized, Demand3}
 use Rattle.claims.proofs.Tick.{by-step}
 use Rattle.claims.proofs.Demand3.{stops-from, faults-from, rearms-from, acks-from, stops-close}
-use Rattle.reader.specs.Reading.{Call, Instruction, begin, restart, tick}
-use Rattle.journal_tick.specs.declared.Run.{Run}
-use Rattle.journal_tick.specs.Tick.{decidedOf, tickedOf}
+use Rattle.journal_reader.specs.Reading.{Brought, Instruction, begin, restart, tick}
+use Rattle.journal.specs.declared.tick.Run.{Run}
+use Rattle.journal.specs.Tick.{decidedOf, tickedOf}
 use Rattle.journal.specs.Journal.{begunOf, restartedOf, startRun}
-use Rattle.journal_claims.specs.Instructions.{instructionsOf, leaves, leftBy, verdictsOf, played}
-use Rattle.journal_claims.specs.JournalStops.{NoSettings, SettledBy, Episode, Opens, In, opened, callUnder, callsOf, answerIn, answersFrom, EpisodeStops, EndsWith, StopsIn, with-settings, without, JournalStops}
+use Rattle.journal_claims.specs.Instructions.{instructionsOf, leaves, leavesAll, verdictsOf, verdictsAll}
+use Rattle.journal_claims.specs.JournalStops.{NoSettings, SettledBy, Episode, Opens, In, opened, callUnder, callsOf, decidedIn, decidedFrom, EpisodeStops, EndsWith, StopsIn, with-settings, without, JournalStops}
 use Rattle.journal_claims.proofs.Instructions.{events-played}
 use Rattle.journal_claims.proofs.Order.{Ordered, nothing, under, ordered}
 use Rattle.journal_claims.proofs.Episodes.{behind-settings}
@@ -31,13 +31,13 @@ use Rattle.journal_claims.proofs.Episodes.{behind-settings}
 -- ---- lists of instructions
 
 -- one list and then another
-played-on : (r : Run) (is js : List Instruction) → played r (is ++ js) ≡ played r is ++ played (leftBy r is) js
+played-on : (r : Run) (is js : List Instruction) → verdictsAll r (is ++ js) ≡ verdictsAll r is ++ verdictsAll (leavesAll r is) js
 played-on r [] js = refl
 played-on r (i ∷ is) js =
-    ap (λ (l : List Decided). verdictsOf r i ++ l) (played-on (leaves r i) is js) ∙ sym (append-assoc (verdictsOf r i) (played (leaves r i) is) (played (leftBy (leaves r i) is) js))
+    ap (λ (l : List Decided). verdictsOf r i ++ l) (played-on (leaves r i) is js) ∙ sym (append-assoc (verdictsOf r i) (verdictsAll (leaves r i) is) (verdictsAll (leavesAll (leaves r i) is) js))
 
 -- an opening says nothing
-opens-silent : (r : Run) (i : Instruction) (is : List Instruction) → Opens i → played r (i ∷ is) ≡ played (leaves r i) is
+opens-silent : (r : Run) (i : Instruction) (is : List Instruction) → Opens i → verdictsAll r (i ∷ is) ≡ verdictsAll (leaves r i) is
 opens-silent r (begin s) is o = refl
 opens-silent r restart is o = refl
 opens-silent r (tick c) is o = absurd o
@@ -50,13 +50,13 @@ keeps-one r (begin s) n = absurd n
 keeps-one r restart n = refl
 keeps-one r (tick c) n = refl
 
-keeps : (is : List Instruction) (i : Instruction) (js : List Instruction) (r : Run) → All NoSettings (is ++ (i ∷ js)) → leaves (leftBy r is) i .config ≡ r .config
+keeps : (is : List Instruction) (i : Instruction) (js : List Instruction) (r : Run) → All NoSettings (is ++ (i ∷ js)) → leaves (leavesAll r is) i .config ≡ r .config
 keeps [] i js r n = keeps-one r i (n .0)
 keeps (j ∷ is) i js r n = keeps is i js (leaves r j) (n .1) ∙ keeps-one r j (n .0)
 
--- so every one behind the settings has theirs
+-- so every one after the settings has theirs
 configured : (is : List Instruction) (i : Instruction) (js : List Instruction) (r : Run) (w : Settings) (rest : List Instruction)
-    → is ++ (i ∷ js) ≡ begin w ∷ rest → All NoSettings rest → leaves (leftBy r is) i .config ≡ configOf w
+    → is ++ (i ∷ js) ≡ begin w ∷ rest → All NoSettings rest → leaves (leavesAll r is) i .config ≡ configOf w
 unfolding begunOf
 configured [] i js r w rest e n = let q : i ≡ begin w = cc in rw q refl
 configured (j ∷ is) i js r w rest e n =
@@ -67,23 +67,23 @@ configured (j ∷ is) i js r w rest e n =
 -- ---- the ticks of an episode as calls of `tick`
 
 module _ (w : Settings) (k : checkOf w ≡ Accepted) where
-  passes : (c : Call) → T (accepted (callUnder w c))
+  passes : (c : Brought) → T (settingsPass (callUnder w c))
   passes c = rw k tt
 
   abbrev runOf : FuseRt → Run
   runOf r = record { config = configOf w; rt = r }
 
-  ticks-answered : (cs : List Call) (r : FuseRt) → played (runOf r) (map tick cs) ≡ answersFrom r (map (callUnder w) cs)
+  ticks-decided : (cs : List Brought) (r : FuseRt) → verdictsAll (runOf r) (map tick cs) ≡ decidedFrom r (map (callUnder w) cs)
   unfolding decidedOf tickedOf givenOf
-  ticks-answered [] r = refl
-  ticks-answered (c ∷ cs) r =
+  ticks-decided [] r = refl
+  ticks-decided (c ∷ cs) r =
       let d = decidedOf (runOf r) c in
-      by-step answerIn
-      (λ r′ (x : Step FuseRt Decided). played (runOf r) (map tick (c ∷ cs)) ≡ andThen x (λ (r″ : FuseRt). answersFrom r″ (map (callUnder w) cs))) r (callUnder w c)
-      (λ h. ap (λ (l : List Decided). d ∷ l) (ticks-answered cs (d .rt)))
-      (λ h. absurd (T-not (accepted (callUnder w c)) h (passes c)))
+      by-step decidedIn
+      (λ r′ (x : Step FuseRt Decided). verdictsAll (runOf r) (map tick (c ∷ cs)) ≡ andThen x (λ (r″ : FuseRt). decidedFrom r″ (map (callUnder w) cs))) r (callUnder w c)
+      (λ h. ap (λ (l : List Decided). d ∷ l) (ticks-decided cs (d .rt)))
+      (λ h. absurd (T-not (settingsPass (callUnder w c)) h (passes c)))
 
-  all-under : (cs : List Call) → All (Under w) (map (callUnder w) cs)
+  all-under : (cs : List Brought) → All (Under w) (map (callUnder w) cs)
   all-under [] = tt
   all-under (c ∷ cs) = (λ h. refl, all-under cs)
 
@@ -104,38 +104,38 @@ opened-stops w z r (tick c) o cs u = absurd o
 -- ---- the claim
 
 module _ (s : List ℕ) (w : Settings) (b : SettledBy w (instructionsOf s)) (e : Episode) (n : In (instructionsOf s) e) where
-  abbrev behind : List Instruction
-  behind = map tick (e .ticks) ++ e .later
+  abbrev following : List Instruction
+  following = map tick (e .ticks) ++ e .later
 
   config-is : opened e .config ≡ configOf w
-  config-is = configured (e .before) (e .opening) behind startRun w (b .rest) (sym (n .cut) ∙ b .first) (b .once)
+  config-is = configured (e .before) (e .opening) following startRun w (b .rest) (sym (n .cut) ∙ b .first) (b .once)
 
-  answered : played (opened e) (map tick (e .ticks)) ≡ answersFrom (opened e .rt) (callsOf w e)
-  answered =
-      ap (λ (k : FuseConfig). played (record { config = k; rt = opened e .rt }) (map tick (e .ticks))) config-is
-      ∙ ticks-answered w (b .check) (e .ticks) (opened e .rt)
+  episode-decided : verdictsAll (opened e) (map tick (e .ticks)) ≡ decidedFrom (opened e .rt) (callsOf w e)
+  episode-decided =
+      ap (λ (k : FuseConfig). verdictsAll (record { config = k; rt = opened e .rt }) (map tick (e .ticks))) config-is
+      ∙ ticks-decided w (b .check) (e .ticks) (opened e .rt)
 
   episode-stops : EpisodeStops s w e
   episode-stops =
       record {
         verdicts =
             events-played s
-            ∙ ap (played startRun) (n .cut)
-            ∙ played-on startRun (e .before) (e .opening ∷ behind)
-            ∙ ap (λ (l : List Decided). played startRun (e .before) ++ l)
-            (opens-silent (leftBy startRun (e .before)) (e .opening) behind (n .opens)
+            ∙ ap (verdictsAll startRun) (n .cut)
+            ∙ played-on startRun (e .before) (e .opening ∷ following)
+            ∙ ap (λ (l : List Decided). verdictsAll startRun (e .before) ++ l)
+            (opens-silent (leavesAll startRun (e .before)) (e .opening) following (n .opens)
             ∙ played-on (opened e) (map tick (e .ticks)) (e .later)
-            ∙ ap (λ (l : List Decided). l ++ played (leftBy (opened e) (map tick (e .ticks))) (e .later)) answered);
-        closes = opened-stops w (b .sized) (leftBy startRun (e .before)) (e .opening) (n .opens) (callsOf w e) (all-under w (b .check) (e .ticks));
+            ∙ ap (λ (l : List Decided). l ++ verdictsAll (leavesAll (opened e) (map tick (e .ticks))) (e .later)) episode-decided);
+        closes = opened-stops w (b .sized) (leavesAll startRun (e .before)) (e .opening) (n .opens) (callsOf w e) (all-under w (b .check) (e .ticks));
       }
 
-tick-inside : (is before : List Instruction) (c : Call) (later : List Instruction) (w : Settings) (rest : List Instruction)
+tick-inside : (is before : List Instruction) (c : Brought) (later : List Instruction) (w : Settings) (rest : List Instruction)
     → is ≡ before ++ (tick c ∷ later) → is ≡ begin w ∷ rest → EndsWith is c later
 tick-inside is before c later w rest e f =
     subst (λ (l : List Instruction). EndsWith l c later) (sym e) (behind-settings c later before w rest (sym e ∙ f))
 
 by-order : (s : List ℕ) → Ordered (instructionsOf s) → StopsIn s
-by-order s (nothing n) = without n (events-played s ∙ ap (played startRun) n)
+by-order s (nothing n) = without n (events-played s ∙ ap (verdictsAll startRun) n)
 by-order s (under w b) =
     with-settings w (record {
       settings = b;

@@ -1,4 +1,4 @@
--- A journal's instructions are none, or its settings and then resets and ticks: the judge turns away what comes before settings, and settings again.
+-- A journal's instructions are none, or its settings and then resets and ticks: the judge refuses what comes before settings, and settings again.
 use mathlib.Core.Path.{_≡_, refl, _∙_}
 use mathlib.Core.Bool.{Bool, true, false, cond, not, _&&_}
 use mathlib.Core.List.{List, [], _∷_}
@@ -8,28 +8,30 @@ use lib.Dec.{eqb}
 use lib.ListN.{take, drop}
 use Rattle.lictor_core.specs.declared.envelope.Settings as S
 use Rattle.lictor_settings.specs.declared.SettingsCheck.the-variants as K
-use Rattle.lictor_settings.specs.Settings.{settingsTable, firstRow, checkOf}
+use Rattle.lictor_core.specs.FirstThat.{firstThat}
+use Rattle.lictor_settings.specs.Settings.{settingsTable, checkOf}
 use Rattle.claims.specs.Runs.{All}
 use Rattle.claims.specs.Demand3.{Sized}
-use Rattle.bytes_le.specs.Little.{byteAt, floatAt}
-use Rattle.bytes_le.proofs.Laws.{leAt-under}
-use Rattle.records.specs.declared.Record.the-variants.{Settings, Reset, Ack, Head, Value, Outcome, Tick}
-use Rattle.records.specs.Kinds.{journalKinds, bodyLen, settingsKind, resetKind, ackKind, headKind, valueKind, outcomeKind}
-use Rattle.long_records.specs.Long.{limitsOf, settingsOf}
-use Rattle.records.specs.Body.{ackOf, headOf, tickNumbers, recordOf}
-use Rattle.judge.specs.declared.Refusal.{Refusal}
-use Rattle.judge.specs.declared.Seen.{Seen}
-use Rattle.judge.specs.declared.Judged.{Judged}
-use Rattle.judge.specs.declared.Judged.the-variants.{Accepted, Refused}
-use Rattle.judge.specs.Causes.{beforeSettings, again, codeNotListed, sizeOutside, floatNotFinite, boxCrossed}
-use Rattle.judge.specs.Table.{isCut, refusalTable, judgedOf}
-use Rattle.judge.specs.Exactly.{Passes, not-this-row}
-use Rattle.judge.proofs.Exactly.{accepted-so}
-use Rattle.reader.specs.Stream.{Next, wait, halt, go, tell, after, settle, settled}
-use Rattle.waiting.specs.State.{State, ackWaits, headWaits, valueWaits, outcomeWaits, settingsCame, emptied, startReader}
-use Rattle.reader.specs.Reading.{Instruction, begin, restart, tick, onRecord, nextOf}
-use Rattle.reader.proofs.Reading.{machine, next-refused, next-accepted}
+use Rattle.journal_records.specs.Little.{byteAt, floatAt}
+use Rattle.journal_records.proofs.Laws.{leAt-under}
+use Rattle.journal_records.specs.declared.Record.the-variants.{Settings, Reset, Ack, Head, Value, Outcome, Tick}
+use Rattle.journal_records.specs.Kinds.{journalKinds, bodyLen, settingsKind, resetKind, ackKind, headKind, valueKind, outcomeKind}
+use Rattle.journal_records.specs.Long.{limitsOf, settingsOf}
+use Rattle.journal_records.specs.Body.{ackOf, headOf, tickNumbers, decodeOf}
+use Rattle.journal_refusals.specs.declared.Refusal.{Refusal}
+use Rattle.journal_refusals.specs.declared.Seen.{Seen}
+use Rattle.journal_refusals.specs.declared.Judged.{Judged}
+use Rattle.journal_refusals.specs.declared.Judged.the-variants.{Accepted, Refused}
+use Rattle.journal_refusals.specs.Causes.{beforeSettings, again, codeNotListed, sizeOutside, floatNotFinite, boxCrossed}
+use Rattle.journal_refusals.specs.Table.{isCutBody, refusalTable, judgedOf}
+use Rattle.journal_refusals.specs.Exactly.{Passes, not-this-row}
+use Rattle.journal_refusals.proofs.Exactly.{accepted-so}
+use Rattle.stream.specs.Stream.{Next, wait, halt, go, tell, after, settle, settled}
+use Rattle.journal_reader.specs.State.{State, ackWaits, headWaits, valueWaits, outcomeWaits, settingsCame, emptied, startReader}
+use Rattle.journal_reader.specs.Reading.{Instruction, begin, restart, tick, onRecord, onBytes}
+use Rattle.journal_reader.proofs.Reading.{machine, next-refused, next-accepted}
 use Rattle.journal.specs.Journal.{startWhole}
+use Rattle.stream.proofs.Stream.{impossible}
 use Rattle.journal_claims.specs.Instructions.{instructionsOf}
 use Rattle.journal_claims.specs.JournalStops.{Bytes, NoSettings, SettledBy}
 
@@ -111,11 +113,11 @@ passed-by seen k b (not-this-row _ (not-this-row _ (not-this-row o (not-this-row
 
 both-false : (x : Bool) → (not false && not x) ≡ false → x ≡ true
 both-false true e = refl
-both-false false e = absurd (let z : _≡_ {A = ℕ} 0 1 = cc in omega arith)
+both-false false e = impossible cc
 
 kind-moves : (st : State) (k : ℕ) (b : List ℕ) (n : ℕ) → Bytes b → Passed (st .reader .waiting .seen) k b → (t : Bool) → eqb k settingsKind ≡ t
-    → Moves st (onRecord st b n (recordOf k b))
-unfolding recordOf beforeSettings again codeNotListed sizeOutside floatNotFinite boxCrossed checkOf settingsTable firstRow
+    → Moves st (onRecord st b n (decodeOf k b))
+unfolding decodeOf beforeSettings again codeNotListed sizeOutside floatNotFinite boxCrossed checkOf settingsTable firstThat
 kind-moves st k b n h p true e =
     let c : checkOf (settingsOf b) ≡ K.Accepted = rw (rw e at (p .codes), rw e at (p .sizes), rw e at (p .floats), rw e at (p .box)) refl in
     rw e (settings-move st b n (rw e at (p .twice)) c (read-sized b h))
@@ -126,28 +128,28 @@ refused-moves st r true = tt
 refused-moves st r false = tt
 
 judged-moves : (st : State) (k : ℕ) (u : List ℕ) → Bytes u → (x : Judged)
-    → judgedOf journalKinds (st .reader .waiting .seen) k (take (bodyLen journalKinds k) u) ≡ x → Moves st (nextOf st (k ∷ u))
+    → judgedOf journalKinds (st .reader .waiting .seen) k (take (bodyLen journalKinds k) u) ≡ x → Moves st (onBytes st (k ∷ u))
 unfolding judgedOf
-judged-moves st k u h (Refused r) e = rw (next-refused st k u r e) (refused-moves st r (isCut r))
+judged-moves st k u h (Refused r) e = rw (next-refused st k u r e) (refused-moves st r (isCutBody r))
 judged-moves st k u h Accepted e =
     let b = take (bodyLen journalKinds k) u in
     let seen = st .reader .waiting .seen in
     rw (next-accepted st k u e)
     (kind-moves st k b _ (some-take (bodyLen journalKinds k) u h) (passed-by seen k b (accepted-so seen k b (refusalTable journalKinds) e)) (eqb k settingsKind) refl)
 
-next-moves : (st : State) (s : List ℕ) → Bytes s → Moves st (nextOf st s)
+next-moves : (st : State) (s : List ℕ) → Bytes s → Moves st (onBytes st s)
 next-moves st [] h = rw (machine .idle st) tt
 next-moves st (k ∷ u) h = judged-moves st k u (h .1) _ refl
 
 -- ---- all records
 
 not-both : {x : Bool} → x ≡ true → x ≡ false → ⊥
-not-both p q = let z : _≡_ {A = ℕ} 0 1 = cc in omega arith
+not-both p q = impossible cc
 
--- behind the settings
-module _ (f : ℕ) (ih : (st : State) (s : List ℕ) → Bytes s → came st ≡ true → All NoSettings (settle nextOf f st s .told)) where
+-- after the settings
+module _ (f : ℕ) (ih : (st : State) (s : List ℕ) → Bytes s → came st ≡ true → All NoSettings (settle onBytes f st s .told)) where
   later-by : (st : State) (s : List ℕ) → Bytes s → came st ≡ true → (x : Next State Instruction Refusal) → Moves st x
-      → All NoSettings (after st s x (λ st' n. settle nextOf f st' (drop n s)) .told)
+      → All NoSettings (after st s x (λ st' n. settle onBytes f st' (drop n s)) .told)
   later-by st s h c wait m = tt
   later-by st s h c (halt r) m = tt
   later-by st s h c (go st' n) m = ih st' (drop n s) (some-drop n s h) (m ∙ c)
@@ -155,25 +157,25 @@ module _ (f : ℕ) (ih : (st : State) (s : List ℕ) → Bytes s → came st ≡
   later-by st s h c (tell st' n restart) m = (tt, ih st' (drop n s) (some-drop n s h) (m .1))
   later-by st s h c (tell st' n (tick a)) m = (tt, ih st' (drop n s) (some-drop n s h) (m .1))
 
-later : (f : ℕ) (st : State) (s : List ℕ) → Bytes s → came st ≡ true → All NoSettings (settle nextOf f st s .told)
+later : (f : ℕ) (st : State) (s : List ℕ) → Bytes s → came st ≡ true → All NoSettings (settle onBytes f st s .told)
 unfolding settle
 later zero st s h c = tt
-later (suc f) st s h c = later-by f (λ st' u h' c'. later f st' u h' c') st s h c (nextOf st s) (next-moves st s h)
+later (suc f) st s h c = later-by f (λ st' u h' c'. later f st' u h' c') st s h c (onBytes st s) (next-moves st s h)
 
 pub data Ordered (is : List Instruction) : Type 0 where
   nothing : is ≡ [] → Ordered is
   under : (w : S.Settings) → SettledBy w is → Ordered is
 
 -- from the first byte on
-module _ (f : ℕ) (ih : (st : State) (s : List ℕ) → Bytes s → came st ≡ false → Ordered (settle nextOf f st s .told)) where
+module _ (f : ℕ) (ih : (st : State) (s : List ℕ) → Bytes s → came st ≡ false → Ordered (settle onBytes f st s .told)) where
   ordered-by : (st : State) (s : List ℕ) → Bytes s → came st ≡ false → (x : Next State Instruction Refusal) → Moves st x
-      → Ordered (after st s x (λ st' n. settle nextOf f st' (drop n s)) .told)
+      → Ordered (after st s x (λ st' n. settle onBytes f st' (drop n s)) .told)
   ordered-by st s h c wait m = nothing refl
   ordered-by st s h c (halt r) m = nothing refl
   ordered-by st s h c (go st' n) m = ih st' (drop n s) (some-drop n s h) (m ∙ c)
   ordered-by st s h c (tell st' n (begin w)) m =
       under w (record {
-        rest = settle nextOf f st' (drop n s) .told;
+        rest = settle onBytes f st' (drop n s) .told;
         first = refl;
         once = later f st' (drop n s) (some-drop n s h) (m .1 .0);
         check = m .1 .1 .0;
@@ -182,10 +184,10 @@ module _ (f : ℕ) (ih : (st : State) (s : List ℕ) → Bytes s → came st ≡
   ordered-by st s h c (tell st' n restart) m = absurd (not-both (m .0) c)
   ordered-by st s h c (tell st' n (tick a)) m = absurd (not-both (m .0) c)
 
-ordered-at : (f : ℕ) (st : State) (s : List ℕ) → Bytes s → came st ≡ false → Ordered (settle nextOf f st s .told)
+ordered-at : (f : ℕ) (st : State) (s : List ℕ) → Bytes s → came st ≡ false → Ordered (settle onBytes f st s .told)
 unfolding settle
 ordered-at zero st s h c = nothing refl
-ordered-at (suc f) st s h c = ordered-by f (λ st' u h' c'. ordered-at f st' u h' c') st s h c (nextOf st s) (next-moves st s h)
+ordered-at (suc f) st s h c = ordered-by f (λ st' u h' c'. ordered-at f st' u h' c') st s h c (onBytes st s) (next-moves st s h)
 
 pub ordered : (s : List ℕ) → Bytes s → Ordered (instructionsOf s)
 unfolding instructionsOf settled startWhole startReader

@@ -1,7 +1,9 @@
--- Demand 3 of journals: in every journal the ticks from a reset to the next, or to the end, stop close, under the journal's one settings record. The claim stands at
--- the end of this file, and is proved in proofs/JournalStops, `journal-stops`. Of other files it names: demand 3 of a list of calls of `tick` (claims,
--- specs/Demand3, with Calls and Runs); the meaning of a journal (journal, specs/Journal, journalOf); its instructions (Instructions).
--- (00-demands.md, Demand 3; 01-scope.md, The list in demand 3 and Journal.)
+-- Demand 3 of journals: in every journal the ticks from a reset to the next, or to the end, stop
+-- close, under the journal's one settings record.
+-- The claim is at the end of this file, and is proved in proofs/JournalStops, `journal-stops`.
+-- Of other files it names: demand 3 of a list of calls of `tick` (claims, specs/Demand3, with Calls
+-- and Runs); the meaning of a journal (journal, specs/Journal, journalOf); its instructions
+-- (Instructions). (00-demands.md, Demand 3; 01-scope.md, The list in demand 3 and Journal.)
 use mathlib.Core.List.{List, [], _∷_, _++_, map}
 use mathlib.Core.Path.{_≡_}
 use Prim.Native.Nat.{ℕ, _<_}
@@ -9,16 +11,16 @@ use Rattle.lictor_core.specs.declared.envelope.Settings.{Settings}
 use Rattle.lictor_core.specs.declared.fuse.FuseRt.{FuseRt}
 use Rattle.lictor_settings.specs.declared.SettingsCheck.the-variants.{Accepted}
 use Rattle.lictor_settings.specs.Settings.{checkOf}
-use Rattle.lictor_decide.specs.declared.Decided.{Decided}
-use Rattle.lictor_fuse.specs.declared.tick.Ticked.{Ticked}
+use Rattle.lictor_fuse.specs.declared.decide.Decided.{Decided}
+use Rattle.lictor_fuse.specs.declared.Ticked.{Ticked}
 use Rattle.claims.specs.Runs.{All, trace}
 use Rattle.claims.specs.Calls as C
 use Rattle.claims.specs.Calls.{stepOf, ticksFrom}
 use Rattle.claims.specs.Demand3.{Sized, Demand3}
-use Rattle.reader.specs.Reading.{Call, Instruction, begin, restart, tick}
-use Rattle.journal_tick.specs.declared.Run.{Run}
+use Rattle.journal_reader.specs.Reading.{Brought, Instruction, begin, restart, tick}
+use Rattle.journal.specs.declared.tick.Run.{Run}
 use Rattle.journal.specs.Journal.{startRun, journalOf}
-use Rattle.journal_claims.specs.Instructions.{instructionsOf, leaves, leftBy, played}
+use Rattle.journal_claims.specs.Instructions.{instructionsOf, leaves, leavesAll, verdictsAll}
 
 -- a definition has whole numbers without bounds; the elements of a journal are bytes
 abbrev pub Bytes : List ℕ → Type 0
@@ -31,8 +33,8 @@ NoSettings (begin s) = ⊥
 NoSettings restart = Unit {0}
 NoSettings (tick c) = Unit {0}
 
--- the instructions `is` stand under w: it comes first, it passed the check, and behind it come resets and ticks alone; each limit of w is a number that its field
--- can hold
+-- the instructions `is` are under w: it comes first, it passed the check, and after it come resets
+-- and ticks alone; each limit of w is a number that its field can hold
 pub record SettledBy (w : Settings) (is : List Instruction) : Type 0 where
   pub rest : List Instruction
   pub first : is ≡ begin w ∷ rest
@@ -42,11 +44,12 @@ pub record SettledBy (w : Settings) (is : List Instruction) : Type 0 where
 
 -- ---- an episode
 
--- what came before; the reset, or the settings, that it opens with; ticks, all up to the next reset or the first of them; what comes behind these
+-- what came before; the reset, or the settings, that it opens with;
+-- its ticks, all up to the next reset or the first of them; what comes after these
 pub record Episode : Type 0 where
   pub before : List Instruction
   pub opening : Instruction
-  pub ticks : List Call
+  pub ticks : List Brought
   pub later : List Instruction
 
 abbrev pub Opens : Instruction → Type 0
@@ -59,12 +62,13 @@ pub record In (is : List Instruction) (e : Episode) : Type 0 where
   pub opens : Opens (e .opening)
   pub cut : is ≡ e .before ++ (e .opening ∷ (map tick (e .ticks) ++ e .later))
 
--- the fuse that its first tick gets: of the run state before, what `reset` leaves; after settings, that of `new` (Instructions, leaves)
+-- the fuse that its first tick gets: of the run state before, what `reset` leaves;
+-- after settings, that of `new` (Instructions, leaves)
 abbrev pub opened : Episode → Run
-opened e = leaves (leftBy startRun (e .before)) (e .opening)
+opened e = leaves (leavesAll startRun (e .before)) (e .opening)
 
 -- a tick of a journal as a call of `tick`, with the settings w
-abbrev pub callUnder : Settings → Call → C.Call
+abbrev pub callUnder : Settings → Brought → C.Call
 callUnder w c =
     record {
       settings = w;
@@ -80,35 +84,37 @@ callUnder w c =
 abbrev pub callsOf : Settings → Episode → List C.Call
 callsOf w e = map (callUnder w) (e .ticks)
 
--- what `tick` answers to a list of calls: the verdicts, each with the run state that it leaves (ticksFrom has the same ticks by what is seen of each)
-abbrev pub answerIn : FuseRt → C.Call → Ticked → Decided
-answerIn r c a = record { rt = a .rt; verdict = a .verdict }
+-- what `tick` answers to a list of calls: the verdicts, each with the run state that it leaves
+-- (ticksFrom has the same ticks by what is seen of each)
+abbrev pub decidedIn : FuseRt → C.Call → Ticked → Decided
+decidedIn r c a = record { rt = a .rt; verdict = a .verdict }
 
-abbrev pub answersFrom : FuseRt → List C.Call → List Decided
-answersFrom r cs = trace (stepOf answerIn) r cs
+abbrev pub decidedFrom : FuseRt → List C.Call → List Decided
+decidedFrom r cs = trace (stepOf decidedIn) r cs
 
 pub record EpisodeStops (s : List ℕ) (w : Settings) (e : Episode) : Type 0 where
-  -- the journal's verdicts: in the episode's place stand the answers of `tick`
+  -- the journal's verdicts: in the episode's place are the answers of `tick`
   pub verdicts : journalOf s .events
-      ≡ played startRun (e .before)
-      ++ (answersFrom (opened e .rt) (callsOf w e)
-      ++ played (leftBy (opened e) (map tick (e .ticks))) (e .later))
+      ≡ verdictsAll startRun (e .before)
+      ++ (decidedFrom (opened e .rt) (callsOf w e)
+      ++ verdictsAll (leavesAll (opened e) (map tick (e .ticks))) (e .later))
   -- and of these calls the four parts of demand 3 hold
   pub closes : Demand3 w (ticksFrom (opened e .rt) (callsOf w e))
 
--- an episode of `is` that ends with the tick c, behind which `later` comes
-pub record EndsWith (is : List Instruction) (c : Call) (later : List Instruction) : Type 0 where
+-- an episode of `is` that ends with the tick c, after which `later` comes
+pub record EndsWith (is : List Instruction) (c : Brought) (later : List Instruction) : Type 0 where
   pub before : List Instruction
   pub opening : Instruction
-  pub ticks : List Call
+  pub ticks : List Brought
   pub episode : In is (record { before = before; opening = opening; ticks = ticks ++ (c ∷ []); later = later })
 
 -- ---- the claim
 
--- of a journal that has settings: every tick stands in an episode, and every episode stops close
+-- of a journal that has settings: every tick is in an episode, and every episode stops close
 pub record StopsUnder (s : List ℕ) (w : Settings) : Type 0 where
   pub settings : SettledBy w (instructionsOf s)
-  pub every-tick : (before : List Instruction) (c : Call) (later : List Instruction) → instructionsOf s ≡ before ++ (tick c ∷ later)
+  pub every-tick : (before : List Instruction) (c : Brought) (later : List Instruction)
+      → instructionsOf s ≡ before ++ (tick c ∷ later)
       → EndsWith (instructionsOf s) c later
   pub every-episode : (e : Episode) → In (instructionsOf s) e → EpisodeStops s w e
 

@@ -1,7 +1,7 @@
 -- The thin functions of `Thin.antt` meet their contracts, once for every such function: its types are variables, and what its core gives is any function of what it is passed.
 --     resetSig, resetClauses       fn f(rt: &mut S), and what it says: the last state is `f` of the first.        keptSig, keptClauses     its core's, fn core(rt: S) -> S
 --     tickSig, tickClauses         fn f(rt: &mut S, G, I, O, five lists) -> Z, and what it says of its answer and of the last state.        coreSig, coreClauses     its core's, fn core(G, S, I, O, five lists) -> R
---     restored-meets, answered-meets       each function meets its contract where its core does
+--     restored-meets, answering-meets       each function meets its contract where its core does
 --     testSig, testClauses         fn test(G) -> Z, and what it answers.        turned-meets     so does the function that a test may turn away, where the test meets its contract too
 -- The lists go to the core at their own lifetimes. They stand last among its parameters as among the function's, so what they own is handed on in one piece, and so are the tokens of their lifetimes, which come back.
 -- The theorems take `Given`. The rest assumes nothing.
@@ -39,7 +39,7 @@ use denote.Triple.Clauses.{Clauses, Ended, closing, ensured, lasts}
 use denote.Triple.Walked.{says, Stays, stay-ref, stay-dropped, walkOf, AllGo, goes-ref, goes-dropped, ends-at, walked, walk-meets}
 use denote.Exit.{yes}
 use Rattle.lent.proofs.Data.{Data, row, vals, Of, spelled, typed, had}
-use Rattle.lent.proofs.Thin.{restored, restores, answered, answers, turned, turns, resultTy, answerTy}
+use Rattle.lent.proofs.Thin.{restored, restores, answering, answers, turned, turns, resultTy, answerTy}
 
 -- ---- fn f(rt: &mut S) { *rt = core(*rt); }
 abbrev pub resetSig : Data → Signature
@@ -196,7 +196,7 @@ pub record Parts (S R Z : Data) : Type 2 where
 
 -- the function's MIR
 abbrev pub tickFn : (S G I O R Z : Data) → Parts S R Z → Name → Fn
-tickFn S G I O R Z P = answered S (G .ty) (I .ty) (O .ty) (listTy 1) (listTy 2) (listTy 3) (listTy 4) (listTy 5) (P .τc) (P .τv) (P .νR) (P .νZ)
+tickFn S G I O R Z P = answering S (G .ty) (I .ty) (O .ty) (listTy 1) (listTy 2) (listTy 3) (listTy 4) (listTy 5) (P .τc) (P .τv) (P .νR) (P .νZ)
 
 -- A test of G: what it answers, how that lies, and whether its first part is another number than 0. Of types that are written out, each equation is a `refl`.
 pub record Turning (G Z : Data) : Type 0 where
@@ -383,9 +383,9 @@ module _ (S G I O R Z : Data) (P : Parts S R Z) (f : G .D → S .D → I .D → 
             (P .cv) (P .vv) calls′ gives′ j (X .tc g) (X .tv g) (Of Z (X .turn g)) Test (X .is-other g) asks tells (X .may g) (X .tests g) exits-turned
             (λ fine r p. exits′ r (P .st r) p (subst (λ (y : R .D). Says h g i u (nows l) (P .an y) (P .st y)) (sym (p .0)) (stored fine))))
 
-  pub answered-meets : ((h : S .D) (g : G .D) (i : I .D) (u : O .D) (l : Fs) → Says h g i u l (P .an (f g h i u l)) (P .st (f g h i u l))) → (𝓣 : Tables 𝓤 H) → Triple 𝓤 (𝓣 .C k) (tripleOf 𝓤 H A (coreSig S G I O R) (closing 𝓤 H A (coreEnded S G I O R) (coreClauses S G I O R f 𝓤)))
+  pub answering-meets : ((h : S .D) (g : G .D) (i : I .D) (u : O .D) (l : Fs) → Says h g i u l (P .an (f g h i u l)) (P .st (f g h i u l))) → (𝓣 : Tables 𝓤 H) → Triple 𝓤 (𝓣 .C k) (tripleOf 𝓤 H A (coreSig S G I O R) (closing 𝓤 H A (coreEnded S G I O R) (coreClauses S G I O R f 𝓤)))
       → Meets 𝓤 H A (tickSig S G I O Z) (WpFn 𝓤 H (𝓣 .C) (𝓣 .Λ) (tickFn S G I O R Z P k)) (closing 𝓤 H A T′ c′)
-  answered-meets said 𝓣 known = walk-meets 𝓤 H A T′ stayed′ W goes′ c′ (WpFn 𝓤 H (𝓣 .C) (𝓣 .Λ) (tickFn S G I O R Z P k)) (WpFn-mono 𝓤 H (W .laws) 𝓣 (tickFn S G I O R Z P k))
+  answering-meets said 𝓣 known = walk-meets 𝓤 H A T′ stayed′ W goes′ c′ (WpFn 𝓤 H (𝓣 .C) (𝓣 .Λ) (tickFn S G I O R Z P k)) (WpFn-mono 𝓤 H (W .laws) 𝓣 (tickFn S G I O R Z P k))
       (walked 𝓤 H A T′ stayed′ c′ (WpFn 𝓤 H (𝓣 .C) (𝓣 .Λ) (tickFn S G I O R Z P k))
       (λ κs. (ptr-vals, (vals G, (vals I, (vals O, (slice-vals, (slice-vals, (slice-vals, (slice-vals, (slice-vals, tt))))))))))
       (λ κs. (mut-tells (named 0) (κs .0) (row S), (G .tells, (I .tells, (O .tells, (shr-slice-tells (named 1) (κs .1 .0) f64, (shr-slice-tells (named 2) (κs .1 .1 .0) f64, (shr-slice-tells (named 3) (κs .1 .1 .1 .0) f64, (shr-slice-tells (named 4) (κs .1 .1 .1 .1 .0) f64, (shr-slice-tells (named 5) (κs .1 .1 .1 .1 .1 .0) f64, tt))))))))))

@@ -1,7 +1,7 @@
 -- The walks of three thin functions over a lent struct, once for every such function. The struct's type is a variable, and so are the types of the other parameters and of the result: no field of any of them is named.
 --     restored     fn f(rt: &mut S) { *rt = core(*rt); }
---     answered     fn f(rt: &mut S, _2, .., _9) -> Z { let t = core(_2, *rt, _3, .., _9); *rt = t.1; Z { t.0, t.2 } }
---     turned       the same behind a test, which may turn the call away: { let a = test(_2); if a.0 != 0 { return a; } let t = core(_2, *rt, _3, .., _9); *rt = t.1; Z { t.0, t.2 } }
+--     answering     fn f(rt: &mut S, _2, .., _9) -> Z { let t = core(_2, *rt, _3, .., _9); *rt = t.1; Z { t.0, t.2 } }
+--     turned       the same after a test, which may refuse the call: { let a = test(_2); if a.0 != 0 { return a; } let t = core(_2, *rt, _3, .., _9); *rt = t.1; Z { t.0, t.2 } }
 --     restores, answers, turns     the walk of each: the borrow is opened, the struct is copied out whole and passed to the core, the struct that it answers is stored back whole, and the borrow is closed there
 -- A walk is told of the call alone: what it asks (`Asked`), and what its answer r gives: the state to be stored (`st r`), whatever else is wanted of it (`Good r`), and what comes back (`Back`).
 -- `turns` is told of the test too: the parts of its answer (`tc`, `tv`), what else is wanted of it (`Fit`), and whether its number is not 0 (`is-other`).
@@ -48,12 +48,12 @@ resultTy S τc τv ν = tyStruct ν (tcons τc (tcons (S .ty) (tcons τv tnil)))
 abbrev pub answerTy : Ty → Ty → Sym → Ty
 answerTy τc τv ν = tyStruct ν (tcons τc (tcons τv tnil))
 
--- how the answer is packed, behind the store
+-- how the answer is packed, after the store
 abbrev packs : Code
 packs = seq (assign (place 0 []) (aggregate (copy (place 10 (field 0 ∷ [])) ∷ copy (place 10 (field 2 ∷ [])) ∷ []))) return
 
-abbrev pub answered : (S : Data) (τ2 τ3 τ4 τ5 τ6 τ7 τ8 τ9 τc τv : Ty) (νR νZ : Sym) → Name → Fn
-answered S τ2 τ3 τ4 τ5 τ6 τ7 τ8 τ9 τc τv νR νZ k = record {
+abbrev pub answering : (S : Data) (τ2 τ3 τ4 τ5 τ6 τ7 τ8 τ9 τc τv : Ty) (νR νZ : Sym) → Name → Fn
+answering S τ2 τ3 τ4 τ5 τ6 τ7 τ8 τ9 τc τv νR νZ k = record {
   lifetimes = 6;
   outlives = [];
   params = 9;
@@ -64,7 +64,7 @@ answered S τ2 τ3 τ4 τ5 τ6 τ7 τ8 τ9 τc τv νR νZ k = record {
       (seq (assign (place 1 (deref (S .ty) ∷ [])) (rvOpd (copy (place 10 (field 1 ∷ []))))) packs));
 }
 
--- the core's turn and the store, behind the test
+-- the core's turn and the store, after the test
 abbrev goes-on : Data → Name → Code
 goes-on S k =
     seq (assign (place 13 []) (rvOpd (copy (place 1 (deref (S .ty) ∷ [])))))
@@ -136,10 +136,10 @@ module _ (S : Data) {M : Type 1} (𝓤 : URA M) (H : Heap 𝓤) (A : Atoms 𝓤)
 
       module _ (calls : Of S h → ent 𝓤 Asked (C k (v2 ∷ S .val h ∷ v3 ∷ v4 ∷ v5 ∷ v6 ∷ v7 ∷ v8 ∷ v9 ∷ []) Result))
           (gives : (v : Val) → ent 𝓤 (Result v) (H .⇛ (ex 𝓤 (λ (r : R). guard 𝓤 (Told v r) Back)))) where
-        pub answers : ((r : R) → Good r → ent 𝓤 (Lent (st r) Back) (Post (answerVal r))) → ent 𝓤 (Lent h Asked) (WpFn 𝓤 H C Λ (answered S τ2 τ3 τ4 τ5 τ6 τ7 τ8 τ9 τc τv νR νZ k) (vptr b o ∷ v2 ∷ v3 ∷ v4 ∷ v5 ∷ v6 ∷ v7 ∷ v8 ∷ v9 ∷ []) Post)
+        pub answers : ((r : R) → Good r → ent 𝓤 (Lent (st r) Back) (Post (answerVal r))) → ent 𝓤 (Lent h Asked) (WpFn 𝓤 H C Λ (answering S τ2 τ3 τ4 τ5 τ6 τ7 τ8 τ9 τc τv νR νZ k) (vptr b o ∷ v2 ∷ v3 ∷ v4 ∷ v5 ∷ v6 ∷ v7 ∷ v8 ∷ v9 ∷ []) Post)
         answers ends =
             qed W (‵ (fobs γ (S .coded .code h)) ∷ ‵ (fbor κ (Body (mem (row S)) b o γ)) ∷ ‵ (flft κ q) ∷ raw Asked ∷ []) ∵
-            enter ! C Λ (answered S τ2 τ3 τ4 τ5 τ6 τ7 τ8 τ9 τc τv νR νZ k) (vptr b o ∷ v2 ∷ v3 ∷ v4 ∷ v5 ∷ v6 ∷ v7 ∷ v8 ∷ v9 ∷ []) _ $ alloc1 ! (λ l0. alloc1 ! (λ l1. alloc1 ! (λ l2. alloc1 ! (λ l3. alloc1 ! (λ l4. alloc1 ! (λ l5. alloc1 ! (λ l6. alloc1 ! (λ l7. alloc1 ! (λ l8. alloc1 ! (λ l9. alloc1 ! (λ l10. alloc1 ! (λ l11. alloc0 ! $
+            enter ! C Λ (answering S τ2 τ3 τ4 τ5 τ6 τ7 τ8 τ9 τc τv νR νZ k) (vptr b o ∷ v2 ∷ v3 ∷ v4 ∷ v5 ∷ v6 ∷ v7 ∷ v8 ∷ v9 ∷ []) _ $ alloc1 ! (λ l0. alloc1 ! (λ l1. alloc1 ! (λ l2. alloc1 ! (λ l3. alloc1 ! (λ l4. alloc1 ! (λ l5. alloc1 ! (λ l6. alloc1 ! (λ l7. alloc1 ! (λ l8. alloc1 ! (λ l9. alloc1 ! (λ l10. alloc1 ! (λ l11. alloc0 ! $
             params1 ! $ pass1 ! (init ! 20 refl (tt, tt)) $ pass1 ! (init ! 18 refl t2) $ pass1 ! (init ! 16 refl t3) $ pass1 ! (init ! 14 refl t4) $ pass1 ! (init ! 12 refl t5) $ pass1 ! (init ! 10 refl t6) $ pass1 ! (init ! 8 refl t7) $ pass1 ! (init ! 6 refl t8) $ pass1 ! (init ! 4 refl t9) $ pass0 ! $
             move ! (24 ∷ 25 ∷ 26 ∷ []) $ opens ! tt (row S) {h = h} b o (λ us. spelt ! (row S) (Is (row S)) (shows 𝓤 H A (row S)) (vals S) (S .tells) fullShare h us b o $
             move ! (1 ∷ []) $ peeks ! (row S) (Is (row S)) (shows 𝓤 H A (row S)) h (vals S h) (λ g. drop ! $

@@ -2,4 +2,5 @@
 pub mod Branch
 pub mod Codes
 pub mod Counts
-pub mod Rows
+pub mod RowLaws
+pub mod FirstThat

@@ -1,9 +1,9 @@
--- The cases of an enum as a function: definitions go by them where the code has a `match`, so that one law a case (proofs/Branch) joins the two.
--- The enums are those of state.rs, verdict.rs, ack.rs, chunk.rs, and of 01-scope.md in place of Option.
+-- The cases of an enum as a function: definitions go by them where the code has a `match`, so that
+-- one law a case (proofs/Branch) joins the two.
+-- The enums are those of state.rs, verdict.rs, ack.rs, chunk.rs, and of 01-scope.md in place of
+-- Option.
 use Rattle.lictor_core.specs.declared.state.FuseState.{FuseState}
 use Rattle.lictor_core.specs.declared.state.FuseState.the-variants as S
-use Rattle.lictor_core.specs.declared.state.FuseMode.{FuseMode}
-use Rattle.lictor_core.specs.declared.state.FuseMode.the-variants.{Observe, Enforce}
 use Rattle.lictor_core.specs.declared.verdict.ActionSource.{ActionSource}
 use Rattle.lictor_core.specs.declared.verdict.ActionSource.the-variants as A
 use Rattle.lictor_core.specs.declared.ack.AckDecision.{AckDecision}

@@ -1,6 +1,8 @@
--- The paper's number of each case of each enum, from 0 in the order of the source (01-scope.md, Modules 1 and Journal kinds 1 and 3): one definition an enum, which
--- promises and printing use. For codes that come in, the case of each number too, which undoes the first (proofs/Codes). A number that is not listed is turned away before: in
--- settings by their check, in an acknowledgement by the journal's refusal table or, of a host's call, as none. Its case here is the last.
+-- The paper's number of each case of each enum, from 0 in the order of the source (01-scope.md,
+-- Modules 1 and Journal kinds 1 and 3): one definition an enum, which promises and printing use.
+-- For codes that come in, the case of each number too, which undoes the first (proofs/Codes). A
+-- number that is not listed is refused before: in settings by their check, in an acknowledgement by
+-- the journal's refusal table or, of a host's call, as none. Its case here is the last.
 use mathlib.Core.Bool.{Bool, cond}
 use Prim.Native.Nat.{ℕ}
 use lib.Dec.{eqb, leb}
@@ -90,7 +92,7 @@ modeCode Observe = 0
 modeCode Enforce = 1
 
 unfoldable pub modeOf : ℕ → FuseMode
-modeOf n = cond (eqb n 0) Observe Enforce
+modeOf n = cond (eqb n (modeCode Observe)) Observe Enforce
 
 -- chunk.rs
 abbrev pub kindCode : ActionKind → ℕ
@@ -101,7 +103,11 @@ kindCode JointVelocity = 3
 kindCode Other = 4
 
 unfoldable pub kindOf : ℕ → ActionKind
-kindOf n = cond (eqb n 0) EePosition (cond (eqb n 1) EeDelta (cond (eqb n 2) JointPosition (cond (eqb n 3) JointVelocity Other)))
+kindOf n =
+    cond (eqb n (kindCode EePosition)) EePosition
+    (cond (eqb n (kindCode EeDelta)) EeDelta
+    (cond (eqb n (kindCode JointPosition)) JointPosition
+    (cond (eqb n (kindCode JointVelocity)) JointVelocity Other)))
 
 -- envelope.rs
 abbrev pub clampCode : ClampMode → ℕ
@@ -109,7 +115,7 @@ clampCode Off = 0
 clampCode Project = 1
 
 unfoldable pub clampModeOf : ℕ → ClampMode
-clampModeOf n = cond (eqb n 0) Off Project
+clampModeOf n = cond (eqb n (clampCode Off)) Off Project
 
 -- envelope.rs
 abbrev pub rearmCode : RearmPolicy → ℕ
@@ -117,7 +123,7 @@ rearmCode Auto = 0
 rearmCode AckOnly = 1
 
 unfoldable pub rearmOf : ℕ → RearmPolicy
-rearmOf n = cond (eqb n 0) Auto AckOnly
+rearmOf n = cond (eqb n (rearmCode Auto)) Auto AckOnly
 
 -- ack.rs
 abbrev pub decisionCode : AckDecision → ℕ
@@ -126,23 +132,47 @@ decisionCode Abort = 1
 decisionCode Retune = 2
 
 unfoldable pub decisionOf : ℕ → AckDecision
-decisionOf n = cond (eqb n 0) Resume (cond (eqb n 1) Abort Retune)
+decisionOf n = cond (eqb n (decisionCode Resume)) Resume (cond (eqb n (decisionCode Abort)) Abort Retune)
 
--- the states in which the fuse stops the robot: Braking, Held, Escalated, Fault, Terminated (state.rs, is_stop)
+-- how many cases there are of each that comes in by its number
+abbrev pub modes : ℕ
+modes = 2
+
+abbrev pub kinds : ℕ
+kinds = 5
+
+abbrev pub clampModes : ℕ
+clampModes = 2
+
+abbrev pub rearmPolicies : ℕ
+rearmPolicies = 2
+
+abbrev pub decisions : ℕ
+decisions = 3
+
+-- a flag is 0 or 1
+abbrev pub flags : ℕ
+flags = 2
+
+-- the states in which the fuse stops the robot: Braking, Held, Escalated, Fault, Terminated
+-- (state.rs, is_stop)
 abbrev pub isStop : FuseState → Bool
-isStop s = leb 4 (stateCode s)
+isStop s = leb (stateCode S.Braking) (stateCode s)
 
 abbrev pub isState : FuseState → FuseState → Bool
 isState q s = eqb (stateCode q) (stateCode s)
 
+abbrev pub isReason : ReasonCode → ReasonCode → Bool
+isReason q w = eqb (reasonCode q) (reasonCode w)
+
 abbrev pub isPolicy : ActionSource → Bool
-isPolicy s = eqb (sourceCode s) 0
+isPolicy s = eqb (sourceCode s) (sourceCode A.Policy)
 
 abbrev pub isObserve : FuseMode → Bool
-isObserve m = eqb (modeCode m) 0
+isObserve m = eqb (modeCode m) (modeCode Observe)
 
 abbrev pub isProject : ClampMode → Bool
-isProject c = eqb (clampCode c) 1
+isProject c = eqb (clampCode c) (clampCode Project)
 
 abbrev pub isAuto : RearmPolicy → Bool
-isAuto p = eqb (rearmCode p) 0
+isAuto p = eqb (rearmCode p) (rearmCode Auto)

@@ -1,4 +1,5 @@
--- The initial values: an empty tally, the run state of `FuseRt::new`, and what `reset` leaves, every field as fuse.rs and tally.rs have it.
+-- The initial values: an empty tally, the run state of `FuseRt::new`, and what `reset` leaves,
+-- every field as fuse.rs and tally.rs have it.
 use mathlib.Core.Bool.{true, false}
 use mathlib.Core.List.{List}
 use Prim.Native.Nat.{ℕ}
@@ -7,12 +8,9 @@ use lib.Ieee.{Float, fin, inf}
 use lib.IntN.{pos}
 use Rattle.lictor_core.specs.declared.state.FuseState.{FuseState}
 use Rattle.lictor_core.specs.declared.state.FuseState.the-variants.{Idle, Armed}
-use Rattle.lictor_core.specs.declared.tally.Mark.{Mark}
 use Rattle.lictor_core.specs.declared.tally.Mark.the-variants.{Never}
-use Rattle.lictor_core.specs.declared.tally.ReasonMark.{ReasonMark}
 use Rattle.lictor_core.specs.declared.tally.ReasonMark.the-variants.{NoReason}
 use Rattle.lictor_core.specs.declared.tally.Tally.{Tally}
-use Rattle.lictor_core.specs.declared.fuse.Window.{Window}
 use Rattle.lictor_core.specs.declared.fuse.Control.{Control}
 use Rattle.lictor_core.specs.declared.fuse.Motion.{Motion}
 use Rattle.lictor_core.specs.declared.fuse.Clock.{Clock}
@@ -21,6 +19,10 @@ use Rattle.lictor_core.specs.declared.fuse.FuseRt.{FuseRt}
 -- +0.0
 abbrev pub zeroFloat : Float
 zeroFloat = fin false 0 (pos 0)
+
+-- 1.0
+abbrev pub oneFloat : Float
+oneFloat = fin false 1 (pos 0)
 
 -- n components, all +0.0
 unfoldable pub zeros : ℕ → List Float

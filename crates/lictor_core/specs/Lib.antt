@@ -5,3 +5,4 @@ pub mod Num
 pub mod Cases
 pub mod Initial
 pub mod Rows
+pub mod FirstThat

@@ -1,6 +1,6 @@
 -- Trip bits and masks (verdict.rs; the fault bits are fsm.rs's).
 use mathlib.Core.Bool.{Bool, not}
-use Prim.Native.Nat.{ℕ, _^_}
+use Prim.Native.Nat.{ℕ, _+_, _^_}
 use lib.Dec.{eqb}
 use lib.Bits.{bitAnd}
 
@@ -58,12 +58,12 @@ rearmBudget = 2 ^ 15
 
 -- bits 0 to 5: a clamp can mend them
 abbrev pub tier0Soft : ℕ
-tier0Soft = 63
+tier0Soft = workspace + speed + accel + jerk + reach + contact
 
 -- bits 6 to 9: never switched off
 abbrev pub tier0Hard : ℕ
-tier0Hard = 960
+tier0Hard = brakeBit + nonfinite + schema + watchdog
 
 -- bits 7 to 9: Fault from any state
 abbrev pub faultBits : ℕ
-faultBits = 896
+faultBits = nonfinite + schema + watchdog

@@ -1,4 +1,5 @@
--- Counts of a given width (01-scope.md, Rust forms that need another form): saturating_add and wrapping_add in fsm.rs, fuse.rs and tally.rs.
+-- Counts of a given width (01-scope.md, Rust forms that need another form): saturating_add and
+-- wrapping_add in fsm.rs, fuse.rs and tally.rs.
 use Prim.Native.Nat.{ℕ, _+_, _-_, _%_, _^_, min}
 
 -- one more, up to the largest number of k bits (saturating_add)

@@ -20,6 +20,9 @@ pub enum ActionKind {
     Other,
 }
 
+// How many action kinds there are.
+pub const ACTION_KINDS: u8 = 5;
+
 // What a delivered chunk says of itself. Its values come beside it, as a slice.
 pub struct ChunkHead {
     pub seq: u32,

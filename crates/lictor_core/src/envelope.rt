@@ -1,4 +1,5 @@
-// The settings of a fuse, as a journal or a host hands them over, and the configuration that the core works on (envelope.rs).
+// The settings of a fuse, as a journal or a host hands them over, and the configuration that the
+// core works on (envelope.rs).
 ghost use mathlib.Core.Path.{_≡_};
 ghost use Rattle.lictor_core.specs.Codes.{clampCode, rearmCode, isProject, isAuto, clampModeOf, rearmOf};
 use crate::chunk::ActionKind;
@@ -17,12 +18,26 @@ pub enum RearmPolicy {
     AckOnly,
 }
 
+const OFF: u8 = 0;
+
+const PROJECT: u8 = 1;
+
+// How many clamp modes there are.
+pub const CLAMP_MODES: u8 = 2;
+
+const AUTO: u8 = 0;
+
+const ACK_ONLY: u8 = 1;
+
+// How many rearm policies there are.
+pub const REARM_POLICIES: u8 = 2;
+
 fn clamp_code(c: ClampMode) -> u8
     ensures { λ r. ⌜ r ≡ clampCode c ⌝ }
 {
     match c {
-        ClampMode::Off => 0,
-        ClampMode::Project => 1,
+        ClampMode::Off => OFF,
+        ClampMode::Project => PROJECT,
     }
 }
 
@@ -30,28 +45,28 @@ fn rearm_code(p: RearmPolicy) -> u8
     ensures { λ r. ⌜ r ≡ rearmCode p ⌝ }
 {
     match p {
-        RearmPolicy::Auto => 0,
-        RearmPolicy::AckOnly => 1,
+        RearmPolicy::Auto => AUTO,
+        RearmPolicy::AckOnly => ACK_ONLY,
     }
 }
 
 pub fn is_project(c: ClampMode) -> bool
     ensures { λ r. ⌜ r ≡ isProject c ⌝ }
 {
-    clamp_code(c) == 1
+    clamp_code(c) == PROJECT
 }
 
 pub fn is_auto(p: RearmPolicy) -> bool
     ensures { λ r. ⌜ r ≡ isAuto p ⌝ }
 {
-    rearm_code(p) == 0
+    rearm_code(p) == AUTO
 }
 
 // The clamp mode of a code; the check of the settings refuses a code that is not listed.
 pub fn clamp_mode_of(n: u8) -> ClampMode
     ensures { λ r. ⌜ r ≡ clampModeOf n ⌝ }
 {
-    if n == 0 {
+    if n == OFF {
         ClampMode::Off
     } else {
         ClampMode::Project
@@ -62,14 +77,15 @@ pub fn clamp_mode_of(n: u8) -> ClampMode
 pub fn rearm_of(n: u8) -> RearmPolicy
     ensures { λ r. ⌜ r ≡ rearmOf n ⌝ }
 {
-    if n == 0 {
+    if n == AUTO {
         RearmPolicy::Auto
     } else {
         RearmPolicy::AckOnly
     }
 }
 
-// The limits of the state machine. (The Rust keeps the rearm policy here too; it stands beside, since its code is checked.)
+// The limits of the state machine. (The Rust keeps the rearm policy here too; it is beside, since
+// its code is checked.)
 pub struct Hysteresis {
     pub k: u8,
     pub warn_margin: f64,

@@ -1,4 +1,4 @@
-// What the detectors found for a tick: it stands for the calls of fuse.rs that are not ported.
+// What the detectors found for a tick, in place of the calls of fuse.rs that are not ported.
 use crate::scores::Scores;
 
 pub struct Outcome {

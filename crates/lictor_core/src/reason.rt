@@ -1,6 +1,6 @@
 // Reasons (reason.rs).
 ghost use mathlib.Core.Path.{_≡_};
-ghost use Rattle.lictor_core.specs.Codes.{reasonCode};
+ghost use Rattle.lictor_core.specs.Codes.{reasonCode, isReason};
 
 pub enum ReasonCode {
     Ok,
@@ -67,4 +67,11 @@ pub fn reason_code(w: ReasonCode) -> u8
         ReasonCode::TerminatedRetune => 26,
         ReasonCode::EpisodeEnd => 27,
     }
+}
+
+// Whether the two are one reason.
+pub fn is_reason(w: ReasonCode, q: ReasonCode) -> bool
+    ensures { λ r. ⌜ r ≡ isReason w q ⌝ }
+{
+    reason_code(w) == reason_code(q)
 }

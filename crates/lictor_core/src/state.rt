@@ -22,6 +22,9 @@ pub enum FuseMode {
     Enforce,
 }
 
+// The number of Braking: the states in which the fuse stops the robot are those from it on.
+const BRAKING: u8 = 4;
+
 // The state's number, from 0 in the order of the source.
 pub fn state_code(s: FuseState) -> u8
     ensures { λ r. ⌜ r ≡ stateCode s ⌝ }
@@ -31,7 +34,7 @@ pub fn state_code(s: FuseState) -> u8
         FuseState::Armed => 1,
         FuseState::Watching => 2,
         FuseState::Clamped => 3,
-        FuseState::Braking => 4,
+        FuseState::Braking => BRAKING,
         FuseState::Held => 5,
         FuseState::Escalated => 6,
         FuseState::Fault => 7,
@@ -50,30 +53,37 @@ pub fn is_state(s: FuseState, q: FuseState) -> bool
 pub fn is_stop(s: FuseState) -> bool
     ensures { λ r. ⌜ r ≡ isStop s ⌝ }
 {
-    state_code(s) >= 4
+    state_code(s) >= BRAKING
 }
+
+const OBSERVE: u8 = 0;
+
+const ENFORCE: u8 = 1;
+
+// How many modes there are.
+pub const MODES: u8 = 2;
 
 // The number of a mode.
 fn mode_code(m: FuseMode) -> u8
     ensures { λ r. ⌜ r ≡ modeCode m ⌝ }
 {
     match m {
-        FuseMode::Observe => 0,
-        FuseMode::Enforce => 1,
+        FuseMode::Observe => OBSERVE,
+        FuseMode::Enforce => ENFORCE,
     }
 }
 
 pub fn is_observe(m: FuseMode) -> bool
     ensures { λ r. ⌜ r ≡ isObserve m ⌝ }
 {
-    mode_code(m) == 0
+    mode_code(m) == OBSERVE
 }
 
 // The mode of a code; the check of the settings refuses a code that is not listed.
 pub fn mode_of(n: u8) -> FuseMode
     ensures { λ r. ⌜ r ≡ modeOf n ⌝ }
 {
-    if n == 0 {
+    if n == OBSERVE {
         FuseMode::Observe
     } else {
         FuseMode::Enforce

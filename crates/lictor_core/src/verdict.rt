@@ -116,12 +116,14 @@ pub fn status_code(s: Status) -> u8
     }
 }
 
+const POLICY: u8 = 0;
+
 // The action source's number, from 0 in the order of the source.
 pub fn source_code(s: ActionSource) -> u8
     ensures { λ r. ⌜ r ≡ sourceCode s ⌝ }
 {
     match s {
-        ActionSource::Policy => 0,
+        ActionSource::Policy => POLICY,
         ActionSource::Clamped => 1,
         ActionSource::Brake => 2,
         ActionSource::Hold => 3,
@@ -131,5 +133,5 @@ pub fn source_code(s: ActionSource) -> u8
 pub fn is_policy(s: ActionSource) -> bool
     ensures { λ r. ⌜ r ≡ isPolicy s ⌝ }
 {
-    source_code(s) == 0
+    source_code(s) == POLICY
 }

@@ -8,12 +8,13 @@ use Rattle.lictor_core.specs.declared.fuse.Window.{Window}
 use Rattle.lictor_core.specs.declared.envelope.Calibration.{Calibration}
 use Rattle.lictor_core.specs.declared.scores.Scores.{Scores}
 
-unfoldable pub bitOf : Bool → ℕ
-bitOf hit = cond hit 1 0
+unfoldable pub hitBit : Bool → ℕ
+hitBit hit = cond hit 1 0
 
--- Window::push: the register moves up by one place, its bit 63 drops, the hit comes in at bit 0; then only bits of the mask stay
-unfoldable pub pushOf : Window → Bool → ℕ → Window
-pushOf w hit mask = record { bits = bitAnd (bitOr (w .bits * 2 % 2 ^ 64) (bitOf hit)) mask }
+-- Window::push: the register moves up by one place, its bit 63 drops, the hit comes in at bit 0;
+-- then only bits of the mask stay
+unfoldable pub pushHit : Window → Bool → ℕ → Window
+pushHit w hit mask = record { bits = bitAnd (bitOr (w .bits * 2 % 2 ^ 64) (hitBit hit)) mask }
 
 -- Window::hits: the number of ones
 unfoldable pub hitsOf : Window → ℕ

@@ -1,3 +1,4 @@
-// What is ported of the Rust crate lictor-detect: the hit window and the strict trip. (Its brake and hold actions are in lictor_brake.)
-pub mod conformal; // conformal.rs: trip
-pub mod window; // window.rs: Window
+// What is ported of the Rust crate lictor-detect.
+pub mod brake; // brake.rs: the actions of a braking and of a holding fuse
+pub mod conformal; // conformal.rs: the strict trip
+pub mod window; // window.rs: the hit window

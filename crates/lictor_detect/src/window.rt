@@ -1,19 +1,19 @@
 // The K-of-N hit window: a shift register of 64 bits (window.rs).
 ghost use mathlib.Core.Path.{_≡_};
-ghost use Rattle.lictor_detect.specs.Window.{bitOf, pushOf, hitsOf};
+ghost use Rattle.lictor_detect.specs.Window.{hitBit, pushHit, hitsOf};
 use lictor_core::fuse::Window;
 
-fn bit(hit: bool) -> u64
-    ensures { λ r. ⌜ r ≡ bitOf hit ⌝ }
+fn hit_bit(hit: bool) -> u64
+    ensures { λ r. ⌜ r ≡ hitBit hit ⌝ }
 {
     if hit { 1 } else { 0 }
 }
 
 // The newest hit comes in at bit 0; the oldest bit drops out.
 pub fn push(w: Window, hit: bool, mask: u64) -> Window
-    ensures { λ r. ⌜ r ≡ pushOf w hit mask ⌝ }
+    ensures { λ r. ⌜ r ≡ pushHit w hit mask ⌝ }
 {
-    let h = bit(hit);
+    let h = hit_bit(hit);
     Window {
         bits: (w.bits << 1 | h) & mask,
     }

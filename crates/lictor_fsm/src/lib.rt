@@ -1,47 +1,52 @@
-// The escalation state machine (fsm.rs). `next` does what the table of lictor_table says; every row of fsm.rs is under its own number, with every
-// change of a counter: rows 4 to 8, of Escalated, in the crate lictor_escalated, rows 9 to 13, of Held, in lictor_held, rows 17 to 23, of the running
-// states, in lictor_running, the others here. The run state goes in by value and comes back.
+// The escalation state machine (fsm.rs). `next` does what the table of lictor_table says: here
+// `next`, `transition`, row 1 (a fault bit), rows 2 and 3 (Terminated and Fault stay), rows 14 to
+// 16 (Braking) and the Idle arm; the other rows are in the modules, each under its own number.
+// The run state goes in by value and comes back.
 //
-// Three kinds of function: tests and numbers over plain values; rows, which change the run state and do not branch; and choices, which test
-// and then hand on, or answer with nothing changed.
+// Three kinds of function: tests and numbers over plain values; rows, which change the run state
+// and do not branch; and choices, which test and then hand on, or answer with nothing changed.
+mod acks; // which acknowledgement is accepted, and what it changes
+mod counts; // counts that go up on a test
+mod escalated; // rows 4 to 8
+mod held; // rows 9 to 13
+mod hold; // latch_hold
+mod running; // rows 17 to 23 and the stay rows
+
 ghost use mathlib.Core.Path.{_≡_};
-ghost use Prim.Native.Nat.{_≤_};
 ghost use Rattle.lictor_core.specs.declared.state.FuseState.the-variants.{Fault};
 ghost use Rattle.lictor_table.specs.Fields.{withState};
-ghost use Rattle.lictor_table.specs.Helpers.{faultReason, latchedOf, latchHold, countIf, isClean, countRun, to, settledOf};
+ghost use Rattle.lictor_table.specs.Helpers.{faultReason, latchHold, isClean, countRun, to, settledOf};
 ghost use Rattle.lictor_table.specs.Rows.{faultRow, confirmedOf, standstillRow, stoppingRow, brakingOf, byFrom, transitionOf};
 ghost use Rattle.lictor_table.specs.Table.{nextOf};
-use fmath::clamp;
+use crate::acks::accepted_ack;
+use crate::counts::count_clean;
+use crate::counts::count_stopped;
+use crate::escalated::escalated;
+use crate::held::held;
+use crate::hold::latch_hold;
+use crate::running::running;
 use lictor_core::ack::MaybeAck;
-use lictor_core::chunk::MAX_POS;
 use lictor_core::envelope::FuseConfig;
 use lictor_core::fuse::Control;
-use lictor_core::num::least;
-use lictor_core::num::sat_u8;
 use lictor_core::num::sat_u16;
 use lictor_core::reason::ReasonCode;
 use lictor_core::state::FuseState;
 use lictor_core::state::is_state;
 use lictor_core::verdict;
 use lictor_core::verdict::any;
-use lictor_escalated::accepted_ack;
-use lictor_escalated::escalated;
-use lictor_held::count_clean;
-use lictor_held::held;
-use lictor_running::running;
 use lictor_table::FsmInput;
 use lictor_table::Turn;
 
-// One tick of the machine: the new run state, the state, the extra bits and the reason. `pos` is the last finite position.
+// One tick of the machine: the new run state, the state, the extra bits and the reason. `pos` is
+// the last finite position.
 pub fn next(cfg: FuseConfig, rt: Control, pos: [f64; 8], inp: FsmInput) -> Turn
     ensures { λ r. ⌜ r ≡ nextOf cfg rt pos inp ⌝ }
 {
     let clean = is_clean(inp.trips, inp.warn, inp.predictive);
     let counted = count_run(rt, clean);
-    let from = rt.state;
     let given = inp.ack;
     let ack = accepted_ack(rt, given);
-    let out = transition(cfg, counted, pos, from, clean, ack, inp);
+    let out = transition(cfg, counted, pos, clean, ack, inp);
     settled(out)
 }
 
@@ -61,10 +66,10 @@ fn is_clean(trips: u32, warn: bool, predictive: bool) -> bool
 fn count_run(rt: Control, clean: bool) -> Control
     ensures { λ r. ⌜ r ≡ countRun clean rt ⌝ }
 {
-    let mut q = rt;
+    let mut after = rt;
     let n = count_clean(clean, rt.clean_run);
-    q.clean_run = n;
-    q
+    after.clean_run = n;
+    after
 }
 
 // The state that the tick ends in is stored.
@@ -83,7 +88,8 @@ fn settled(t: Turn) -> Turn
     }
 }
 
-// The run state made anew, field by field: a store to a field that is an enum is not covered by the checker.
+// The run state made anew, field by field: a store to a field that is an enum is not covered by the
+// checker.
 fn with_state(rt: Control, s: FuseState) -> Control
     ensures { λ r. ⌜ r ≡ withState s rt ⌝ }
 {
@@ -113,30 +119,29 @@ fn transition(
     cfg: FuseConfig,
     rt: Control,
     pos: [f64; 8],
-    from: FuseState,
     clean: bool,
     ack: MaybeAck,
     inp: FsmInput,
 ) -> Turn
-    ensures { λ r. ⌜ r ≡ transitionOf cfg rt pos from clean ack inp ⌝ }
+    ensures { λ r. ⌜ r ≡ transitionOf cfg rt pos (rt .state) clean ack inp ⌝ }
 {
     if any(inp.trips, verdict::FAULT_BITS) {
-        return fault_row(cfg, rt, pos, from, inp.trips);
+        return fault_row(cfg, rt, pos, inp.trips);
     }
-    by_from(cfg, rt, pos, from, clean, ack, inp)
+    by_from(cfg, rt, pos, clean, ack, inp)
 }
 
 fn by_from(
     cfg: FuseConfig,
     rt: Control,
     pos: [f64; 8],
-    from: FuseState,
     clean: bool,
     ack: MaybeAck,
     inp: FsmInput,
 ) -> Turn
-    ensures { λ r. ⌜ r ≡ byFrom cfg rt pos from clean ack inp ⌝ }
+    ensures { λ r. ⌜ r ≡ byFrom cfg rt pos (rt .state) clean ack inp ⌝ }
 {
+    let from = rt.state;
     match from {
         // Row 2.
         FuseState::Terminated => Turn {
@@ -163,43 +168,15 @@ fn by_from(
     }
 }
 
-// ---- the hold, and Fault
-
-fn latched(pos: [f64; 8], lo: [f64; 8], hi: [f64; 8], hold: [f64; 8], n: usize) -> [f64; 8]
-    requires { ⌜ n ≤ 8 ⌝ }
-    ensures { λ r. ⌜ r ≡ latchedOf pos lo hi hold n ⌝ }
-{
-    let mut h = hold;
-    let mut c: usize = 0;
-    while c < 8 {
-        if c < n {
-            h[c] = clamp(pos[c], lo[c], hi[c]);
-        }
-        c += 1;
-    }
-    h
-}
-
-fn latch_hold(cfg: FuseConfig, rt: Control, pos: [f64; 8]) -> Control
-    ensures { λ r. ⌜ r ≡ latchHold cfg pos rt ⌝ }
-{
-    let mut q = rt;
-    let n = least(cfg.pos_dim, MAX_POS);
-    let lo = cfg.box_lo;
-    let hi = cfg.box_hi;
-    let old = rt.hold;
-    let hold = latched(pos, lo, hi, old, n);
-    q.hold = hold;
-    q
-}
+// ---- Fault
 
 // Fault with the hold latched: row 14, the Idle arm, and row 1 on entry.
 fn fault(cfg: FuseConfig, rt: Control, pos: [f64; 8], extra: u32, reason: ReasonCode) -> Turn
     ensures { λ r. ⌜ r ≡ to Fault extra reason (latchHold cfg pos rt) ⌝ }
 {
-    let q = latch_hold(cfg, rt, pos);
+    let after = latch_hold(cfg, rt, pos);
     Turn {
-        rt: q,
+        rt: after,
         state: FuseState::Fault,
         extra,
         reason,
@@ -219,9 +196,10 @@ fn fault_reason(trips: u32) -> ReasonCode
 }
 
 // Row 1: a Fault that keeps faulting does not chase a drifting position.
-fn fault_row(cfg: FuseConfig, rt: Control, pos: [f64; 8], from: FuseState, trips: u32) -> Turn
-    ensures { λ r. ⌜ r ≡ faultRow cfg rt pos from trips ⌝ }
+fn fault_row(cfg: FuseConfig, rt: Control, pos: [f64; 8], trips: u32) -> Turn
+    ensures { λ r. ⌜ r ≡ faultRow cfg rt pos (rt .state) trips ⌝ }
 {
+    let from = rt.state;
     if is_state(from, FuseState::Fault) {
         return fault_again(rt, trips);
     }
@@ -282,11 +260,11 @@ fn confirmed(stopped: bool, ticks: u8, need: u8) -> bool
 fn standstill_row(cfg: FuseConfig, rt: Control, pos: [f64; 8]) -> Turn
     ensures { λ r. ⌜ r ≡ standstillRow cfg rt pos ⌝ }
 {
-    let mut q = latch_hold(cfg, rt, pos);
-    q.held_ticks = 0;
-    q.held_clean = 0;
+    let mut after = latch_hold(cfg, rt, pos);
+    after.held_ticks = 0;
+    after.held_clean = 0;
     Turn {
-        rt: q,
+        rt: after,
         state: FuseState::Held,
         extra: 0,
         reason: ReasonCode::HeldStandstill,
@@ -297,21 +275,15 @@ fn standstill_row(cfg: FuseConfig, rt: Control, pos: [f64; 8]) -> Turn
 fn stopping_row(rt: Control, stopped: bool) -> Turn
     ensures { λ r. ⌜ r ≡ stoppingRow rt stopped ⌝ }
 {
-    let mut q = rt;
+    let mut after = rt;
     let n = sat_u16(rt.brake_ticks);
-    q.brake_ticks = n;
+    after.brake_ticks = n;
     let m = count_stopped(stopped, rt.stopped_ticks);
-    q.stopped_ticks = m;
+    after.stopped_ticks = m;
     Turn {
-        rt: q,
+        rt: after,
         state: FuseState::Braking,
         extra: 0,
         reason: ReasonCode::Stopping,
     }
-}
-
-fn count_stopped(stopped: bool, ticks: u8) -> u8
-    ensures { λ r. ⌜ r ≡ countIf 8 stopped ticks ⌝ }
-{
-    if stopped { sat_u8(ticks) } else { 0 }
 }

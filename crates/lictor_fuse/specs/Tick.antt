@@ -1,4 +1,5 @@
--- One call with its settings check (01-scope.md, Journal), and one tick (lictor_decide, specs/Decide) under settings that pass it.
+-- One call with its settings check (01-scope.md, Journal), and one tick (specs/Decide)
+-- under settings that pass it.
 use mathlib.Core.Bool.{Bool, false, cond}
 use mathlib.Core.List.{List}
 use lib.Dec.{eqb}
@@ -17,17 +18,17 @@ use Rattle.lictor_core.specs.declared.verdict.SafetyVerdict.{SafetyVerdict}
 use Rattle.lictor_core.specs.declared.verdict.Status.the-variants.{Nominal}
 use Rattle.lictor_core.specs.Initial.{zeros}
 use Rattle.lictor_settings.specs.Settings.{checkOf, checkNumber, configOf}
-use Rattle.lictor_verdict.specs.Verdict.{disarmedScores}
-use Rattle.lictor_decide.specs.declared.Decided.{Decided}
-use Rattle.lictor_decide.specs.Decide.{decideOf}
-use Rattle.lictor_fuse.specs.declared.tick.Ticked.{Ticked}
+use Rattle.lictor_stages.specs.Verdict.{disarmedScores}
+use Rattle.lictor_fuse.specs.declared.decide.Decided.{Decided}
+use Rattle.lictor_fuse.specs.Decide.{decideOf}
+use Rattle.lictor_fuse.specs.declared.Ticked.{Ticked}
 
--- ---- one call with settings (01-scope.md, Journal: a host whose settings fail 1 to 4 gets that number, and nothing changes)
+-- 01-scope.md, Journal: a host whose settings fail 1 to 4 gets that number, and nothing changes.
 
 abbrev pub isAccepted : SettingsCheck → Bool
 isAccepted c = eqb (checkNumber c) 0
 
--- what stands in the verdict's place on a refusal: no tick, so nothing in it
+-- what is in the verdict's place on a refusal: no tick, so nothing in it
 unfoldable pub noVerdict : SafetyVerdict
 noVerdict = record {
   seq = 0;

@@ -1,9 +1,14 @@
-// Stage 0 of a tick: the bits that make it a fault tick (fuse.rs, guard). It only reads. What it asks of a chunk is in lictor_delivery.
+// Stage 0 of a tick: the bits that make it a fault tick (fuse.rs, guard). It only reads. What it
+// asks of a chunk is in lictor_guard::delivery.
+pub mod delivery;
+
 ghost use mathlib.Core.Path.{_≡_};
 ghost use mathlib.Core.Bool.{_&&_, not};
 ghost use lib.Dec.{eqb};
 ghost use Rattle.fmath.specs.Float.{allFinite};
 ghost use Rattle.lictor_guard.specs.Guard.{nonFinite, lengthsOf, shapeBad, clockBad, schemaBad, bitIf, guardOf};
+use crate::delivery::delivered;
+use crate::delivery::delivery_bad;
 use lictor_core::chunk::MAX_AUX;
 use lictor_core::chunk::MAX_EXT;
 use lictor_core::envelope::FuseConfig;
@@ -13,8 +18,6 @@ use lictor_core::state::Time;
 use lictor_core::verdict::NONFINITE;
 use lictor_core::verdict::SCHEMA;
 use lictor_core::verdict::WATCHDOG;
-use lictor_delivery::delivered;
-use lictor_delivery::delivery_bad;
 
 // The lengths of the five lists.
 pub struct Lengths {

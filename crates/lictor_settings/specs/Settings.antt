@@ -1,5 +1,6 @@
--- The check of settings: causes 1 to 4 of the refusal table (01-scope.md, Journal), in the table's order, and the configuration that accepted settings mean.
-use mathlib.Core.Bool.{Bool, true, false, cond, not, _||_}
+-- The check of settings: causes 1 to 4 of the refusal table (01-scope.md, Journal), in the table's
+-- order, and the configuration that accepted settings mean.
+use mathlib.Core.Bool.{Bool, false, not, _||_}
 use mathlib.Core.List.{List, [], _∷_}
 use Prim.Native.Nat.{ℕ, zero, suc}
 use lib.Dec.{ltb, leb}
@@ -10,15 +11,16 @@ use Rattle.lictor_core.specs.declared.envelope.Settings.{Settings}
 use Rattle.lictor_core.specs.declared.envelope.FuseConfig.{FuseConfig}
 use Rattle.lictor_settings.specs.declared.SettingsCheck.{SettingsCheck}
 use Rattle.lictor_settings.specs.declared.SettingsCheck.the-variants.{Accepted, BadCode, BadSize, NotFinite, BoxCrossed}
-use Rattle.lictor_core.specs.Codes.{modeOf, kindOf, clampModeOf, rearmOf}
+use Rattle.lictor_core.specs.FirstThat.{Row, refuse_when_, firstThat}
+use Rattle.lictor_core.specs.Codes.{modes, kinds, clampModes, rearmPolicies, modeOf, kindOf, clampModeOf, rearmOf}
 
 -- n lies outside of low to high, both included
 abbrev pub outside : ℕ → ℕ → ℕ → Bool
 outside low high n = ltb n low || ltb high n
 
--- cause 1: a code not listed. There are 2 modes, 5 action kinds, 2 clamp modes and 2 rearm policies, numbered from 0.
+-- cause 1: a code not listed; codes are numbered from 0
 unfoldable pub badCode : Settings → Bool
-badCode s = leb 2 (s .mode) || (leb 5 (s .kind) || (leb 2 (s .clamp) || leb 2 (s .rearm)))
+badCode s = leb modes (s .mode) || (leb kinds (s .kind) || (leb clampModes (s .clamp) || leb rearmPolicies (s .rearm)))
 
 -- cause 2: a size outside its range, both ends included
 unfoldable pub badSize : Settings → Bool
@@ -43,25 +45,13 @@ crossedOf lo hi = anyBelow 8 (λ i. lt (getD hi i nan) (getD lo i nan))
 unfoldable pub badBox : Settings → Bool
 badBox s = crossedOf (s .«box_lo») (s .«box_hi»)
 
--- a row of the table: what is answered where the cause is there
-pub record Row : Type 0 where
-  pub answer : SettingsCheck
-  pub cause : Settings → Bool
-
-infix 70 refuse_when_
-abbrev pub refuse_when_ : SettingsCheck → (Settings → Bool) → Row
-refuse_when_ a c = record { answer = a; cause = c }
-
-unfoldable pub settingsTable : List Row
+-- the causes in their order
+unfoldable pub settingsTable : List (Row SettingsCheck (Settings → Bool))
 settingsTable = refuse BadCode when badCode ∷ refuse BadSize when badSize ∷ refuse NotFinite when badFloat ∷ refuse BoxCrossed when badBox ∷ []
 
 -- the first row whose cause is there decides; with none, the settings are accepted
-unfoldable pub firstRow : List Row → Settings → SettingsCheck
-firstRow [] s = Accepted
-firstRow (w ∷ ws) s = cond (w .cause s) (w .answer) (firstRow ws s)
-
 unfoldable pub checkOf : Settings → SettingsCheck
-checkOf s = firstRow settingsTable s
+checkOf s = firstThat (λ w. w .cause s) (λ w. w .answer) Accepted settingsTable
 
 -- the paper's number of each answer; accepted settings have none, and are 0 here
 abbrev pub checkNumber : SettingsCheck → ℕ

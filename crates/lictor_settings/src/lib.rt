@@ -1,14 +1,16 @@
 // The check of the settings, and the configuration that they mean.
 ghost use mathlib.Core.Path.{_≡_};
-ghost use mathlib.Core.Bool.{not};
 ghost use lib.Ieee.{isNan};
-ghost use Rattle.fmath.specs.Float.{allFinite};
 ghost use Rattle.lictor_settings.specs.Settings.{outside as Spec·outside, badCode, badSize, badFloat, crossedOf, badBox, checkOf, checkNumber, configOf};
+use lictor_core::chunk::ACTION_KINDS;
 use lictor_core::chunk::kind_of;
+use lictor_core::envelope::CLAMP_MODES;
 use lictor_core::envelope::FuseConfig;
+use lictor_core::envelope::REARM_POLICIES;
 use lictor_core::envelope::Settings;
 use lictor_core::envelope::clamp_mode_of;
 use lictor_core::envelope::rearm_of;
+use lictor_core::state::MODES;
 use lictor_core::state::mode_of;
 
 // What the check answers: causes 1 to 4 of the refusal table by name.
@@ -36,16 +38,16 @@ pub fn check_number(c: SettingsCheck) -> u8
 fn bad_code(s: Settings) -> bool
     ensures { λ r. ⌜ r ≡ badCode s ⌝ }
 {
-    if 2 <= s.mode {
+    if MODES <= s.mode {
         return true;
     }
-    if 5 <= s.kind {
+    if ACTION_KINDS <= s.kind {
         return true;
     }
-    if 2 <= s.clamp {
+    if CLAMP_MODES <= s.clamp {
         return true;
     }
-    2 <= s.rearm
+    REARM_POLICIES <= s.rearm
 }
 
 fn outside(low: u16, high: u16, n: u16) -> bool
@@ -139,7 +141,8 @@ pub fn check(s: Settings) -> SettingsCheck
     SettingsCheck::Accepted
 }
 
-// The configuration that settings mean. Codes that are not listed stand for the last case; `check` refuses them.
+// The configuration that settings mean. A code that is not listed is taken as the last case;
+// `check` refuses them.
 pub fn config(s: Settings) -> FuseConfig
     ensures { λ r. ⌜ r ≡ configOf s ⌝ }
 {

@@ -1,2 +1,5 @@
 -- Definitions that the contracts cite.
-pub mod Judge
+pub mod Findings
+pub mod Ingest
+pub mod Act
+pub mod Verdict

@@ -14,10 +14,11 @@ use Rattle.lictor_core.specs.declared.ack.MaybeAck.the-variants.{NoAck, Given}
 use Rattle.lictor_core.specs.declared.envelope.FuseConfig.{FuseConfig}
 use Rattle.lictor_core.specs.declared.fuse.Control.{Control}
 use Rattle.lictor_core.specs.Masks.{anyOf}
+use Rattle.lictor_core.specs.FirstThat.{firstThat}
 use Rattle.lictor_table.specs.declared.FsmInput.{FsmInput}
 use Rattle.lictor_table.specs.declared.Turn.{Turn}
 use Rattle.lictor_table.specs.Helpers.{acceptedAck, cleanOf, countRun, to, settledOf}
-use Rattle.lictor_table.specs.Rows.{faultRow, rearmAck, resumeRow, terminateRow, timeoutRow, waitRow, waitingOf, escalatedOf, mayRearm, rearmRow, escalateRow, holdRow, holdingOf, heldOf, confirmedOf, standstillRow, stoppingRow, brakingOf, enterBraking, brakeRow, unclampableOf, overBudget, clampRow, clearedOf, clearRow, watchedOf, quietOf, runningOf, byFrom, transitionOf, nextByRows}
+use Rattle.lictor_table.specs.Rows.{faultRow, rearmAck, resumeRow, terminateRow, timeoutRow, waitRow, unansweredOf, escalatedOf, mayRearm, rearmRow, escalateRow, holdRow, holdingOf, heldOf, confirmedOf, standstillRow, stoppingRow, brakingOf, enterBraking, brakeRow, unclampableOf, overBudget, clampRow, clearedOf, clearRow, watchedOf, quietOf, runningOf, byFrom, transitionOf, nextByRows}
 use Rattle.lictor_table.specs.Table.{Facts, firstOf, table, nextFrom, nextOf}
 
 module _ (none : Turn) (cfg : FuseConfig) (rt : Control) (pos : List Float) (clean : Bool) (inp : FsmInput) where
@@ -26,19 +27,19 @@ module _ (none : Turn) (cfg : FuseConfig) (rt : Control) (pos : List Float) (cle
       transitionOf cfg rt pos from clean ack inp ≡ firstOf none table (record { cfg = cfg; rt = rt; pos = pos; from = from; clean = clean; ack = ack; inp = inp })
 
   held-says : (d : AckDecision) (slot nonce seq : ℕ) → Says Held (Given (record { decision = d; «operator_slot» = slot; nonce = nonce; «handoff_seq» = seq }))
-  unfolding transitionOf byFrom faultRow firstOf table heldOf resumeRow terminateRow rearmAck holdingOf mayRearm rearmRow escalateRow holdRow
+  unfolding transitionOf byFrom faultRow firstThat table heldOf resumeRow terminateRow rearmAck holdingOf mayRearm rearmRow escalateRow holdRow
   held-says Resume slot nonce seq = refl
   held-says Abort slot nonce seq = refl
   held-says Retune slot nonce seq = refl
 
   escalated-says : (d : AckDecision) (slot nonce seq : ℕ) → Says Escalated (Given (record { decision = d; «operator_slot» = slot; nonce = nonce; «handoff_seq» = seq }))
-  unfolding transitionOf byFrom faultRow firstOf table escalatedOf resumeRow terminateRow rearmAck
+  unfolding transitionOf byFrom faultRow firstThat table escalatedOf resumeRow terminateRow rearmAck
   escalated-says Resume slot nonce seq = refl
   escalated-says Abort slot nonce seq = refl
   escalated-says Retune slot nonce seq = refl
 
   pub says : (from : FuseState) (ack : MaybeAck) → Says from ack
-  unfolding transitionOf byFrom faultRow firstOf table anyOf waitingOf timeoutRow waitRow escalatedOf mayRearm rearmRow escalateRow holdRow holdingOf heldOf confirmedOf standstillRow stoppingRow brakingOf enterBraking brakeRow unclampableOf overBudget clampRow clearedOf clearRow watchedOf quietOf runningOf
+  unfolding transitionOf byFrom faultRow firstThat table anyOf unansweredOf timeoutRow waitRow escalatedOf mayRearm rearmRow escalateRow holdRow holdingOf heldOf confirmedOf standstillRow stoppingRow brakingOf enterBraking brakeRow unclampableOf overBudget clampRow clearedOf clearRow watchedOf quietOf runningOf
   says Idle ack = refl
   says Armed ack = refl
   says Watching ack = refl

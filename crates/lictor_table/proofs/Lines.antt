@@ -1,19 +1,10 @@
 -- A law of each line is a law of the table.
-use mathlib.Core.Bool.{Bool, true, false, cond, not, _&&_, _||_}
+use mathlib.Core.Bool.{Bool, true, false, cond, not}
 use mathlib.Core.List.{List, [], _∷_}
-use lib.Dec.{T, eqb-refl}
-use lib.Ieee.{Float}
-use Rattle.lictor_core.specs.declared.state.FuseState.{FuseState}
-use Rattle.lictor_core.specs.declared.state.FuseState.the-variants.{Idle, Armed, Watching, Clamped, Braking, Held, Escalated, Fault, Terminated}
-use Rattle.lictor_core.specs.declared.reason.ReasonCode.the-variants as R
-use Rattle.lictor_core.specs.declared.envelope.FuseConfig.{FuseConfig}
-use Rattle.lictor_core.specs.declared.fuse.Control.{Control}
-use Rattle.lictor_core.specs.Cases.{byState}
-use Rattle.lictor_core.specs.Codes.{isState, stateCode}
-use Rattle.lictor_table.specs.declared.FsmInput.{FsmInput}
+use lib.Dec.{T}
+use Rattle.lictor_core.specs.FirstThat.{firstThat}
 use Rattle.lictor_table.specs.declared.Turn.{Turn}
-use Rattle.lictor_table.specs.Helpers.{to, settledOf}
-use Rattle.lictor_table.specs.Table.{Facts, Line, applies, does, firstOf, running, table, factsOf, nextFrom, nextOf}
+use Rattle.lictor_table.specs.Table.{Facts, TableLine, applies, does, firstOf}
 
 -- ---- a law of each line is a law of the table
 
@@ -30,11 +21,11 @@ by-bool P false s t f g = g
 
 infixr 40 _⨾_
 -- P of what each line of the list does, where it applies
-pub data Lines (P : Turn → Type 0) (x : Facts) : List Line → Type 0 where
+pub data Lines (P : Turn → Type 0) (x : Facts) : List TableLine → Type 0 where
   done : Lines P x []
-  _⨾_ : {l : Line} {ls : List Line} → (T (applies l x) → P (does l x)) → Lines P x ls → Lines P x (l ∷ ls)
+  _⨾_ : {l : TableLine} {ls : List TableLine} → (T (applies l x) → P (does l x)) → Lines P x ls → Lines P x (l ∷ ls)
 
-pub by-lines : (P : Turn → Type 0) (none : Turn) (x : Facts) (ls : List Line) → P none → Lines P x ls → P (firstOf none ls x)
-unfolding firstOf
+pub by-lines : (P : Turn → Type 0) (none : Turn) (x : Facts) (ls : List TableLine) → P none → Lines P x ls → P (firstOf none ls x)
+unfolding firstThat
 by-lines P none x [] p done = p
 by-lines P none x (l ∷ ls) p (f ⨾ fs) = by-test P (applies l x) (does l x) (firstOf none ls x) f (λ h. by-lines P none x ls p fs)

@@ -20,6 +20,7 @@ use Rattle.lictor_core.specs.Cases.{byState, byAck, byDecision}
 use Rattle.lictor_core.specs.Codes.{isState, isAuto, rearmCode}
 use Rattle.lictor_core.specs.Masks.{anyOf, faultBits, brakeBit, tier0Soft}
 use Rattle.lictor_core.specs.Num.{satUp}
+use Rattle.lictor_core.specs.FirstThat.{firstThat}
 use Rattle.lictor_table.specs.declared.FsmInput.{FsmInput}
 use Rattle.lictor_table.specs.declared.Turn.{Turn}
 use Rattle.lictor_table.specs.Helpers.{acceptedBy, acceptedAck, consumeNonce, latchHold, cleanOf, countRun, to, settledOf}
@@ -146,19 +147,19 @@ module _ (cfg : FuseConfig) (rt : Control) (pos : List Float) (inp : FsmInput) w
       line Held m (heldTicks at-least H) _ _ (λ h. (omega tests, rw k)) (λ h. (omega tests, rw k)))))
 
   held : (d : AckDecision) (slot nonce seq : ℕ) → Says Held (Given (record { decision = d; «operator_slot» = slot; nonce = nonce; «handoff_seq» = seq }))
-  unfolding firstOf table settledOf countRun latchHold consumeNonce holdingOf mayRearm rearmRow escalateRow holdRow
+  unfolding firstThat table settledOf countRun latchHold consumeNonce holdingOf mayRearm rearmRow escalateRow holdRow
   held Resume slot nonce seq = first Held _ _ _ (omega tests, refl) (omega tests, refl)
   held Abort slot nonce seq = first Held _ _ _ (omega tests, refl) (omega tests, refl)
   held Retune slot nonce seq = first Held _ _ _ (omega tests, refl) (holding _ refl)
 
   escalated : (d : AckDecision) (slot nonce seq : ℕ) → Says Escalated (Given (record { decision = d; «operator_slot» = slot; nonce = nonce; «handoff_seq» = seq }))
-  unfolding firstOf table settledOf countRun latchHold consumeNonce
+  unfolding firstThat table settledOf countRun latchHold consumeNonce
   escalated Resume slot nonce seq = first Escalated _ _ _ (omega tests, refl) (omega tests, refl)
   escalated Abort slot nonce seq = first Escalated _ _ _ (omega tests, refl) (omega tests, refl)
   escalated Retune slot nonce seq = first Escalated _ _ _ (omega tests, refl) (omega tests, refl)
 
   by-from : (q : FuseState) (ack : MaybeAck) → Says q ack
-  unfolding firstOf table settledOf countRun latchHold holdingOf mayRearm rearmRow escalateRow holdRow
+  unfolding firstThat table settledOf countRun latchHold holdingOf mayRearm rearmRow escalateRow holdRow
   by-from Idle m = first Idle m _ _ (omega tests, refl) (omega tests, refl)
   by-from Armed m =
       first Armed m _ _ (omega tests, refl)

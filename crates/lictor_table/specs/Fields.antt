@@ -1,4 +1,5 @@
--- The machine's part of the run state with one field changed: a setter for each field, since every line of the table says what it changes by these. It states nothing of the papers.
+-- The machine's part of the run state with one field changed: a setter for each field, since every
+-- line of the table says what it changes by these. It states nothing of the papers.
 use mathlib.Core.Bool.{Bool}
 use mathlib.Core.List.{List}
 use Prim.Native.Nat.{ℕ}

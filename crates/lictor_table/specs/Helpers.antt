@@ -1,7 +1,8 @@
--- What the small functions of fsm.rs compute: reasons, acceptance, nonces, the latched hold, counts. The table is written with these.
+-- What the small functions of fsm.rs compute: reasons, acceptance, nonces, the latched hold,
+-- counts. The table is written with these.
 use mathlib.Core.Bool.{Bool, cond, not, _&&_}
 use mathlib.Core.List.{List}
-use Prim.Native.Nat.{ℕ, zero, suc, min}
+use Prim.Native.Nat.{ℕ, min}
 use lib.Dec.{ltb, eqb}
 use lib.ListN.{set, getD}
 use lib.Ieee.{Float, nan}
@@ -45,7 +46,8 @@ armedReason mode = cond (isObserve mode) R.ObserveOnly R.Ok
 
 -- ---- acknowledgements
 
--- whether an acknowledgement is accepted, given the current handoff number and the stored nonces (01-scope.md, Transitions, the line on acceptance)
+-- whether an acknowledgement is accepted, given the current handoff number and the stored nonces
+-- (01-scope.md, Transitions, the line on acceptance)
 unfoldable pub acceptedBy : ℕ → List ℕ → VerifiedAck → Bool
 acceptedBy handoff nonces a =
     ltb (a .«operator_slot») 8 && (eqb (a .«handoff_seq») handoff && ltb (getD nonces (a .«operator_slot») 0) (a .nonce))
@@ -54,7 +56,8 @@ acceptedBy handoff nonces a =
 unfoldable pub acceptedAck : ℕ → List ℕ → MaybeAck → MaybeAck
 acceptedAck handoff nonces ack = byAck ack NoAck (λ a. cond (acceptedBy handoff nonces a) (Given a) NoAck)
 
--- its nonce is the stored one of its slot from now on, the other seven stay (fsm.rs, consume_nonce; past the eighth slot nothing changes)
+-- its nonce is the stored one of its slot from now on, the other seven stay (fsm.rs, consume_nonce;
+-- past the eighth slot nothing changes)
 unfoldable pub consumeNonce : VerifiedAck → Control → Control
 consumeNonce a r = withNonces (set (r .«last_nonce») (a .«operator_slot») (a .nonce)) r
 

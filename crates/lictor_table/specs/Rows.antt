@@ -1,5 +1,7 @@
--- The rows of fsm.rs as its code has them, branch by branch: what the functions of lictor_escalated, lictor_held, lictor_running and lictor_fsm are shown
--- to compute. That all this is the table is shown in proofs/ByTable, and `next` of lictor_fsm promises the table.
+-- The rows of fsm.rs as its code has them, branch by branch: what the functions of lictor_fsm
+-- compute.
+-- That all this is the table is shown in proofs/ByTable, and `next` of lictor_fsm promises the
+-- table.
 use mathlib.Core.Bool.{Bool, false, true, cond, not, _&&_, _||_}
 use mathlib.Core.List.{List}
 use Prim.Native.Nat.{ℕ, _+_}
@@ -59,13 +61,13 @@ unfoldable pub waitRow : Control → Turn
 waitRow rt = to Escalated 0 R.HeldStandstill (withEscalatedTicks (satUp 32 (rt .«escalated_ticks»)) rt)
 
 -- rows 7 and 8
-unfoldable pub waitingOf : ℕ → Control → Turn
-waitingOf limit rt = cond (leb limit (rt .«escalated_ticks»)) (timeoutRow rt) (waitRow rt)
+unfoldable pub unansweredOf : ℕ → Control → Turn
+unansweredOf limit rt = cond (leb limit (rt .«escalated_ticks»)) (timeoutRow rt) (waitRow rt)
 
 -- rows 4 to 8
 unfoldable pub escalatedOf : ℕ → Control → MaybeAck → Turn
 escalatedOf limit rt ack =
-    byAck ack (waitingOf limit rt)
+    byAck ack (unansweredOf limit rt)
     (λ a. byDecision (a .decision) (resumeRow rt a) (terminateRow rt a operatorAbort R.TerminatedAbort) (terminateRow rt a 0 R.TerminatedRetune))
 
 -- ---- Held

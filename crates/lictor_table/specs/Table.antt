@@ -1,5 +1,6 @@
--- The transition table (01-scope.md, One tick, Transitions; bits, reasons and counters as in fsm.rs): a list of lines, of which the first that applies decides.
--- It stands at the end of this file; before it come the words that it is written with.
+-- The transition table (01-scope.md, One tick, Transitions; bits, reasons and counters as in
+-- fsm.rs): a list of lines, of which the first that applies decides.
+-- It is at the end of this file; before it come the words that it is written with.
 use mathlib.Core.Bool.{Bool, true, false, cond, not, _&&_, _||_}
 use mathlib.Core.List.{List, [], _∷_}
 use Prim.Native.Nat.{ℕ, _+_}
@@ -18,6 +19,7 @@ use Rattle.lictor_core.specs.declared.envelope.FuseConfig.{FuseConfig}
 use Rattle.lictor_core.specs.declared.fuse.Control.{Control}
 use Rattle.lictor_core.specs.Cases.{byAck, byDecision}
 use Rattle.lictor_core.specs.Codes.{isState, isAuto}
+use Rattle.lictor_core.specs.FirstThat.{firstThat}
 use Rattle.lictor_core.specs.Masks.{anyOf, faultBits, brakeBit, tier0Soft, tier1Cp, clampBudget, handoffTimeout, operatorAbort, brakeTimeout, rearmBudget}
 use Rattle.lictor_core.specs.Num.{satUp, wrapUp}
 use Rattle.lictor_table.specs.declared.FsmInput.{FsmInput}
@@ -31,8 +33,9 @@ infixr 75 _and_
 infixr 74 _or_
 infix 80 _at-least_ _above_ _below_
 infix 85 _+1
--- What a line may look at: the settings, the machine's part of the run state with clean_run updated, the position, the state that the tick starts
--- from, whether the tick is clean, the acknowledgement if it is accepted, and the input.
+-- What a line may look at: the settings, the machine's part of the run state with clean_run
+-- updated, the position, the state that the tick starts from, whether the tick is clean, the
+-- acknowledgement if it is accepted, and the input.
 pub record Facts : Type 0 where
   pub cfg : FuseConfig
   pub rt : Control
@@ -59,7 +62,7 @@ Reason = Facts → ReasonCode
 abbrev pub Change : Type 0
 Change = Facts → Control → Control
 
-pub record Line : Type 0 where
+pub record TableLine : Type 0 where
   pub states : States
   pub test : Test
   pub next : FuseState
@@ -67,19 +70,19 @@ pub record Line : Type 0 where
   pub reason : Reason
   pub change : Change
 
-abbrev pub for_when_goto_bits_reason_change_ : States → Test → FuseState → ℕ → Reason → Change → Line
+abbrev pub for_when_goto_bits_reason_change_ : States → Test → FuseState → ℕ → Reason → Change → TableLine
 for_when_goto_bits_reason_change_ s t q b w c = record { states = s; test = t; next = q; extra = b; reason = w; change = c }
 
-abbrev pub applies : Line → Facts → Bool
+abbrev pub applies : TableLine → Facts → Bool
 applies l x = l .states (x .from) && l .test x
 
-abbrev pub does : Line → Facts → Turn
+abbrev pub does : TableLine → Facts → Turn
 does l x = to (l .next) (l .extra) (l .reason x) (l .change x (x .rt))
 
--- the first line that applies decides (`none`: the answer if none does; of the table below some line always does, proofs/ByTable)
-unfoldable pub firstOf : Turn → List Line → Facts → Turn
-firstOf none [] x = none
-firstOf none (l ∷ ls) x = cond (applies l x) (does l x) (firstOf none ls x)
+-- the first line that applies decides (`none`: the answer if none does; of the table below some
+-- line always does, proofs/ByTable)
+abbrev pub firstOf : Turn → List TableLine → Facts → Turn
+firstOf none ls x = firstThat (λ l. applies l x) (λ l. does l x) none ls
 
 -- ---- states
 
@@ -296,7 +299,7 @@ countStreak x r = withClampStreak (upIf 8 (x .inp .«chunk_boundary») (r .«cla
 -- ---- the table
 
 -- Beside each line: its row in fsm.rs, and its place in 01-scope.md, Transitions.
-unfoldable pub table : List Line
+unfoldable pub table : List TableLine
 table =
     -- row 1; Any state
     for anyState when trip faultBits goto Fault bits 0 reason faultCause change latchUnlessFault
@@ -355,7 +358,8 @@ table =
 
 -- ---- one tick
 
--- what the lines look at: clean_run is updated before, and an acknowledgement counts only if it is accepted
+-- what the lines look at: clean_run is updated before, and an acknowledgement counts only if it is
+-- accepted
 abbrev pub factsOf : FuseState → FuseConfig → Control → List Float → FsmInput → Facts
 factsOf from cfg rt pos inp =
     record {
@@ -372,6 +376,7 @@ factsOf from cfg rt pos inp =
 unfoldable pub nextFrom : FuseState → FuseConfig → Control → List Float → FsmInput → Turn
 nextFrom from cfg rt pos inp = settledOf (firstOf (to Fault 0 R.FaultInternal rt) table (factsOf from cfg rt pos inp))
 
--- what the table says of a tick: its answer, with the state that it ends in stored in the run state (fsm.rs, next)
+-- what the table says of a tick: its answer, with the state that it ends in stored in the run state
+-- (fsm.rs, next)
 unfoldable pub nextOf : FuseConfig → Control → List Float → FsmInput → Turn
 nextOf cfg rt pos inp = nextFrom (rt .state) cfg rt pos inp

@@ -1,5 +1,6 @@
-// What the state machine takes in and what it answers (fsm.rs). What it does is written down as a table over these types, in specs/Table.antt;
-// the code that follows the table is in the crates lictor_escalated, lictor_held, lictor_running and lictor_fsm.
+// What the state machine takes in and what it answers (fsm.rs). What it does is written down as a
+// table over these types, in specs/Table.antt; the code that follows the table is in the crate
+// lictor_fsm.
 use lictor_core::ack::MaybeAck;
 use lictor_core::fuse::Control;
 use lictor_core::reason::ReasonCode;
@@ -17,7 +18,8 @@ pub struct FsmInput {
     pub ack: MaybeAck,
 }
 
-// What a tick ends in: the machine's part of the run state, and beside it the triple that the Rust's `next` answers.
+// What a tick ends in: the machine's part of the run state, and beside it the triple that the
+// Rust's `next` answers.
 pub struct Turn {
     pub rt: Control,
     pub state: FuseState,

@@ -17,9 +17,9 @@ use Rattle.lictor_core.specs.declared.tally.ReasonMark.{ReasonMark}
 use Rattle.lictor_core.specs.declared.tally.ReasonMark.the-variants.{NoReason, For}
 use Rattle.lictor_core.specs.declared.tally.Tally.{Tally}
 use Rattle.lictor_tally.specs.Tally.{count, countBit, countBits, first, firstReason, mostAt, mostLive, recordOf, recordChunk, withChunks}
-use Rattle.lictor_tally.specs.History.{Item, recorded, tallyFrom, tallyOf, Count, ticks, nominal, watching, clamped, braking, held, escalated, fault, terminated, substituted, violations, chunksSeen, chunksRejected, clamps, holds, rearms, escalations, tripsByBit, firedByFeat, valueOf, counts, number, overStates, trips, stops, handsOver, sOf, live, zOf, firstOf, firstReasonOf, mostOf, lastOf, OfHistory}
-use Rattle.lictor_counts.proofs.Places.{length-each}
-use Rattle.lictor_counts.proofs.Laws.{count-fits, bits-at, most-at}
+use Rattle.lictor_tally.specs.History.{Item, recorded, tallyFrom, tallyOf, Count, ticks, nominal, watching, clamped, braking, held, escalated, fault, terminated, substituted, violations, chunksSeen, chunksRejected, clamps, holds, rearms, escalations, tripsByBit, firedByFeat, valueOf, counts, number, overStates, trips, stops, handsOver, sOf, live, zOf, firstIn, firstReasonOf, mostOf, lastIn, OfHistory}
+use Rattle.lictor_tally.proofs.Places.{length-each}
+use Rattle.lictor_tally.proofs.CountsLaws.{count-fits, bits-at, most-at}
 
 -- ---- one tick
 
@@ -121,9 +121,9 @@ mark-this true t (At k) n = refl
 mark-this false t (At k) n = refl
 
 module _ (mark : Tally → Mark) (p : Item → Bool) (tick : (t : Tally) (x : Item) → mark (recorded t x) ≡ first (p x) (x .verdict .t) (mark t)) where
-  pub mark-from : (t : Tally) (h : List Item) → mark (tallyFrom t h) ≡ orElse (mark t) (firstOf p h)
+  pub mark-from : (t : Tally) (h : List Item) → mark (tallyFrom t h) ≡ orElse (mark t) (firstIn p h)
   mark-from t [] = mark-none (mark t)
-  mark-from t (x ∷ h) = mark-from (recorded t x) h ∙ rw (tick t x) (mark-this (p x) (x .verdict .t) (mark t) (firstOf p h))
+  mark-from t (x ∷ h) = mark-from (recorded t x) h ∙ rw (tick t x) (mark-this (p x) (x .verdict .t) (mark t) (firstIn p h))
 
 -- the reason beside a mark: the one that was written, else that of the first tick in the list, else the old one
 abbrev pub orReason : Mark → ReasonMark → ReasonMark → ReasonMark
@@ -161,7 +161,7 @@ module _ (most : Tally → Float) (p : Item → Bool) (score : Item → Float) (
   most-from t (x ∷ h) z = rw (← tick t x z) (most-from (recorded t x) h (stays-sized t x z))
 
 -- the last state
-pub last-from : (t : Tally) (h : List Item) → tallyFrom t h .«terminal_state» ≡ lastOf (t .«terminal_state») h
+pub last-from : (t : Tally) (h : List Item) → tallyFrom t h .«terminal_state» ≡ lastIn (t .«terminal_state») h
 unfolding recorded recordOf
 last-from t [] = refl
 last-from t (x ∷ h) = last-from (recorded t x) h

@@ -1,4 +1,4 @@
--- Two fields that go by no rule of lictor_counts.
+-- Two fields that go by no rule of lictor_tally::counts.
 use mathlib.Core.Path.{_≡_, refl}
 use Rattle.fmath.specs.Float.{maxOf}
 use Rattle.lictor_core.specs.declared.verdict.SafetyVerdict.{SafetyVerdict}

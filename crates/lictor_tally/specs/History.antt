@@ -1,4 +1,5 @@
--- The tally and its history: what a list of ticks leaves in a tally that was empty before it (01-scope.md, Modules 4). Proved in proofs/History.
+-- The tally and its history: what a list of ticks leaves in a tally that was empty before it
+-- (01-scope.md, Modules 4). Proved in proofs/History.
 use mathlib.Core.Path.{_≡_}
 use mathlib.Core.Bool.{Bool, true, cond, not, _&&_}
 use mathlib.Core.List.{List, [], _∷_}
@@ -121,9 +122,9 @@ abbrev pub zOf : ℕ → Item → Float
 zOf j x = getD (x .verdict .scores .z) j nan
 
 -- the t of the first tick with a property, and the reason of the first that trips
-abbrev pub firstOf : (Item → Bool) → List Item → Mark
-firstOf p [] = Never
-firstOf p (x ∷ h) = cond (p x) (At (x .verdict .t)) (firstOf p h)
+abbrev pub firstIn : (Item → Bool) → List Item → Mark
+firstIn p [] = Never
+firstIn p (x ∷ h) = cond (p x) (At (x .verdict .t)) (firstIn p h)
 
 abbrev pub firstReasonOf : List Item → ReasonMark
 firstReasonOf [] = NoReason
@@ -135,24 +136,26 @@ mostOf p score m [] = m
 mostOf p score m (x ∷ h) = mostOf p score (cond (p x) (maxOf m (score x)) m) h
 
 -- the state in which the last tick ended, s where there was none
-abbrev pub lastOf : FuseState → List Item → FuseState
-lastOf s [] = s
-lastOf s (x ∷ h) = lastOf (x .verdict .state) h
+abbrev pub lastIn : FuseState → List Item → FuseState
+lastIn s [] = s
+lastIn s (x ∷ h) = lastIn (x .verdict .state) h
 
 -- ---- the claim, for every history
 
 pub record OfHistory (h : List Item) : Type 0 where
-  -- of whatever length: a count is the number of ticks that it counts, cut at its ceiling; so there it stays
+  -- of whatever length: a count is the number of ticks that it counts, cut at its ceiling; so there
+  -- it stays
   pub cut : (k : Count) → valueOf k (tallyOf h) ≡ min (number (counts k) h) (2 ^ 32 - 1)
-  -- of fewer than 2^32 ticks: it is that number, `ticks` is the length, and the eight state counts sum to it
+  -- of fewer than 2^32 ticks: it is that number, `ticks` is the length, and the eight state counts
+  -- sum to it
   pub exact : length h < 2 ^ 32 → (k : Count) → valueOf k (tallyOf h) ≡ number (counts k) h
   pub all : length h < 2 ^ 32 → tallyOf h .ticks ≡ length h
   pub sum : length h < 2 ^ 32 → overStates (λ k. valueOf k (tallyOf h)) ≡ tallyOf h .ticks
   -- the other fields
-  pub firstTrip : tallyOf h .«first_trip_tick» ≡ firstOf trips h
+  pub firstTrip : tallyOf h .«first_trip_tick» ≡ firstIn trips h
   pub firstTripReason : tallyOf h .«first_trip_reason» ≡ firstReasonOf h
-  pub firstStop : tallyOf h .«first_stop_tick» ≡ firstOf stops h
-  pub firstHandoff : tallyOf h .«handoff_tick» ≡ firstOf handsOver h
+  pub firstStop : tallyOf h .«first_stop_tick» ≡ firstIn stops h
+  pub firstHandoff : tallyOf h .«handoff_tick» ≡ firstIn handsOver h
   pub maxS : tallyOf h .«max_s» ≡ mostOf (counts ticks) sOf (inf true) h
   pub maxZ : (j : ℕ) → j < 12 → getD (tallyOf h .«max_z») j nan ≡ mostOf (live j) (zOf j) (inf true) h
-  pub last : tallyOf h .«terminal_state» ≡ lastOf S.Idle h
+  pub last : tallyOf h .«terminal_state» ≡ lastIn S.Idle h

@@ -1,4 +1,5 @@
--- What a tick makes of the tally (tally.rs). Each field goes by one of four rules: a count, a mark, a maximum (lictor_counts, specs/Counts), the last state.
+-- What a tick makes of the tally (tally.rs). Each field goes by one of four rules: a count, a mark,
+-- a maximum (lictor_tally, specs/Counts), the last state.
 use mathlib.Core.Bool.{Bool, not}
 use Prim.Native.Nat.{ℕ}
 use lib.Dec.{eqb}
@@ -9,8 +10,8 @@ use Rattle.lictor_core.specs.declared.state.FuseState.the-variants as S
 use Rattle.lictor_core.specs.declared.verdict.SafetyVerdict.{SafetyVerdict}
 use Rattle.lictor_core.specs.declared.tally.Tally.{Tally}
 use Rattle.lictor_tally.specs.declared.TickEvents.{TickEvents}
-unfoldable pub use Rattle.lictor_counts.specs.Counts.{count, bitOf, countBit, eachFrom, countBits, first, firstReason, mostAt, mostLive}
-pub use Rattle.lictor_counts.specs.Counts.{isNominal, isNever}
+unfoldable pub use Rattle.lictor_tally.specs.Counts.{count, bitOf, countBit, eachFrom, countBits, first, firstReason, mostAt, mostLive}
+pub use Rattle.lictor_tally.specs.Counts.{isNominal, isNever}
 
 -- ---- Tally::record
 

@@ -7,7 +7,8 @@ use lib.Ieee.{Float, nan, inf, fin, up, down}
 use Rattle.margin.specs.declared.Margin.{Margin}
 use Rattle.margin.specs.declared.Margin.the-variants.{NoMargin, PlusFar, MinusFar, Millis}
 
--- whether what is left over a quotient takes it up by one: from an exact half on, so that a half goes away from zero (the sign stands apart)
+-- whether what is left over a quotient takes it up by one: from an exact half on, so that a half
+-- goes away from zero (the sign is apart)
 abbrev pub takesUp : ℕ → ℕ → Bool
 takesUp rest den = leb den (2 * rest)
 

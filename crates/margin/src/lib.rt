@@ -54,22 +54,26 @@ fn millis(m: u64, k: u64) -> u64
     nearest_whole(m * 1000, 1 << k)
 }
 
-// A margin in metres: none for NaN, far where its rounded millimetres pass 999999. (From 1024 m on that is known without working them out.)
+// A margin in metres: none for NaN, far where its rounded millimetres pass 999999.
+// (From 1024 m on that is known without working them out.)
 pub fn margin_of(x: f64) -> Margin
     ensures { λ r. ⌜ r ≡ marginOf x ⌝ }
 {
     if x != x {
         return Margin::NoMargin;
     }
-    let b = f64::to_bits(x);
-    let minus = b >= 0x8000_0000_0000_0000;
-    let e = b % 0x8000_0000_0000_0000 / 0x10_0000_0000_0000;
-    let t = b % 0x10_0000_0000_0000;
-    if e >= 1033 {
+    let bits = f64::to_bits(x);
+    let minus = bits >= 0x8000_0000_0000_0000;
+    let exponent = bits % 0x8000_0000_0000_0000 / 0x10_0000_0000_0000;
+    let fraction = bits % 0x10_0000_0000_0000;
+    if exponent >= 1033 {
         return far_of(minus);
     }
-    if e == 0 {
-        return millis_of(minus, millis(t, 1074));
+    if exponent == 0 {
+        return millis_of(minus, millis(fraction, 1074));
     }
-    millis_of(minus, millis(t + 0x10_0000_0000_0000, 1075 - e))
+    millis_of(
+        minus,
+        millis(fraction + 0x10_0000_0000_0000, 1075 - exponent),
+    )
 }

@@ -1,3 +1,3 @@
 -- Laws that belong to no one function.
 pub mod Playing
-pub mod Turns
+pub mod Feeding

@@ -8,24 +8,25 @@ use lib.ListN.{length, drop, length-drop}
 use lib.Seq.{drop-drop}
 use lib.Dec.{leb}
 use borrow.Author.Tests.{leb-true, leb-false, le-leb, lt-leb}
-use Rattle.lictor_decide.specs.declared.Decided.{Decided}
-use Rattle.judge.specs.declared.Refusal.{Refusal}
-use Rattle.reader.specs.Stream.{Next, wait, halt, go, tell, settled, advanced, takes, size}
-use Rattle.reader.proofs.Stream.{goes, settled-go, advanced-go, advanced-wait, advanced-halt, advanced-tell}
-use Rattle.journal_tick.specs.Tick.{Whole}
+use Rattle.lictor_fuse.specs.declared.decide.Decided.{Decided}
+use Rattle.journal_refusals.specs.declared.Refusal.{Refusal}
+use Rattle.stream.specs.Stream.{Next, wait, halt, go, tell, settled, advanced, takes, size}
+use Rattle.stream.proofs.Stream.{impossible, goes, settled-go, advanced-go, advanced-wait, advanced-halt, advanced-tell}
+use Rattle.journal.specs.Tick.{Whole}
 use Rattle.journal.specs.Journal.{replayOf}
 use Rattle.journal.proofs.Replay.{replay}
-use Rattle.player.specs.Play.{tickRoom, Playing, full, played, playOf}
+use Rattle.report.specs.Text.{tickRoom}
+use Rattle.player.specs.Play.{Playing, full, withText, playOf}
 
-played-takes : (code n : ℕ) (x : Next Whole Decided Refusal) → takes (played code n x) ≡ takes x
-unfolding played
+played-takes : (code n : ℕ) (x : Next Whole Decided Refusal) → takes (withText code n x) ≡ takes x
+unfolding withText
 played-takes code n wait = refl
 played-takes code n (halt r) = refl
 played-takes code n (go w k) = refl
 played-takes code n (tell w k d) = refl
 
-played-size : (code n : ℕ) (x : Next Whole Decided Refusal) → size (played code n x) ≡ size x
-unfolding played
+played-size : (code n : ℕ) (x : Next Whole Decided Refusal) → size (withText code n x) ≡ size x
+unfolding withText
 played-size code n wait = refl
 played-size code n (halt r) = refl
 played-size code n (go w k) = refl
@@ -37,21 +38,21 @@ module _ (code room : ℕ) where
   unfolding playOf
   play-full p s h = rw (lt-leb (p .n + tickRoom) room h) refl
 
-  pub play-room : (p : Playing) (s : List ℕ) → p .n + tickRoom ≤ room → (x : Next Whole Decided Refusal) → replayOf (p .journal) s ≡ x → playOf code room p s ≡ played code (p .n) x
+  pub play-room : (p : Playing) (s : List ℕ) → p .n + tickRoom ≤ room → (x : Next Whole Decided Refusal) → replayOf (p .journal) s ≡ x → playOf code room p s ≡ withText code (p .n) x
   unfolding playOf
-  play-room p s h x e = rw (le-leb (p .n + tickRoom) room h) (ap (played code (p .n)) e)
+  play-room p s h x e = rw (le-leb (p .n + tickRoom) room h) (ap (withText code (p .n)) e)
 
   there-by : (p : Playing) (s : List ℕ) (b : Bool) → leb (p .n + tickRoom) room ≡ b → takes (playOf code room p s) ≡ true
       → (0 < size (playOf code room p s)) × (size (playOf code room p s) ≤ length s)
   there-by p s true h y =
       let x = replayOf (p .journal) s in
-      let e : playOf code room p s ≡ played code (p .n) x = play-room p s (leb-true (p .n + tickRoom) room h) x refl in
+      let e : playOf code room p s ≡ withText code (p .n) x = play-room p s (leb-true (p .n + tickRoom) room h) x refl in
       let b = replay .there (p .journal) s (sym (played-takes code (p .n) x) ∙ ap takes (sym e) ∙ y) in
       let k : size (playOf code room p s) ≡ size x = ap size e ∙ played-size code (p .n) x in
       (omega (arith, b .0, k), omega (arith, b .1, k))
   there-by p s false h y =
       let z : false ≡ true = ap takes (sym (play-full p s (leb-false (p .n + tickRoom) room h))) ∙ y in
-      absurd (let o : _≡_ {A = ℕ} 0 1 = cc in omega arith)
+      impossible cc
 
   -- a record that is taken is there
   pub play-there : (p : Playing) (s : List ℕ) → takes (playOf code room p s) ≡ true → (0 < size (playOf code room p s)) × (size (playOf code room p s) ≤ length s)
@@ -68,7 +69,7 @@ module _ (code room : ℕ) where
 
     onward-by : (f : ℕ) → ((w : Whole) (s : List ℕ) → length s < f → Onward w s)
         → (w : Whole) (s : List ℕ) → length s ≤ f → (x : Next Whole Decided Refusal) → replayOf w s ≡ x → Onward w s
-    unfolding played
+    unfolding withText
     onward-by f ih w s l wait e = rw (advanced-wait replayOf replay w s e) refl
     onward-by f ih w s l (halt r) e = rw (advanced-halt replayOf replay w s r e) refl
     onward-by f ih w s l (go w' k) e =

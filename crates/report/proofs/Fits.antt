@@ -1,9 +1,9 @@
--- No line of `fuse` is cut: each fits into the 256 bytes of a line, so that the first n bytes are its whole text.
+-- No line of `fuse` is cut: each fits into a line, so that the first n bytes are its whole text.
 use Prim.Native.Nat.{ℕ, _≤_}
 use mathlib.Core.Path.{_≡_}
 use native.Mathlib.Omega.{arith}
 use lib.ListN.{length, length-append, take}
-use Rattle.text.specs.Line.{lineOf}
+use Rattle.text.specs.Line.{lineRoom, lineOf}
 use Rattle.text.proofs.Lines.{line-text}
 use Rattle.text.proofs.Digits.{decimal-20, signed-21}
 use Rattle.lictor_core.specs.Codes.{stateCode, reasonCode, sourceCode}
@@ -21,7 +21,7 @@ margin-21 PlusFar = omega arith
 margin-21 MinusFar = omega arith
 margin-21 (Millis z) = signed-21 z
 
-pub tick-fits : (v : SafetyVerdict) → length (tickText v) ≤ 256
+pub tick-fits : (v : SafetyVerdict) → length (tickText v) ≤ lineRoom
 unfolding tickText
 tick-fits v =
     simp length-append
@@ -36,11 +36,11 @@ tick-fits v =
       margin-21 (marginOf (v .«brake_margin»)),
     ))
 
-pub end-fits : (t : Tally) → length (endText t) ≤ 256
+pub end-fits : (t : Tally) → length (endText t) ≤ lineRoom
 unfolding endText
 end-fits t = simp length-append (omega (arith, decimal-20 (t .ticks), decimal-20 (stoppedOf t)))
 
-pub refused-fits : (number place : ℕ) → length (refusedText number place) ≤ 256
+pub refused-fits : (number place : ℕ) → length (refusedText number place) ≤ lineRoom
 unfolding refusedText
 refused-fits number place = simp length-append (omega (arith, decimal-20 number, decimal-20 place))
 

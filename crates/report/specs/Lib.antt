@@ -1,2 +1,4 @@
--- Definitions that the contracts of this crate, and of those above it, cite, and the statements of its theorems.
+-- Definitions that the contracts of this crate, and of those above it, cite, and the statements of
+-- its theorems.
 pub mod Lines
+pub mod Text

@@ -1,6 +1,6 @@
 -- The lines that `fuse` prints, each with its newline (01-scope.md, Journal, the program `fuse`).
 use Prim.Native.Nat.{ℕ, _+_}
-use mathlib.Core.List.{List, _++_}
+use mathlib.Core.List.{List, [], _∷_, _++_}
 use Rattle.text.specs.Ascii.{ascii}
 use Rattle.text.specs.Number.{decimalOf, signedOf}
 use Rattle.lictor_core.specs.Codes.{stateCode, reasonCode, sourceCode}
@@ -20,22 +20,32 @@ marginText (Millis z) = signedOf z
 abbrev pub fieldText : ℕ → List ℕ
 fieldText n = ascii " " ++ decimalOf n
 
--- `tick`, seq, t, state, reason, trips, action source
+-- numbers, each after a blank
+abbrev pub fieldsText : List ℕ → List ℕ
+fieldsText [] = []
+fieldsText (x ∷ xs) = fieldText x ++ fieldsText xs
+
+-- the numbers of a tick's line: seq, t, state, reason, trips, action source
+abbrev pub numbersIn : SafetyVerdict → List ℕ
+numbersIn v =
+    v .seq
+    ∷ v .t
+    ∷ stateCode (v .state)
+    ∷ reasonCode (v .reason)
+    ∷ v .trips
+    ∷ sourceCode (v .«action_src»)
+    ∷ []
+
+-- `tick` and these numbers
 abbrev pub numbersOf : SafetyVerdict → List ℕ
-numbersOf v =
-    ascii "tick"
-    ++ fieldText (v .seq)
-    ++ fieldText (v .t)
-    ++ fieldText (stateCode (v .state))
-    ++ fieldText (reasonCode (v .reason))
-    ++ fieldText (v .trips)
-    ++ fieldText (sourceCode (v .«action_src»))
+numbersOf v = ascii "tick" ++ fieldsText (numbersIn v)
 
 -- and then the margin
 unfoldable pub tickText : SafetyVerdict → List ℕ
 tickText v = numbersOf v ++ ascii " " ++ marginText (marginOf (v .«brake_margin»)) ++ ascii "\n"
 
--- the `stopped` of the line `end`: the ticks that ended in one of the five stop states. (No relation to the standstill that a tick tests.)
+-- The `stopped` of the line `end`: the ticks that ended in one of the five stop states. (No
+-- relation to the standstill that a tick tests.)
 unfoldable pub stoppedOf : Tally → ℕ
 stoppedOf t = t .braking + t .held + t .escalated + t .fault + t .terminated
 

@@ -1,4 +1,5 @@
--- The square root of a binary64 value, and what it is to be the nearest value to a root (01-scope.md, Modules 2; IEEE 754-2019, 4.3.1, 5.4.1, 6.3 and 7.2).
+-- The square root of a binary64 value, and what it is to be the nearest value to a root
+-- (01-scope.md, Modules 2; IEEE 754-2019, 4.3.1, 5.4.1, 6.3 and 7.2).
 -- Definitions only.
 use Prim.Native.Nat.{ℕ, zero, suc, _+_, _*_, _/_, _^_, _<_}
 use mathlib.Core.Bool.{true, false, cond}
@@ -9,7 +10,8 @@ use lib.Ieee.Scale.{finite}
 
 -- ---- whole numbers
 
--- the root of an n below 4 ^ d, cut to a whole number: twice the root of n / 4, or one more where the square of that is still no more than n
+-- the root of an n below 4 ^ d, cut to a whole number: twice the root of n / 4, or one more where
+-- the square of that is still no more than n
 unfoldable pub rootIn : ℕ → ℕ → ℕ
 rootIn zero n = 0
 rootIn (suc d) n = let r = 2 * rootIn d (n / 4) in cond (leb (suc r * suc r) n) (suc r) r
@@ -21,13 +23,16 @@ wholeRoot n = rootIn (size n) n
 
 -- ---- values
 
--- The unit is 2 ^ -1074, the least value above zero of binary64. Every finite value of binary64 is a whole number of units, and m * 2 ^ e is this many.
+-- The unit is 2 ^ -1074, the least value above zero of binary64. Every finite value of binary64 is
+-- a whole number of units, and m * 2 ^ e is this many.
 abbrev pub inUnits : ℕ → ℤ → ℕ
 inUnits m e = m * up e * 2 ^ 1074 / down e
 
--- The root of x. A NaN and what is below zero, the infinity there too, give NaN; the infinity above gives itself, and so do +0 and -0.
--- Where x is n units above zero, its root is the root of n * 2 ^ 1074 units. That is cut to whole units and then rounded; cutting changes nothing, since the root has
--- 538 binary digits or more before the point and 53 are kept (`root-nearest` in proofs/Nearest.antt).
+-- The root of x. A NaN and what is below zero, the infinity there too, give NaN; the infinity above
+-- gives itself, and so do +0 and -0.
+-- Where x is n units above zero, its root is the root of n * 2 ^ 1074 units. That is cut to whole
+-- units and then rounded; cutting changes nothing, since the root has 538 binary digits or more
+-- before the point and 53 are kept (`root-nearest` in proofs/Nearest.antt).
 unfoldable pub rootOf : Float → Float
 unfolding wholeRoot round
 rootOf nan = nan
@@ -48,8 +53,10 @@ unitsOf (fin s m e) = inUnits m e
 abbrev pub plusZero : Float
 plusZero = fin false 0 (pos 0)
 
--- Of all values of binary64 r is the nearest to the root of x, and no other is as near, but for the sign of a zero: `rootOf` says which zero comes.
--- Where x is X units its root is the root of X * 2 ^ 1074 units. For each other value, of Y units, the middle between it and r, (R + Y) / 2 units, lies beyond the root.
+-- Of all values of binary64 r is the nearest to the root of x, and no other is as near, but for the
+-- sign of a zero: `rootOf` says which zero comes.
+-- Where x is X units its root is the root of X * 2 ^ 1074 units. For each other value, of Y units,
+-- the middle between it and r, (R + Y) / 2 units, lies beyond the root.
 -- Both sides are doubled and squared, so that only whole numbers are compared.
 pub record NearestRoot (x r : Float) : Type 0 where
   pub held : T (fits binary64 r)

@@ -14,12 +14,14 @@ pub record Normed (t m k : ℕ) : Type 0 where
   pub high : m < 2 ^ 53
   pub few : k ≤ 52
 
--- g is the whole number nearest to the root of n: n lies between the squares of g - 1 / 2 and g + 1 / 2, which are g * g - g + 1 / 4 and g * g + g + 1 / 4
+-- g is the whole number nearest to the root of n: n lies between the squares of g - 1 / 2 and g + 1
+-- / 2, which are g * g - g + 1 / 4 and g * g + g + 1 / 4
 pub record NearRoot (n g : ℕ) : Type 0 where
   pub low : g * g < n + g
   pub high : n ≤ g * g + g
 
--- b is the pattern of the root of m * 2 ^ (e - 2148), which in units of 2 ^ -1074 is the root of m * 2 ^ e
+-- b is the pattern of the root of m * 2 ^ (e - 2148), which in units of 2 ^ -1074 is the root of m
+-- * 2 ^ e
 pub record RootBits (m e b : ℕ) : Type 0 where
   pub fine : T (not (nanBits binary64 b))
   pub is : ofBits binary64 b ≡ round binary64 false (wholeRoot (m * 2 ^ e)) (2 ^ 1074)

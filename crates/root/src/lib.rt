@@ -1,25 +1,21 @@
-// The square root of fmath.rs. Every operation is IEEE 754's on binary64, one rounding each, and all NaNs count as one value.
+// The square root of fmath.rs. Every operation is IEEE 754's on binary64, one rounding each, and
+// all NaNs count as one value.
 //
-// A number above zero is brought to the form a * 2 ^ 52 * 4 ^ k with an a of 53 or 54 binary digits. Its root is 2 ^ k
-// times the root of a * 2 ^ 52, and the whole number g nearest to that has the 53 digits that binary64 keeps.
+// A number above zero is brought to the form a * 2 ^ 52 * 4 ^ k with an a of 53 or 54 binary
+// digits. Its root is 2 ^ k times the root of a * 2 ^ 52, and the whole number g nearest to that
+// has the 53 digits that binary64 keeps.
 // g is guessed in floats, of which nothing is proved, and then moved to its place by exact tests.
-//
-// Bit 63 is the sign, bits 52 to 62 are the exponent field, and bits 0 to 51 are the stored digits.
 ghost use mathlib.Core.Path.{_≡_};
 ghost use Prim.Native.Nat.{_+_, _*_, _/_, _^_, _≤_, _<_};
 ghost use lib.Dec.{leb, ltb};
 ghost use Rattle.root.specs.Root.{rootOf};
 ghost use Rattle.root.specs.Steps.{Normed, NearRoot, RootBits};
+use floats::INF;
+use floats::MINUS_ZERO;
+use floats::PLACE;
 
-// 2 ^ 52: the place of the exponent field, and of the digit that a normal number does not store.
-const PLACE: u64 = 0x10_0000_0000_0000;
-
-// The patterns of 1, of -0, and of the infinity above zero.
+// The pattern of 1.
 const ONE: u64 = 0x3ff0_0000_0000_0000;
-
-const MINUS_ZERO: u64 = 0x8000_0000_0000_0000;
-
-const INF: u64 = 0x7ff0_0000_0000_0000;
 
 struct Moved {
     m: u64,
@@ -40,7 +36,8 @@ fn normed(t: u64) -> Moved
     Moved { m, up }
 }
 
-// x * y / 2 ^ 52, cut to a whole number, from the halves of x and y: the product itself may have 108 binary digits.
+// x * y / 2 ^ 52, cut to a whole number, from the halves of x and y: the product itself may have
+// 108 binary digits.
 fn high(x: u64, y: u64) -> u64
     requires { ⌜ (x ≤ 2 ^ 54) × (y ≤ 2 ^ 54) ⌝ }
     ensures { λ r. ⌜ r ≡ x * y / 2 ^ 52 ⌝ }
@@ -69,10 +66,11 @@ fn too_small(g: u64, a: u64) -> bool
     high(g, g + 1) < a
 }
 
-// A guess at the root of m * 2 ^ (52 + odd), for an m whose top bit is bit 52. x is that number times 2 ^ -104, from 1 up
-// to 4. To take half its pattern from a constant halves the exponent and turns its sign, which is 1 / root but for some
-// hundredths; three steps of Newton's method, and a last one for the root itself, bring it to the last digit or next to
-// it. The promise says only how large it is: whatever it is, `lowered` and `raised` find the right number from there.
+// A guess at the root of m * 2 ^ (52 + odd), for an m whose top bit is bit 52. x is that number
+// times 2 ^ -104, from 1 up to 4. To take half its pattern from a constant halves the exponent and
+// turns its sign, which is 1 / root but for some hundredths; three steps of Newton's method, and a
+// last one for the root itself, bring it to the last digit or next to it. The promise says only how
+// large it is: whatever it is, `lowered` and `raised` find the right number from there.
 fn guess(m: u64, odd: u64) -> u64
     requires { ⌜ odd ≤ 1 ⌝ }
     ensures { λ r. ⌜ (0 < r) × (r ≤ 2 ^ 53) ⌝ }
@@ -127,8 +125,8 @@ fn pattern(m: u64, e: u64) -> u64
     (e / 2 - 26) * PLACE + g
 }
 
-// The square root, rounded to the nearest; of the infinity, of +0 and of -0 the argument itself, and of a NaN and of what
-// is below zero a NaN.
+// The square root, rounded to the nearest; of the infinity, of +0 and of -0 the argument itself,
+// and of a NaN and of what is below zero a NaN.
 pub fn sqrt(x: f64) -> f64
     ensures { λ r. ⌜ r ≡ rootOf x ⌝ }
 {

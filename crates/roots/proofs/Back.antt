@@ -11,7 +11,7 @@ use lib.ListN.{length, length-append}
 use lib.Seq.{take-at, getD-at}
 use Rattle.text.specs.Number.{hexIn, hexDigit}
 use Rattle.roots.specs.declared.Read.the-variants.{Pattern}
-use Rattle.roots.specs.Text.{digitOf, readDigits, readOf}
+use Rattle.roots.specs.Text.{digitOf, readDigits, patternOf}
 use Rattle.roots.proofs.Laws.{hex-length}
 
 low-back : (d : ℕ) → d < 10 → digitOf (48 + d) ≡ d
@@ -48,11 +48,11 @@ hex-back : (b : ℕ) → b < 2 ^ 64 → readDigits 0 (hexIn 16 b) ≡ Pattern b
 unfolding readDigits
 hex-back b h = ap (readDigits 0) (sym (append-nil (hexIn 16 b))) ∙ digits-back 16 b 0 [] h ∙ ap Pattern (zero-add b)
 
-pub reads-back : (b : ℕ) → b < 2 ^ 64 → readOf (hexIn 16 b ++ (10 ∷ [])) ≡ Pattern b
-unfolding readOf
+pub reads-back : (b : ℕ) → b < 2 ^ 64 → patternOf (hexIn 16 b ++ (10 ∷ [])) ≡ Pattern b
+unfolding patternOf
 reads-back b h = go (hexIn 16 b) (hex-length 16 b) (hex-back b h)
   where
-    go : (l : List ℕ) → length l ≡ 16 → readDigits 0 l ≡ Pattern b → readOf (l ++ (10 ∷ [])) ≡ Pattern b
+    go : (l : List ℕ) → length l ≡ 16 → readDigits 0 l ≡ Pattern b → patternOf (l ++ (10 ∷ [])) ≡ Pattern b
     go l k e =
         let n : length (l ++ (10 ∷ [])) ≡ 17 = omega (arith, length-append l (10 ∷ [])) in
         simp (eq-eqb _ _ n, getD-at l 10 [] 0 16 k, take-at l (10 ∷ []) 16 k, e)

@@ -15,11 +15,13 @@ use Rattle.text.specs.declared.Line.{Line}
 use Rattle.text.specs.Ascii.{ascii}
 use Rattle.text.specs.Line.{lineOf}
 use Rattle.text.specs.Number.{hexIn, hexDigit, floatText}
+use Rattle.text.specs.Memory.{Put}
 use Rattle.text.proofs.Lines.{line-text}
+use Rattle.text.proofs.Puts.{put-shows}
 use Rattle.fmath.specs.Root.{rootOf}
 use Rattle.roots.specs.declared.Read.{Read}
 use Rattle.roots.specs.declared.Read.the-variants.{Pattern, Bad}
-use Rattle.roots.specs.Text.{digitOf, readDigits, readOf, rootText, byRead, answerTo, isBad, answers, someBad, lineCount, Put, Answered}
+use Rattle.roots.specs.Text.{digitOf, readDigits, patternOf, rootText, byRead, answerTo, isBad, answers, someBad, lineCount, Answered}
 
 -- ---- reading: the digits of s from the i-th on
 pub digits-on : (s : List ℕ) (i b : ℕ) → length s ≡ 17 → i < 16 → digitOf (getD s i 0) < 16
@@ -48,37 +50,6 @@ value-lt b d i h k = rw (add-one, pow-suc 16 i) (omega arith)
 pub value-small : (b i : ℕ) → b < 16 ^ i → i < 16 → b < 2 ^ 60
 value-small b i h k = let t : 16 ^ i ≤ 16 ^ 15 = pow-le-pow-right {n = 16} (omega arith) {i = i} {j = 15} (omega arith) in omega arith
 
--- ---- writing
--- i bytes of the text are put
-pub record Putting (old : List ℕ) (at : ℕ) (text new : List ℕ) (i : ℕ) : Type 0 where
-  pub few : i ≤ length text
-  pub long : length new ≡ length old
-  pub text-is : take (at + i) new ≡ take at old ++ take i text
-
-pub none-put : (old : List ℕ) (at : ℕ) (text : List ℕ) → Putting old at text old 0
-none-put old at text = record { few = omega arith; long = refl; text-is = rw (add-zero at) (sym (append-nil (take at old))) }
-
-pub one-put : (old : List ℕ) (at : ℕ) (text new : List ℕ) (i : ℕ) → at + length text ≤ length old → i < length text → Putting old at text new i
-    → Putting old at text (set new (at + i) (getD text i 0)) (i + 1)
-one-put old at text new i r h p = record {
-  few = omega arith;
-  long = length-set new (at + i) (getD text i 0) ∙ p .long;
-  text-is =
-      ap (λ (k : ℕ). take k (set new (at + i) (getD text i 0))) (next at i)
-      ∙ take-suc-set new (at + i) (getD text i 0) (omega (arith, p .long))
-      ∙ ap (λ (l : List ℕ). l ++ (getD text i 0 ∷ [])) (p .text-is)
-      ∙ append-assoc (take at old) (take i text) (getD text i 0 ∷ [])
-      ∙ ap (λ (l : List ℕ). take at old ++ l) (sym (take-suc text i 0 h) ∙ ap (λ (k : ℕ). take k text) (sym (add-one i)));
-}
-  where
-    next : (at i : ℕ) → at + (i + 1) ≡ suc (at + i)
-    next at i = omega arith
-
-pub all-put : (old : List ℕ) (at : ℕ) (text new : List ℕ) (i : ℕ) → length text ≤ i → Putting old at text new i → Put old at text new (at + i)
-all-put old at text new i h p =
-    let e : i ≡ length text = omega (arith, p .few) in
-    record { next-is = rw e; text-is = p .text-is ∙ ap (λ (l : List ℕ). take at old ++ l) (take-all i text h) }
-
 -- ---- lengths
 pub hex-length : (k n : ℕ) → length (hexIn k n) ≡ k
 unfolding hexIn
@@ -99,7 +70,7 @@ line-length b = simp length-append (omega (arith, hex-length 16 b, value-length 
 
 pub answer-length : (s : List ℕ) → length (answerTo s) ≤ 34
 unfolding answerTo
-answer-length s = go (readOf s)
+answer-length s = go (patternOf s)
   where
     go : (r : Read) → length (byRead r rootText (ascii "bad line\n")) ≤ 34
     go (Pattern b) = line-length b
@@ -137,7 +108,7 @@ line-is s at = go (leb (at + 17) (length s)) (leb→le (at + 17) (length s)) (nl
     go true f g = ap (λ (k : ℕ). take k (drop at s)) (whole at (length s) (f tt))
     go false f g = let h = g tt in take-all (min (at + 17) (length s) - at) (drop at s) (omega (arith, length-drop at s)) ∙ sym (take-all 17 (drop at s) (omega (arith, length-drop at s)))
 
-module _ (s old new : List ℕ) (at n : ℕ) (h : at < length s) (w : Answering s old new at n) (new' : List ℕ) (n' : ℕ) (long : length new' ≡ length new) (p : Put new n (answerTo (take 17 (drop at s))) new' n') where
+module _ (s old new : List ℕ) (at n : ℕ) (h : at < length s) (w : Answering s old new at n) (new' : List ℕ) (n' : ℕ) (long : length new' ≡ length new) (p : Put new n (answerTo (take 17 (drop at s))) n' new') where
   abbrev rest : List ℕ
   rest = answers (lineCount (drop (at + 17) s)) (drop (at + 17) s)
 
@@ -162,7 +133,10 @@ module _ (s old new : List ℕ) (at n : ℕ) (h : at < length s) (w : Answering 
   first-bad = rw (one-less, ← next)
 
   room : n' + lineCount (drop (at + 17) s) * 34 ≤ length new'
-  room = omega (arith, w .room, p .next-is, one-less, answer-length line)
+  room = omega (arith, w .room, p .ends, one-less, answer-length line)
+
+  shown : take n' new' ≡ take n new ++ answerTo line
+  shown = put-shows new n (answerTo line) n' new' (omega (arith, w .room)) p
 
   pub one-answered : isBad line ≡ false → Answering s old new' (at + 17) n'
   one-answered e = record {
@@ -172,7 +146,7 @@ module _ (s old new : List ℕ) (at n : ℕ) (h : at < length s) (w : Answering 
         w .text-is
         ∙ ap (λ (l : List ℕ). take n new ++ l) (first ∙ ap (λ (b : Bool). answerTo line ++ cond b [] rest) e)
         ∙ sym (append-assoc (take n new) (answerTo line) rest)
-        ∙ ap (λ (l : List ℕ). l ++ rest) (sym (p .text-is));
+        ∙ ap (λ (l : List ℕ). l ++ rest) (sym shown);
     bad-is = w .bad-is ∙ first-bad ∙ ap (λ (b : Bool). cond b true rest-bad) e;
   }
 
@@ -180,7 +154,7 @@ module _ (s old new : List ℕ) (at n : ℕ) (h : at < length s) (w : Answering 
   bad-answered e = record {
     counts = (omega (arith, room), sym (length-take-le n' new' (omega (arith, room))));
     text-is =
-        p .text-is
+        shown
         ∙ ap (λ (l : List ℕ). take n new ++ l) (sym (append-nil (answerTo line)) ∙ ap (λ (b : Bool). answerTo line ++ cond b [] rest) (sym e) ∙ sym first)
         ∙ sym (w .text-is);
     bad-is = sym (w .bad-is ∙ first-bad ∙ ap (λ (b : Bool). cond b true rest-bad) e);

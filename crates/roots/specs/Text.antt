@@ -13,6 +13,18 @@ use Rattle.fmath.specs.Root.{rootOf}
 use Rattle.roots.specs.declared.Read.{Read}
 use Rattle.roots.specs.declared.Read.the-variants.{Pattern, Bad}
 
+-- ---- sizes
+
+-- the bytes of a line, those of an answer at most, and the lines that a turn takes at most
+abbrev pub lineBytes : ℕ
+lineBytes = 17
+
+abbrev pub answerBytes : ℕ
+answerBytes = 34
+
+abbrev pub turnLines : ℕ
+turnLines = 240
+
 -- ---- reading
 
 -- the value of a hexadecimal digit, `0` to `9` or `a` to `f`, and 16 for any other byte
@@ -26,9 +38,9 @@ readDigits v [] = Pattern v
 readDigits v (c ∷ cs) = cond (ltb (digitOf c) 16) (readDigits (v * 16 + digitOf c) cs) Bad
 
 -- a line is 16 digits and a newline
-unfoldable pub readOf : List ℕ → Read
+unfoldable pub patternOf : List ℕ → Read
 unfolding readDigits
-readOf s = cond (eqb (length s) 17) (cond (eqb (getD s 16 0) 10) (readDigits 0 (take 16 s)) Bad) Bad
+patternOf s = cond (eqb (length s) lineBytes) (cond (eqb (getD s 16 0) 10) (readDigits 0 (take 16 s)) Bad) Bad
 
 -- ---- writing
 
@@ -44,34 +56,29 @@ byRead Bad f a = a
 
 -- the answer to one line
 unfoldable pub answerTo : List ℕ → List ℕ
-unfolding readOf rootText
-answerTo s = byRead (readOf s) rootText (ascii "bad line\n")
+unfolding patternOf rootText
+answerTo s = byRead (patternOf s) rootText (ascii "bad line\n")
 
 unfoldable pub isBad : List ℕ → Bool
-unfolding readOf
-isBad s = byRead (readOf s) (λ b. false) true
+unfolding patternOf
+isBad s = byRead (patternOf s) (λ b. false) true
 
--- the answers to k lines of 17 bytes, up to the first bad one
+-- the answers to k lines of their length, up to the first bad one
 unfoldable pub answers : ℕ → List ℕ → List ℕ
 unfolding answerTo isBad
 answers zero s = []
-answers (suc k) s = answerTo (take 17 s) ++ cond (isBad (take 17 s)) [] (answers k (drop 17 s))
+answers (suc k) s = answerTo (take lineBytes s) ++ cond (isBad (take lineBytes s)) [] (answers k (drop lineBytes s))
 
 unfoldable pub someBad : ℕ → List ℕ → Bool
 unfolding isBad
 someBad zero s = false
-someBad (suc k) s = cond (isBad (take 17 s)) true (someBad k (drop 17 s))
+someBad (suc k) s = cond (isBad (take lineBytes s)) true (someBad k (drop lineBytes s))
 
 -- how many lines there are in s, a part of one at the end counting as one
 abbrev pub lineCount : List ℕ → ℕ
-lineCount s = (length s + 16) / 17
+lineCount s = (length s + 16) / lineBytes
 
--- `text` was put at the place `at` of `old`, which gave `new`, and `next` is the place behind it
-pub record Put (old : List ℕ) (at : ℕ) (text new : List ℕ) (next : ℕ) : Type 0 where
-  pub next-is : next ≡ at + length text
-  pub text-is : take next new ≡ take at old ++ text
-
--- the answers to the bytes s stand at the start of `out`, n bytes of them
+-- the answers to the bytes s are at the start of `out`, n bytes of them
 pub record Answered (s out : List ℕ) (n : ℕ) (bad : Bool) : Type 0 where
   pub counts : Counts n out
   pub text-is : take n out ≡ answers (lineCount s) s

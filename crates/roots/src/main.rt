@@ -1,17 +1,26 @@
-// Reads patterns of binary64 from standard input, one to a line of 16 lower-case hexadecimal digits, and writes each with
-// its square root: the pattern, a space, the pattern of `fmath::sqrt`'s result (`nan` for every NaN), a newline.
-// At a line that is no such text it writes `bad line` and stops.
+// Reads patterns of binary64, one to a line of 16 lower-case hexadecimal digits, and writes each
+// with its square root: the pattern, a space, the pattern of the root (`nan` for every NaN), a
+// newline. At a line that is no such text it writes `bad line` and stops.
 ghost use mathlib.Core.Path.{_≡_};
 ghost use Prim.Native.Nat.{_+_, _*_, _≤_};
 ghost use lib.ListN.{length};
-ghost use Rattle.text.specs.Line.{lineOf, pushOf};
-ghost use Rattle.text.specs.Number.{hexIn};
-ghost use Rattle.roots.specs.Text.{digitOf, readOf, rootText, answerTo, isBad, lineCount, Put, Answered};
+ghost use Rattle.text.specs.Line.{lineOf};
+ghost use Rattle.text.specs.Memory.{Put};
+ghost use Rattle.roots.specs.Text.{lineBytes, answerBytes, turnLines, digitOf, patternOf, rootText, answerTo, isBad, lineCount, Answered};
 use lictor_core::num::least;
 use text::Line;
 use text::empty;
+use text::memory::put;
 use text::push;
 use text::push_float;
+use text::push_hex;
+
+// The bytes of a line, those of an answer at most, and the lines that a turn takes at most.
+const LINE_BYTES: usize = 17;
+
+const ANSWER: usize = 34;
+
+const MOST_LINES: usize = 240;
 
 // ---- reading
 
@@ -41,37 +50,28 @@ fn digit(c: u8) -> u8
 
 // What a line says, its newline included.
 fn read_line(s: &[u8]) -> Read
-    ensures { λ r. ⌜ r ≡ readOf (now (s .entry)) ⌝ }
+    ensures { λ r. ⌜ r ≡ patternOf (now (s .entry)) ⌝ }
 {
-    if s.len() != 17 {
+    if s.len() != LINE_BYTES {
         return Read::Bad;
     }
     if s[16] != b'\n' {
         return Read::Bad;
     }
-    let mut b: u64 = 0;
+    let mut pattern: u64 = 0;
     let mut i: usize = 0;
     while i < 16 {
         let d = digit(s[i]);
         if d > 15 {
             return Read::Bad;
         }
-        b = b * 16 + d as u64;
+        pattern = pattern * 16 + d as u64;
         i += 1;
     }
-    Read::Pattern(b)
+    Read::Pattern(pattern)
 }
 
 // ---- writing
-
-// The 16 hexadecimal digits of a pattern behind a line.
-fn push_hex(l: Line, b: u64) -> Line
-    ensures { λ r. ⌜ r ≡ pushOf l (hexIn 16 b) ⌝ }
-{
-    let mut digits = [0u8; 16];
-    let k = io::hex(b, 16, &mut digits);
-    push(l, &digits[..k])
-}
 
 // The line for a pattern.
 fn root_line(b: u64) -> Line
@@ -82,23 +82,10 @@ fn root_line(b: u64) -> Line
     push(push_float(l, root), b"\n")
 }
 
-// Puts a text at a place of out, and answers the place behind it.
-fn put(out: &mut [u8], at: usize, text: &[u8]) -> usize
-    requires { ⌜ at + length (now text) ≤ length (now out) ⌝ }
-    ensures { λ r. ⌜ Put (now (out .entry)) at (now (text .entry)) (now (out .exit)) r ⌝ }
-{
-    let mut i: usize = 0;
-    while i < text.len() {
-        out[at + i] = text[i];
-        i += 1;
-    }
-    at + i
-}
-
 // Puts the line for a pattern.
 fn put_root(out: &mut [u8], at: usize, b: u64) -> usize
-    requires { ⌜ at + 34 ≤ length (now out) ⌝ }
-    ensures { λ r. ⌜ Put (now (out .entry)) at (rootText b) (now (out .exit)) r ⌝ }
+    requires { ⌜ at + answerBytes ≤ length (now out) ⌝ }
+    ensures { λ r. ⌜ Put (now (out .entry)) at (rootText b) r (now (out .exit)) ⌝ }
 {
     let l = root_line(b);
     let text = l.text;
@@ -114,8 +101,8 @@ struct Done {
 }
 
 fn answer_line(s: &[u8], out: &mut [u8], at: usize) -> Done
-    requires { ⌜ at + 34 ≤ length (now out) ⌝ }
-    ensures { λ r. ⌜ Put (now (out .entry)) at (answerTo (now (s .entry))) (now (out .exit)) (r .n) × (r .bad ≡ isBad (now (s .entry))) ⌝ }
+    requires { ⌜ at + answerBytes ≤ length (now out) ⌝ }
+    ensures { λ r. ⌜ Put (now (out .entry)) at (answerTo (now (s .entry))) (r .n) (now (out .exit)) × (r .bad ≡ isBad (now (s .entry))) ⌝ }
 {
     match read_line(s) {
         Read::Pattern(b) => Done {
@@ -131,40 +118,46 @@ fn answer_line(s: &[u8], out: &mut [u8], at: usize) -> Done
 
 // Answers the lines of s, up to the first that is bad, at the start of out.
 fn answer(s: &[u8], out: &mut [u8]) -> Done
-    requires { ⌜ lineCount (now s) * 34 ≤ length (now out) ⌝ }
+    requires { ⌜ lineCount (now s) * answerBytes ≤ length (now out) ⌝ }
     ensures { λ r. ⌜ Answered (now (s .entry)) (now (out .exit)) (r .n) (r .bad) ⌝ }
 {
     let mut at: usize = 0;
-    let mut n: usize = 0;
+    let mut written: usize = 0;
     while at < s.len() {
-        let e = least(at + 17, s.len());
-        let d = answer_line(&s[at..e], out, n);
-        let bad = d.bad;
-        n = d.n;
+        let end = least(at + LINE_BYTES, s.len());
+        let done = answer_line(&s[at..end], out, written);
+        let bad = done.bad;
+        written = done.n;
         if bad {
-            return Done { n, bad: true };
+            return Done {
+                n: written,
+                bad: true,
+            };
         }
-        at += 17;
+        at += LINE_BYTES;
     }
-    Done { n, bad: false }
+    Done {
+        n: written,
+        bad: false,
+    }
 }
 
 // ---- the program
 
-// Room for 240 lines, and for their answers.
-fn line_space() -> [u8; 4080]
-    ensures { λ r. ⌜ 4080 ≡ length r ⌝ }
+// Room for the lines of a turn, and for their answers.
+fn line_space() -> [u8; MOST_LINES * LINE_BYTES]
+    ensures { λ r. ⌜ turnLines * lineBytes ≡ length r ⌝ }
 {
-    [0; 4080]
+    [0; MOST_LINES * LINE_BYTES]
 }
 
-fn answer_space() -> [u8; 8160]
-    ensures { λ r. ⌜ 8160 ≡ length r ⌝ }
+fn answer_space() -> [u8; MOST_LINES * ANSWER]
+    ensures { λ r. ⌜ turnLines * answerBytes ≡ length r ⌝ }
 {
-    [0; 8160]
+    [0; MOST_LINES * ANSWER]
 }
 
-// Reads and answers up to 240 lines, and says whether to go on.
+// Reads and answers up to MOST_LINES lines, and says whether to go on.
 fn turn() -> bool {
     let mut lines = line_space();
     let n = io::read_full(0, &mut lines);
@@ -172,9 +165,9 @@ fn turn() -> bool {
         return false;
     }
     let mut out = answer_space();
-    let d = answer(&lines[..n], &mut out);
-    let k = d.n;
-    let bad = d.bad;
+    let done = answer(&lines[..n], &mut out);
+    let k = done.n;
+    let bad = done.bad;
     let is_written = io::write_all(1, &out[..k]);
     if bad {
         return false;
@@ -182,7 +175,7 @@ fn turn() -> bool {
     is_written
 }
 
-// Nothing says that the input ends, so the turns are counted down, from a number that no run uses up.
+// Nothing says that the input ends, so turns are counted down from a number that none uses up.
 fn main() {
     let mut turns = u64::MAX;
     while turns > 0 && turn() {

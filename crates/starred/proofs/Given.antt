@@ -1,36 +1,11 @@
 -- The definitions give every starred case: the table is computed from end to end.
 use mathlib.Core.Path.{_≡_, refl}
-use mathlib.Core.List.{List, map}
-use Rattle.fmath.specs.Float.{minOf, maxOf, clampOf, allFinite, addSquares, normOf}
-use Rattle.fmath.specs.Root.{rootIn, wholeRoot, rootOf}
-use Rattle.lictor_core.specs.Codes.{modeOf, kindOf, clampModeOf, rearmOf, decisionOf}
-use Rattle.lictor_core.specs.Initial.{zeros, emptyTally, freshControl, freshMotion, freshClock, newOf, resetOf}
-use Rattle.lictor_core.specs.Masks.{anyOf}
-use Rattle.lictor_core.specs.Rows.{rowTo}
-use Rattle.lictor_settings.specs.Settings.{badCode, badSize, badFloat, anyBelow, crossedOf, badBox, settingsTable, firstRow, checkOf, configOf}
-use Rattle.lictor_brake.specs.Brake.{component, boxedComponent, boxedRow, scaledComponent, scaledRow, boxedAction, scaledAction, eps, brakeFactor, brakeAction, holdAction}
-use Rattle.lictor_detect.specs.Window.{bitOf, pushOf, hitsOf, tripOf}
-use Rattle.lictor_delivery.specs.Delivery.{deliveredOf, sizesBad, placeBad, headBad, deliveryBad}
-use Rattle.lictor_guard.specs.Guard.{nonFinite, lengthsOf, shapeBad, clockBad, schemaBad, bitIf, guardOf}
-use Rattle.lictor_table.specs.Consumed.{consumedOf}
-use Rattle.lictor_table.specs.Helpers.{faultReason, clampReason, armedReason, acceptedBy, acceptedAck, consumeNonce, latchedOf, latchHold, countIf, upIf, isClean, countRun, settledOf}
-use Rattle.lictor_table.specs.Rows.{faultRow, rearmAck, resumeRow, terminateRow, timeoutRow, waitRow, waitingOf, escalatedOf, mayRearm, rearmRow, escalateRow, holdRow, holdingOf, heldOf, confirmedOf, standstillRow, stoppingRow, brakingOf, enterBraking, brakeRow, unclampableOf, overBudget, clampRow, clearedOf, clearRow, watchedOf, quietOf, runningOf, byFrom, transitionOf, nextByRows}
-use Rattle.lictor_table.specs.Table.{firstOf, table, nextFrom, nextOf}
-use Rattle.lictor_tally.specs.History.{recorded}
-use Rattle.lictor_tally.specs.Tally.{count, bitOf as bitOf·lictor_tally, countBit, eachFrom, countBits, first, firstReason, mostAt, mostLive, recordOf, recordChunk}
-use Rattle.lictor_act.specs.Act.{statusOf, sourceOf, cutRow, passedOf, insteadOf, enforcedOf, byMode, actOf}
-use Rattle.lictor_ingest.specs.Ingest.{takenRow, stepRate, ratesRow, stillRow, velocityOf, ingestOf, isFit, withPos, faultMotion}
-use Rattle.lictor_stages.specs.Judge.{withBrake, maskedOf, warnOf, slowOf, standstillOf, chunkOk, scoredOf, judgeOf, machineInput, faultInput}
-use Rattle.lictor_verdict.specs.Verdict.{liveValid, scoresOf, disarmedScores, actionDim, enteredOf, handoffOf, hasAck, consumedFlag, verdictOf, faultVerdict, eventsOf, noEvents, rejectedOf}
-use Rattle.lictor_decide.specs.Decide.{closedOf, nextChunk, cleanClock, readyOf, chunkTally, closeClean, cleanTick, faultClock, closeFault, faultTick, decideBy, decideOf}
-use Rattle.lictor_fuse.specs.Tick.{noVerdict, refusedTick, givenOf, acceptedTick, tickBy, tickOf}
-use Rattle.report.specs.Lines.{marginText, tickText, stoppedOf, endText, refusedText}
-use Rattle.margin.specs.Margin.{nearestWhole, marginOf}
-use Rattle.text.specs.Number.{decimalIn, signedOf}
-use lib.Ieee.{add, sub, mul, div, lt, le, eq, ofBits, toBits, round, isNan}
-use lib.Count.{ones}
-use Rattle.starred.specs.Starred.{starred, one, limits, settings, started, outcome, input, ackOf, tick, bit, ending, answered, clamping, acceptance, afterClamp}
+use mathlib.Core.List.{map}
+use Rattle.starred.proofs.Opened.{tick-opened}
+use Rattle.starred.specs.Starred.{starred, rowLimits, started, rowAck, rowTickAt, rowTick, bit, ending, endingNonce, clamping, acceptance, usualLimits, afterClamp}
 
 pub given : map (λ c. c .gives) starred ≡ map (λ c. c .wanted) starred
-unfolding minOf maxOf clampOf allFinite addSquares normOf rootIn wholeRoot rootOf modeOf kindOf clampModeOf rearmOf decisionOf zeros emptyTally freshControl freshMotion freshClock newOf resetOf anyOf rowTo badCode badSize badFloat anyBelow crossedOf badBox settingsTable firstRow checkOf configOf component boxedComponent boxedRow scaledComponent scaledRow boxedAction scaledAction eps brakeFactor brakeAction holdAction bitOf pushOf hitsOf tripOf deliveredOf nonFinite lengthsOf shapeBad sizesBad placeBad headBad deliveryBad clockBad schemaBad bitIf guardOf consumedOf faultReason clampReason armedReason acceptedBy acceptedAck consumeNonce latchedOf latchHold countIf upIf isClean countRun settledOf faultRow rearmAck resumeRow terminateRow timeoutRow waitRow waitingOf escalatedOf mayRearm rearmRow escalateRow holdRow holdingOf heldOf confirmedOf standstillRow stoppingRow brakingOf enterBraking brakeRow unclampableOf overBudget clampRow clearedOf clearRow watchedOf quietOf runningOf byFrom transitionOf nextByRows firstOf table nextFrom nextOf recorded count bitOf·lictor_tally countBit eachFrom countBits first firstReason mostAt mostLive recordOf recordChunk statusOf sourceOf cutRow passedOf insteadOf enforcedOf byMode actOf takenRow stepRate ratesRow stillRow velocityOf ingestOf isFit withPos faultMotion withBrake maskedOf warnOf slowOf standstillOf chunkOk scoredOf judgeOf machineInput faultInput liveValid scoresOf disarmedScores actionDim enteredOf handoffOf hasAck consumedFlag verdictOf faultVerdict eventsOf noEvents rejectedOf closedOf nextChunk cleanClock readyOf chunkTally closeClean cleanTick faultClock closeFault faultTick decideBy decideOf noVerdict refusedTick givenOf acceptedTick tickBy tickOf marginText tickText stoppedOf endText refusedText nearestWhole marginOf decimalIn signedOf add sub mul div lt le eq ofBits toBits round isNan ones one limits settings started outcome input ackOf tick bit ending answered clamping acceptance afterClamp starred
+unfolding
+    tick-opened rowLimits started rowAck rowTickAt rowTick bit ending endingNonce clamping acceptance
+    usualLimits afterClamp starred
 given = refl

@@ -1,2 +1,3 @@
 -- The theorem of the table.
 pub mod Given
+pub mod Opened

@@ -1,44 +1,40 @@
--- The starred cases (01-scope.md, What a contract says, and the cases): rows of one table. A row has what the definitions give and what they should give, as numbers.
--- Cases of a tick go through `tickOf`, the definition that `tick` promises. A case of the paper brings no guard bit and no trip but those that it names.
+-- The starred cases (01-scope.md, What a contract says, and the cases): rows of one table.
+-- A row has what the definitions give and what they should give, as numbers.
+-- Cases of a tick go through `tickOf`, the definition that `tick` promises.
+-- A case of the paper brings no guard bit and no trip but those that it names.
 use mathlib.Core.Bool.{Bool, true, false, cond}
 use mathlib.Core.List.{List, [], _∷_}
 use Prim.Native.Nat.{ℕ}
-use lib.IntN.{pos}
-use lib.ListN.{getD, set}
-use lib.Ieee.{Float, nan, inf, fin, binary64, ofBits, toBits}
+use lib.ListN.{getD}
+use lib.Ieee.{Float, nan, inf, binary64, ofBits, toBits}
 use Rattle.fmath.specs.Root.{rootOf}
 use Rattle.margin.specs.Margin.{marginOf}
 use Rattle.report.specs.Lines.{marginText}
 use Rattle.text.specs.Ascii.{ascii}
 use Rattle.lictor_core.specs.declared.ack.AckDecision.{AckDecision}
-use Rattle.lictor_core.specs.declared.ack.AckDecision.the-variants.{Resume, Abort, Retune}
+use Rattle.lictor_core.specs.declared.ack.AckDecision.the-variants.{Resume, Retune}
 use Rattle.lictor_core.specs.declared.ack.MaybeAck.{MaybeAck}
 use Rattle.lictor_core.specs.declared.ack.MaybeAck.the-variants.{NoAck, Given}
 use Rattle.lictor_core.specs.declared.ack.VerifiedAck.{VerifiedAck}
 use Rattle.lictor_core.specs.declared.chunk.MaybeChunk.the-variants.{NoChunk}
 use Rattle.lictor_core.specs.declared.envelope.Hysteresis.{Hysteresis}
-use Rattle.lictor_core.specs.declared.envelope.Settings.{Settings}
-use Rattle.lictor_core.specs.declared.fuse.Control.{Control}
 use Rattle.lictor_core.specs.declared.fuse.FuseRt.{FuseRt}
-use Rattle.lictor_core.specs.declared.fuse.TickInput.{TickInput}
-use Rattle.lictor_core.specs.declared.outcome.Outcome.{Outcome}
 use Rattle.lictor_core.specs.declared.state.FuseState.{FuseState}
 use Rattle.lictor_core.specs.declared.state.FuseState.the-variants.{Armed, Braking, Held, Escalated, Terminated}
 use Rattle.lictor_core.specs.Codes.{stateCode, reasonCode}
-use Rattle.lictor_core.specs.Initial.{zeroFloat, zeros, newOf, resetOf}
+use Rattle.lictor_core.specs.Initial.{zeroFloat, oneFloat, newOf, resetOf}
+use Rattle.samples.specs.Samples.{sampleSettings, sampleOutcome, sampleInput}
 use Rattle.lictor_table.specs.Helpers.{acceptedBy}
-use Rattle.lictor_fuse.specs.declared.tick.Ticked.{Ticked}
+use Rattle.lictor_fuse.specs.declared.Ticked.{Ticked}
 use Rattle.lictor_fuse.specs.Tick.{tickOf}
 
 -- ---- what the rows are made of
 
-unfoldable pub one : Float
-one = fin false 1 (pos 0)
-
--- The limits that rows name: the clamp limit, the brake limit B and the handoff limit E. The others are out of the way: one hit is predictive and none comes,
--- the streak's limit is far, standstill is confirmed at once, H is 5, and no tick may be missed.
-unfoldable pub limits : ℕ → ℕ → ℕ → Hysteresis
-limits clamps b e = record {
+-- The limits that rows name: the clamp limit, the brake limit B and the handoff limit E.
+-- The others are out of the way: one hit is predictive and none comes, the streak's limit is far,
+-- standstill is confirmed at once, H is 5, and no tick may be missed.
+unfoldable pub rowLimits : ℕ → ℕ → ℕ → Hysteresis
+rowLimits clamps b e = record {
   k = 1;
   «warn_margin» = zeroFloat;
   «clear_ticks» = 9;
@@ -54,29 +50,7 @@ limits clamps b e = record {
   «watchdog_ticks» = 0;
 }
 
--- Enforce, EePosition, clamping on, AckOnly, one component
-unfoldable pub settings : Hysteresis → Settings
-settings h = record {
-  mode = 1;
-  kind = 0;
-  clamp = 1;
-  rearm = 1;
-  dim = 1;
-  «pos_dim» = 1;
-  horizon = 1;
-  exec = 1;
-  dt = one;
-  «inv_dt» = one;
-  «a_max» = one;
-  «box_lo» = zeros 8;
-  «box_hi» = zeros 8;
-  hyst = h;
-  «window_mask» = 1;
-  «tier0_enabled» = 63;
-  calib = record { mask = 0; tau = zeroFloat };
-}
-
--- after the reset, the control group in the given state and with the given count of clamps, and a chunk taken
+-- after the reset, but in the given state, with the given count of clamps, and a chunk taken
 unfoldable pub started : FuseState → ℕ → FuseRt
 started s n = record {
   control = record {
@@ -101,28 +75,20 @@ started s n = record {
   tally = resetOf newOf .tally;
 }
 
--- an outcome with these trips, feasible, and no score
-unfoldable pub outcome : ℕ → Outcome
-outcome trips = record {
-  trips = trips;
-  «clamped_dims» = 0;
-  feasible = true;
-  margin = zeroFloat;
-  scores = record { z = zeros 12; s = inf true; valid = 0; fired = 0 };
-  policy = zeros 8;
-  clamped = zeros 8;
-}
+unfoldable pub rowAck : AckDecision → ℕ → ℕ → VerifiedAck
+rowAck d slot nonce = record { decision = d; «operator_slot» = slot; nonce = nonce; «handoff_seq» = 0 }
 
--- a tick at t, after `missed` ticks, with this acknowledgement
-unfoldable pub input : ℕ → ℕ → MaybeAck → TickInput
-input t missed ack = record { t = t; idx = 0; «missed_ticks» = missed; «schema_fault» = false; «has_vel» = false; chunk = NoChunk; ack = ack }
+-- the tick after rt at t, after `missed` ticks, with this acknowledgement, these trips, one
+-- position
+unfoldable pub rowTickAt : Float → Hysteresis → FuseRt → ℕ → ℕ → MaybeAck → ℕ → Ticked
+rowTickAt x limits rt t missed ack trips =
+    let settings = sampleSettings limits 1 63 oneFloat in
+    tickOf settings rt (sampleInput t missed false NoChunk ack) (sampleOutcome trips true (inf true))
+    (x ∷ []) [] [] [] []
 
-unfoldable pub ackOf : AckDecision → ℕ → ℕ → VerifiedAck
-ackOf d slot nonce = record { decision = d; «operator_slot» = slot; nonce = nonce; «handoff_seq» = 0 }
-
--- the tick after rt, with one position value
-unfoldable pub tick : Hysteresis → FuseRt → ℕ → ℕ → MaybeAck → ℕ → Ticked
-tick h rt t missed ack trips = tickOf (settings h) rt (input t missed ack) (outcome trips) (zeroFloat ∷ []) [] [] [] []
+-- the same at position 0
+unfoldable pub rowTick : Hysteresis → FuseRt → ℕ → ℕ → MaybeAck → ℕ → Ticked
+rowTick limits rt t missed ack trips = rowTickAt zeroFloat limits rt t missed ack trips
 
 -- ---- what a row looks at
 
@@ -134,8 +100,9 @@ unfoldable pub ending : Ticked → List ℕ
 ending r = stateCode (r .verdict .state) ∷ r .verdict .trips ∷ reasonCode (r .verdict .reason) ∷ []
 
 -- its state, its reason, and the nonce stored for slot 3
-unfoldable pub answered : Ticked → List ℕ
-answered r = stateCode (r .verdict .state) ∷ reasonCode (r .verdict .reason) ∷ getD (r .rt .control .«last_nonce») 3 0 ∷ []
+unfoldable pub endingNonce : Ticked → List ℕ
+endingNonce r =
+    stateCode (r .verdict .state) ∷ reasonCode (r .verdict .reason) ∷ getD (r .rt .control .«last_nonce») 3 0 ∷ []
 
 -- its state and the count of clamps
 unfoldable pub clamping : Ticked → List ℕ
@@ -155,36 +122,40 @@ infix 70 _is_
 abbrev pub _is_ : List ℕ → List ℕ → Case
 _is_ g w = record { gives = g; wanted = w }
 
+-- the limits of most rows
+unfoldable pub usualLimits : Hysteresis
+usualLimits = rowLimits 2 5 5
+
 -- the tick after a soft trip at the clamp limit
 unfoldable pub afterClamp : FuseRt
-afterClamp = tick (limits 2 5 5) (started Armed 2) 0 0 NoAck 1 .rt
+afterClamp = rowTick usualLimits (started Armed 2) 0 0 NoAck 1 .rt
 
 unfoldable pub starred : List Case
 starred =
     -- the handoff limit 0, and nobody answers
-    ending (tick (limits 2 5 0) (started Escalated 0) 0 0 NoAck 0) is (8 ∷ 4096 ∷ 25 ∷ [])
+    ending (rowTick (rowLimits 2 5 0) (started Escalated 0) 0 0 NoAck 0) is (8 ∷ 4096 ∷ 25 ∷ [])
     -- a nonce of 0 while held: nothing is stored and the fuse stays held
-    ∷ acceptance (ackOf Resume 3 0) is (0 ∷ [])
-    ∷ answered (tick (limits 2 5 5) (started Held 0) 0 0 (Given (ackOf Resume 3 0)) 0) is (5 ∷ 13 ∷ 0 ∷ [])
+    ∷ acceptance (rowAck Resume 3 0) is (0 ∷ [])
+    ∷ endingNonce (rowTick usualLimits (started Held 0) 0 0 (Given (rowAck Resume 3 0)) 0) is (5 ∷ 13 ∷ 0 ∷ [])
     -- the last slot there is, and the one past it
-    ∷ acceptance (ackOf Resume 7 1) is (1 ∷ [])
-    ∷ acceptance (ackOf Resume 8 1) is (0 ∷ [])
+    ∷ acceptance (rowAck Resume 7 1) is (1 ∷ [])
+    ∷ acceptance (rowAck Resume 8 1) is (0 ∷ [])
     -- a Retune in each of the two states that take acknowledgements
-    ∷ answered (tick (limits 2 5 5) (started Escalated 0) 0 0 (Given (ackOf Retune 3 1)) 0) is (8 ∷ 26 ∷ 1 ∷ [])
-    ∷ answered (tick (limits 2 5 5) (started Held 0) 0 0 (Given (ackOf Retune 3 1)) 0) is (5 ∷ 13 ∷ 0 ∷ [])
+    ∷ endingNonce (rowTick usualLimits (started Escalated 0) 0 0 (Given (rowAck Retune 3 1)) 0) is (8 ∷ 26 ∷ 1 ∷ [])
+    ∷ endingNonce (rowTick usualLimits (started Held 0) 0 0 (Given (rowAck Retune 3 1)) 0) is (5 ∷ 13 ∷ 0 ∷ [])
     -- a clamp at the clamp limit, and the tick after it
-    ∷ clamping (tick (limits 2 5 5) (started Armed 2) 0 0 NoAck 1) is (3 ∷ 3 ∷ [])
-    ∷ ending (tick (limits 2 5 5) afterClamp 1 0 NoAck 0) is (4 ∷ 2048 ∷ 11 ∷ [])
+    ∷ clamping (rowTick usualLimits (started Armed 2) 0 0 NoAck 1) is (3 ∷ 3 ∷ [])
+    ∷ ending (rowTick usualLimits afterClamp 1 0 NoAck 0) is (4 ∷ 2048 ∷ 11 ∷ [])
     -- the same with limit and count at the end of the counter
-    ∷ clamping (tick (limits 65535 5 5) (started Armed 65535) 0 0 NoAck 1) is (3 ∷ 65535 ∷ [])
+    ∷ clamping (rowTick (rowLimits 65535 5 5) (started Armed 65535) 0 0 NoAck 1) is (3 ∷ 65535 ∷ [])
     -- the brake limit 0, with the arm at a standstill
-    ∷ ending (tick (limits 2 0 5) (started Braking 0) 0 0 NoAck 0) is (7 ∷ 16384 ∷ 20 ∷ [])
+    ∷ ending (rowTick (rowLimits 2 0 5) (started Braking 0) 0 0 NoAck 0) is (7 ∷ 16384 ∷ 20 ∷ [])
     -- a watchdog fault after the end: found by the guard, and brought by the outcome
-    ∷ ending (tick (limits 2 5 5) (started Terminated 0) 0 1 NoAck 0) is (7 ∷ 512 ∷ 19 ∷ [])
-    ∷ ending (tick (limits 2 5 5) (started Terminated 0) 0 0 NoAck 512) is (7 ∷ 512 ∷ 19 ∷ [])
-    -- all three fault bits: found by the guard (a NaN, t not 0, one tick missed), and brought by the outcome
-    ∷ ending (tickOf (settings (limits 2 5 5)) (started Armed 0) (input 7 1 NoAck) (outcome 0) (nan ∷ []) [] [] [] []) is (7 ∷ 896 ∷ 17 ∷ [])
-    ∷ ending (tick (limits 2 5 5) (started Armed 0) 0 0 NoAck 896) is (7 ∷ 896 ∷ 17 ∷ [])
+    ∷ ending (rowTick usualLimits (started Terminated 0) 0 1 NoAck 0) is (7 ∷ 512 ∷ 19 ∷ [])
+    ∷ ending (rowTick usualLimits (started Terminated 0) 0 0 NoAck 512) is (7 ∷ 512 ∷ 19 ∷ [])
+    -- all three fault bits: by the guard (a NaN, t not 0, one tick missed), and by the outcome
+    ∷ ending (rowTickAt nan usualLimits (started Armed 0) 7 1 NoAck 0) is (7 ∷ 896 ∷ 17 ∷ [])
+    ∷ ending (rowTick usualLimits (started Armed 0) 0 0 NoAck 896) is (7 ∷ 896 ∷ 17 ∷ [])
     -- the root of 2.25, by its bits
     ∷ (toBits binary64 (rootOf (ofBits binary64 0x4002_0000_0000_0000)) ∷ []) is (0x3ff8_0000_0000_0000 ∷ [])
     -- an exact half of a millimetre, above zero and below

@@ -3,3 +3,4 @@ pub mod Lines
 pub mod Digits
 pub mod Signs
 pub mod Lists
+pub mod Puts

@@ -1,4 +1,4 @@
--- What is pushed behind the line of some bytes is the line of both.
+-- What is pushed after the line of some bytes is the line of both.
 use Prim.Native.Nat.{ℕ, suc, _+_, _-_, _≤_, _<_, min}
 use mathlib.Core.Path.{_≡_, refl, sym, ap, _∙_}
 use mathlib.Core.List.{List, [], _∷_, _++_, append-nil, append-assoc}

@@ -3,3 +3,4 @@ pub mod Ascii
 pub mod Line
 pub mod Number
 pub mod Commas
+pub mod Memory

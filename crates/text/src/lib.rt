@@ -1,32 +1,38 @@
-// Lines of text, built by value: every function takes a line and returns the line with more behind it. A line holds 256 bytes; what comes after is dropped.
+// Lines of text, built by value: a function takes a line and returns it with more after it.
+// What comes after LINE bytes is dropped.
+pub mod memory; // text put into lent memory
+
 ghost use mathlib.Core.Path.{_≡_};
 ghost use mathlib.Core.List.{[]};
 ghost use lib.IntN.{natAbs};
 ghost use Rattle.text.specs.Line.{lineOf, pushOf};
-ghost use Rattle.text.specs.Number.{decimalOf, signedOf, floatText};
+ghost use Rattle.text.specs.Number.{decimalOf, signedOf, hexIn, floatText};
 ghost use Rattle.text.specs.Commas.{commaAt, numbersText, floatsText};
+
+// The bytes that a line has room for.
+pub const LINE: usize = 256;
 
 // The first n bytes are the line's, the others are zero.
 pub struct Line {
-    pub text: [u8; 256],
+    pub text: [u8; LINE],
     pub n: usize,
 }
 
 pub fn empty() -> Line
     ensures { λ r. ⌜ r ≡ lineOf [] ⌝ }
 {
-    let text = [0; 256];
+    let text = [0; LINE];
     Line { text, n: 0 }
 }
 
-// The bytes b behind the line; a full line stays as it is.
+// The bytes b after the line; a full line stays as it is.
 pub fn push(mut l: Line, b: &[u8]) -> Line
     ensures { λ r. ⌜ r ≡ pushOf l (now (b .entry)) ⌝ }
 {
     let mut i: usize = 0;
     while i < b.len() {
         let n = l.n;
-        if n < 256 {
+        if n < LINE {
             l.text[n] = b[i];
             l.n = n + 1;
         }
@@ -69,6 +75,15 @@ pub fn push_signed(l: Line, z: i32) -> Line
     }
 }
 
+// The 16 hexadecimal digits of a pattern.
+pub fn push_hex(l: Line, b: u64) -> Line
+    ensures { λ r. ⌜ r ≡ pushOf l (hexIn 16 b) ⌝ }
+{
+    let mut digits = [0u8; 16];
+    let k = io::hex(b, 16, &mut digits);
+    push(l, &digits[..k])
+}
+
 // The bits of a float as 16 hexadecimal digits, every NaN as `nan`.
 pub fn push_float(l: Line, x: f64) -> Line
     ensures { λ r. ⌜ r ≡ pushOf l (floatText x) ⌝ }
@@ -76,9 +91,7 @@ pub fn push_float(l: Line, x: f64) -> Line
     if x != x {
         return push(l, b"nan");
     }
-    let mut digits = [0u8; 16];
-    let k = io::hex(f64::to_bits(x), 16, &mut digits);
-    push(l, &digits[..k])
+    push_hex(l, f64::to_bits(x))
 }
 
 // A comma, but not before the first element of a list.
@@ -104,7 +117,7 @@ pub fn push_floats(mut l: Line, xs: &[f64]) -> Line
     l
 }
 
-fn wide(x: u32) -> u64
+pub fn wide(x: u32) -> u64
     ensures { λ r. ⌜ r ≡ x ⌝ }
 {
     x as u64

@@ -1,4 +1,5 @@
-// As `fuse`, and after each line `tick` every field of the verdict, the run state and the tally, one `name=value` a line.
+// As `fuse`, and after each line `tick` every field of the verdict, the run state and the tally,
+// one `name=value` a line.
 fn main() {
-    console::play(render::TRACE);
+    console::play(report::render::TRACE);
 }

@@ -1,6 +1,6 @@
 //! The cases of 01-scope.md on the Rust: whether it does what the paper says of them.
 //!
-//!     cases [unstarred]
+//!     cases [--rule NAME ..] [unstarred]
 //!
 //! Prints one line for each case; the exit status is 1 if the Rust answers otherwise than the paper. `cases unstarred`
 //! prints what the program `cases` of the repository prints: it is stored there, and replayed by the tests.
@@ -83,7 +83,14 @@ fn text(journal: &[u8]) -> String {
 }
 
 fn main() -> ExitCode {
-    if std::env::args().nth(1).is_some_and(|what| what == "unstarred") {
+    let words = match oracle::words() {
+        Ok(words) => words,
+        Err(what) => {
+            eprintln!("cases: {what}");
+            return ExitCode::from(2);
+        }
+    };
+    if words.first().is_some_and(|what| what == "unstarred") {
         print!("{}", unstarred());
         return ExitCode::SUCCESS;
     }

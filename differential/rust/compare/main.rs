@@ -15,13 +15,16 @@
 //!     --prefixes     compare every prefix of the files
 //!     --write D      write the journals to a folder instead of comparing
 //!     --show         print the files in words instead of comparing
-//!     --list         list the profiles
+//!     --rule R       the reference follows this rule of rust/rules where it has one that the Rust has not (may be repeated)
+//!     --leave-out F  these fields of the trace are not compared: names as in the trace, with commas (may be repeated)
+//!     --list         list the profiles and the rules
 //! The exit status is 0 if nothing differs, 1 if something does, 2 for anything else.
 
 mod shrink;
 mod subject;
 
 use std::{
+    cell::Cell,
     fs, io,
     path::PathBuf,
     process::ExitCode,
@@ -31,7 +34,8 @@ use std::{
 use coverage::Coverage;
 use generate::profiles::{named, Often, Profile, PROFILES};
 use oracle::{answer::Program, journal::Unobserved, records::describe};
-use subject::{Difference, Subject};
+use rules::RULES;
+use subject::{Difference, Field, Subject};
 
 struct Options {
     subjects: Vec<Subject>,
@@ -47,6 +51,7 @@ struct Options {
     prefixes: bool,
     write: Option<PathBuf>,
     show: bool,
+    left_out: Vec<String>,
     files: Vec<PathBuf>,
 }
 
@@ -65,9 +70,10 @@ fn options() -> Result<Options, String> {
         prefixes: false,
         write: None,
         show: false,
+        left_out: Vec::new(),
         files: Vec::new(),
     };
-    let mut args = std::env::args().skip(1);
+    let mut args = oracle::words()?.into_iter();
     while let Some(arg) = args.next() {
         let mut value = || args.next().ok_or(format!("{arg} needs a value"));
         let number = |text: String| text.parse().map_err(|_| format!("{text} is no number"));
@@ -89,8 +95,10 @@ fn options() -> Result<Options, String> {
             "--prefixes" => given.prefixes = true,
             "--write" => given.write = Some(value()?.into()),
             "--show" => given.show = true,
+            "--leave-out" => given.left_out.extend(value()?.split(',').map(String::from)),
             "--list" => {
                 PROFILES.iter().for_each(|p| println!("{:16} {}", p.name, p.what));
+                RULES.iter().for_each(|(_, name, what)| println!("--rule {name}: {what}"));
                 std::process::exit(0);
             }
             other if other.starts_with("--") => return Err(format!("unknown option {other}")),
@@ -100,6 +108,10 @@ fn options() -> Result<Options, String> {
     if given.profiles.is_empty() {
         given.profiles = PROFILES.iter().collect();
     }
+    for subject in &mut given.subjects {
+        subject.left_out =
+            given.left_out.iter().map(|name| Field { name: name.clone(), lines: Cell::new(0) }).collect();
+    }
     if given.subjects.is_empty() && given.write.is_none() && !given.show {
         return Err("nothing to compare: give --fuse or --trace".into());
     }
@@ -107,7 +119,7 @@ fn options() -> Result<Options, String> {
 }
 
 fn subject(program: Program, command: &str) -> Subject {
-    Subject { program, command: command.split_whitespace().map(String::from).collect() }
+    Subject { program, command: command.split_whitespace().map(String::from).collect(), left_out: Vec::new() }
 }
 
 fn main() -> ExitCode {
@@ -118,7 +130,9 @@ fn main() -> ExitCode {
             return ExitCode::from(2);
         }
     };
-    let mut run = Run { given, coverage: Coverage::new(), bytes: 0, differences: 0, started: Instant::now() };
+    let started = Instant::now();
+    let mut run =
+        Run { given, coverage: Coverage::new(), bytes: 0, applied: [0; RULES.len()], differences: 0, started };
     match run.everything() {
         Ok(()) if run.differences == 0 => ExitCode::SUCCESS,
         Ok(()) => ExitCode::from(1),
@@ -133,6 +147,8 @@ struct Run {
     given: Options,
     coverage: Coverage,
     bytes: u64,
+    /// in how many journals each rule gave something else than the Rust
+    applied: [u64; RULES.len()],
     differences: u64,
     started: Instant,
 }
@@ -192,10 +208,13 @@ impl Run {
         }
         self.bytes += journal.len() as u64;
         self.coverage.begin();
+        rules::forget();
         for (i, subject) in self.given.subjects.iter().enumerate() {
-            // The coverage is counted once for each journal.
+            // The coverage and the rules are counted once for each journal.
             let found = if i == 0 {
-                subject.compare(journal, &mut self.coverage)?
+                let found = subject.compare(journal, &mut self.coverage)?;
+                self.applied.iter_mut().zip(RULES).for_each(|(n, (rule, ..))| *n += u64::from(rules::applied(rule)));
+                found
             } else {
                 subject.compare(journal, &mut Unobserved)?
             };
@@ -242,6 +261,21 @@ impl Run {
         } else {
             self.coverage.print(&mut io::stdout().lock(), self.given.all)?;
             self.coverage.missing().iter().for_each(|what| println!("missing: {what}"));
+        }
+        for ((rule, name, _), n) in RULES.iter().zip(self.applied) {
+            if rules::on(*rule) {
+                println!(
+                    "rule {name}: applied in {n} of {} journals, the others as the Rust is",
+                    self.coverage.journals
+                );
+            }
+        }
+        for (i, name) in self.given.left_out.iter().enumerate() {
+            let lines: u64 = self.given.subjects.iter().map(|subject| subject.left_out[i].lines.get()).sum();
+            if lines == 0 {
+                return Err(io::Error::other(format!("no line to leave out: the programs print no field {name}")));
+            }
+            println!("left out: {name} in {lines} lines");
         }
         println!(
             "{} ticks in {} journals of {} bytes, {} programs, {seconds:.1} s ({:.0} ticks/s), {} differences",

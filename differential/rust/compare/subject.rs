@@ -1,6 +1,7 @@
 //! Runs a program on a journal and compares what it prints with the reference, line by line.
 
 use std::{
+    cell::Cell,
     io::{self, Read, Write},
     process::{Command, Stdio},
     sync::mpsc::{self, RecvTimeoutError},
@@ -13,10 +14,23 @@ use oracle::{
     journal::{Observer, Unobserved},
 };
 
-/// A program under comparison: what it should print, and its command with arguments.
+/// A program under comparison: what it should print, its command with arguments, and what is not compared.
 pub struct Subject {
     pub program: Program,
     pub command: Vec<String>,
+    pub left_out: Vec<Field>,
+}
+
+/// A field of the trace that is left out on both sides, and how many lines of the program that were.
+pub struct Field {
+    pub name: String,
+    pub lines: Cell<u64>,
+}
+
+impl Field {
+    fn has(&self, line: &[u8]) -> bool {
+        line.strip_prefix(self.name.as_bytes()).is_some_and(|rest| rest.starts_with(b"="))
+    }
 }
 
 /// The first line that is not as the reference has it.
@@ -92,15 +106,22 @@ impl Subject {
         let mut at = 0;
         let mut equal = 0;
         let mut buffer = vec![0; 1 << 16];
+        let (mut come, mut kept) = (Vec::new(), Vec::new());
         loop {
             let n = stdout.read(&mut buffer)?;
             alive();
             let mut got = &buffer[..n];
+            if !self.left_out.is_empty() {
+                come.extend_from_slice(got);
+                kept.clear();
+                self.keep(&mut come, &mut kept, n == 0);
+                got = &kept;
+            }
             loop {
                 while at == expected.len() {
                     expected.clear();
                     at = 0;
-                    if !answer.step(&mut expected, observer) {
+                    if !self.step(&mut answer, &mut expected, observer) {
                         break;
                     }
                 }
@@ -123,6 +144,30 @@ impl Subject {
         }
     }
 
+    /// Moves the whole lines of `come` that are compared to `kept`, and at the end the part of a line that is left.
+    fn keep(&self, come: &mut Vec<u8>, kept: &mut Vec<u8>, end: bool) {
+        let whole = if end { come.len() } else { come.iter().rposition(|b| *b == b'\n').map_or(0, |i| i + 1) };
+        for line in come[..whole].split_inclusive(|b| *b == b'\n') {
+            match self.left_out.iter().find(|field| field.has(line)) {
+                Some(field) => field.lines.set(field.lines.get() + 1),
+                None => kept.extend_from_slice(line),
+            }
+        }
+        come.drain(..whole);
+    }
+
+    /// One more record of the reference's answer, without what is left out.
+    fn step(&self, answer: &mut Answer, out: &mut Vec<u8>, observer: &mut impl Observer) -> bool {
+        if self.left_out.is_empty() {
+            return answer.step(out, observer);
+        }
+        let mut all = Vec::new();
+        let more = answer.step(&mut all, observer);
+        let compared = |line: &&[u8]| !self.left_out.iter().any(|field| field.has(line));
+        all.split_inclusive(|b| *b == b'\n').filter(compared).for_each(|line| out.extend_from_slice(line));
+        more
+    }
+
     /// The line at so many bytes into the reference's answer; `got` is what came instead of the rest.
     fn locate(&self, journal: &[u8], equal: usize, got: &[u8]) -> Difference {
         let mut text = Vec::new();
@@ -134,7 +179,7 @@ impl Subject {
             dropped += text.len();
             lines += text.iter().filter(|b| **b == b'\n').count();
             text.clear();
-            if !answer.step(&mut text, &mut Unobserved) {
+            if !self.step(&mut answer, &mut text, &mut Unobserved) {
                 break;
             }
         }

@@ -20,7 +20,7 @@ fn repeat(draft: &mut Draft, rng: &Rng, ticks: usize, change: impl Fn(&mut Plan,
 
 fn resume(draft: &Draft) -> Option<Ack> {
     let rt = draft.rt();
-    Some(Ack { decision: 0, slot: 7, nonce: rt.last_nonce[7] + 1, handoff: rt.handoff_seq })
+    Some(Ack { decision: 0, slot: 7, nonce: rt.last_nonce[7].saturating_add(1), handoff: rt.handoff_seq })
 }
 
 /// 255 clamped chunks in a row; 254 ticks of standstill; more than 255 Resumes, from Held and from Escalated; more

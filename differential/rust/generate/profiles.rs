@@ -429,7 +429,7 @@ const EVENTS: [fn(&mut Plan, &Draft, &Rng); 11] = [
 /// An acknowledgement that can be accepted now.
 fn fresh(draft: &Draft) -> Ack {
     let rt = draft.rt();
-    Ack { decision: 0, slot: 3, nonce: rt.last_nonce[3] + 1, handoff: rt.handoff_seq }
+    Ack { decision: 0, slot: 3, nonce: rt.last_nonce[3].saturating_add(1), handoff: rt.handoff_seq }
 }
 
 fn triples(rng: &Rng) -> Vec<Vec<u8>> {

@@ -8,6 +8,7 @@ use lictor_fuse::{
     fuse::{decide, FuseRt, TickInput},
     tally::Tally,
 };
+use rules::Rule;
 
 use crate::records::*;
 
@@ -153,7 +154,11 @@ impl Journal {
             }
             RESET => {
                 observer.reset(self.waiting());
+                let nonces = self.rt.last_nonce;
                 self.rt.reset(EpisodeInit { episode_index: 0, seed: 0, delay_steps: 0, exec: ExecMode::Sync });
+                if nonces != self.rt.last_nonce && rules::applies(Rule::ResetKeepsNonces) {
+                    self.rt.last_nonce = nonces;
+                }
                 self.empty();
             }
             ACK => self.ack = Some(Ack::read(body)),

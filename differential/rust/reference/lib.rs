@@ -6,3 +6,14 @@ pub mod answer;
 pub mod journal;
 pub mod lines;
 pub mod records;
+
+use rules::Rule;
+
+/// `rules::words`, and whether the Rust that this is linked with can follow the rules.
+pub fn words() -> Result<Vec<String>, String> {
+    let words = rules::words()?;
+    if rules::on(Rule::MaxIgnoresNan) && lictor_core::fmath::max(0.0, f64::NAN).is_nan() {
+        return Err("this was built without the rules (build.py --fast)".into());
+    }
+    Ok(words)
+}

@@ -1,10 +1,10 @@
 //! The reference program.
 //!
-//!     reference [fuse|trace] < journal
+//!     reference [--rule NAME ..] [fuse|trace] < journal
 //!     reference root|margin < doubles
 //!
 //! Prints what `fuse` or `trace` prints for a journal. `root` and `margin` take doubles, 16 hexadecimal digits a line, and
-//! print each with its square root (by its bits) or with its margin text.
+//! print each with its square root (by its bits) or with its margin text. `--rule` turns a rule of rust/rules on.
 
 use std::{
     io::{self, Read, Write},
@@ -18,8 +18,14 @@ use oracle::{
 };
 
 fn main() -> ExitCode {
-    let what = std::env::args().nth(1).unwrap_or("fuse".into());
-    let done = match what.as_str() {
+    let words = match oracle::words() {
+        Ok(words) => words,
+        Err(what) => {
+            eprintln!("reference: {what}");
+            return ExitCode::from(2);
+        }
+    };
+    let done = match words.first().map_or("fuse", String::as_str) {
         "fuse" => journal(Program::Fuse),
         "trace" => journal(Program::Trace),
         "root" => doubles(|out, x| lines::float(out, lictor_core::fmath::sqrt(x))),

@@ -1,11 +1,12 @@
 //! Makes sample journals and the reference's answers to them, to be stored and replayed where there is no Rust.
 //!
-//!     sample DIR [BYTES [TRACE]]
+//!     sample [--rule NAME ..] DIR [BYTES [TRACE]]
 //!
 //! BYTES is the most that a sample journal may have (150000). Each sample runs under one settings record, since a journal
 //! takes no second one; so there is one for each of a few settings. From many random episodes those are taken that reach
 //! the most points of the coverage for their length. The sample `trace` is the one that the tests replay: its trace has at
 //! most TRACE bytes (280000), and it is an error if it misses a state or a reason. `speed` is an ordinary run to measure by.
+//! `--rule` turns a rule of rust/rules on.
 
 use std::{fs, io, path::Path, process::ExitCode};
 
@@ -166,10 +167,16 @@ fn journal(settings: &Settings, rng: &Rng, most: Most) -> Vec<u8> {
         let gain = |e: &Episode| e.reached.iter().enumerate().map(new).sum::<usize>();
         let fits = |e: &Episode| bytes.len() + e.bytes.len() <= most.bytes && trace + e.trace <= most.trace;
         episodes.retain(|e| fits(e) && gain(e) > 0);
-        let Some(best) = episodes.iter().max_by_key(|e| gain(e) * 1_000_000 / e.trace) else {
+        let worth_most = (0..episodes.len()).max_by_key(|i| gain(&episodes[*i]) * 1_000_000 / episodes[*i].trace);
+        let Some(best) = worth_most.map(|i| episodes.remove(i)) else {
             return bytes;
         };
-        bytes.extend_from_slice(&best.bytes);
+        // With nonces that a reset keeps, an episode can go otherwise after the others than by itself.
+        let longer = [bytes.as_slice(), &best.bytes].concat();
+        if best.reached.iter().zip(covered(&longer).reached()).any(|(alone, after)| *alone && !after) {
+            continue;
+        }
+        bytes = longer;
         trace += best.trace;
         have.iter_mut().zip(&best.reached).for_each(|(h, r)| *h |= r);
     }
@@ -248,13 +255,12 @@ fn refusals(folder: &Path) -> io::Result<()> {
 }
 
 fn main() -> ExitCode {
-    let mut args = std::env::args().skip(1);
-    let Some(folder) = args.next() else {
-        eprintln!("usage: sample DIR [BYTES [TRACE]]");
-        return ExitCode::from(2);
-    };
-    let mut number = |default| args.next().and_then(|text| text.parse().ok()).unwrap_or(default);
-    match make(Path::new(&folder), number(150_000), number(280_000)) {
+    let made = oracle::words().and_then(|words| {
+        let number = |at: usize, default| words.get(at).and_then(|text| text.parse().ok()).unwrap_or(default);
+        let folder = words.first().ok_or("usage: sample [--rule NAME ..] DIR [BYTES [TRACE]]")?;
+        make(Path::new(folder), number(1, 150_000), number(2, 280_000)).map_err(|what| what.to_string())
+    });
+    match made {
         Ok(()) => ExitCode::SUCCESS,
         Err(what) => {
             eprintln!("sample: {what}");

@@ -1,9 +1,10 @@
 //! Checks the edits of fuse.rs: runs the unedited file with its own detectors and sizes on random ticks, writes what the
 //! detectors answered as outcome records, and asks the reference for the same trace of that journal.
 //!
-//!     unedited COMMAND SEEDS [FIRST]
+//!     unedited [--rule NAME ..] COMMAND SEEDS [FIRST]
 //!
-//! COMMAND is the program that gets the journals (`reference trace`).
+//! COMMAND is the program that gets the journals (`reference trace`). Of the rules in rust/rules, reset-keeps-nonces is followed
+//! here too; max-ignores-nan is not, since no number that it is about turns NaN in these journals.
 
 // These stand on no crate, or on the published ones here; not all of them is used.
 #[path = "../generate/floats.rs"]
@@ -45,13 +46,13 @@ struct Seen {
 }
 
 fn main() -> ExitCode {
-    let args: Vec<String> = std::env::args().collect();
+    let args = rules::words().unwrap_or_default();
     let number = |at: usize| args.get(at).and_then(|text| text.parse::<u64>().ok());
-    let (Some(command), Some(seeds)) = (args.get(1), number(2)) else {
-        eprintln!("usage: unedited COMMAND SEEDS [FIRST]");
+    let (Some(command), Some(seeds)) = (args.first(), number(1)) else {
+        eprintln!("usage: unedited [--rule NAME ..] COMMAND SEEDS [FIRST]");
         return ExitCode::from(2);
     };
-    let first = number(3).unwrap_or(1);
+    let first = number(2).unwrap_or(1);
     let mut seen = Seen::default();
     for seed in first..first + seeds {
         let (journal, trace) = episode(seed, &mut seen);
@@ -127,7 +128,11 @@ fn episode(seed: u64, seen: &mut Seen) -> (Vec<u8>, Vec<u8>) {
     world.settings().write(&mut journal);
     for _ in 0..200 {
         if world.ends_episode(&rt, &rng) {
+            let nonces = rt.last_nonce;
             rt.reset(EpisodeInit { episode_index: 0, seed, delay_steps: 0, exec: ExecMode::Sync });
+            if rules::applies(rules::Rule::ResetKeepsNonces) {
+                rt.last_nonce = nonces;
+            }
             journal.push(records::RESET);
             world.reset();
         }

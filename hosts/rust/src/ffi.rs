@@ -1,4 +1,4 @@
-//! The types and functions of the static library, as hosts/disklorva.h has them. Field names, order and types are those of crates/host_layout, crates/host_state and crates/host_c.
+//! The types and functions of the static library, as hosts/disklorva.h has them. Field names, order and types are those of crates/host_layout and crates/host_c.
 
 /// A struct in the layout of C, with a list of its fields for the tests of the layout.
 macro_rules! record {

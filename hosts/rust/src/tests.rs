@@ -68,12 +68,12 @@ fn layout_is_the_stored_one() {
     assert_eq!(layout(), include_str!("../../layout.txt"));
 }
 
-/// The structs of crates/host_layout, crates/host_state and crates/host_c that are in the layout of C, field by field.
+/// The structs of crates/host_layout and crates/host_c that are in the layout of C, field by field.
 #[test]
 fn types_are_those_of_the_library() {
     let source = [
         include_str!("../../../crates/host_layout/src/input.rt"),
-        include_str!("../../../crates/host_state/src/lib.rt"),
+        include_str!("../../../crates/host_layout/src/state.rt"),
         include_str!("../../../crates/host_layout/src/verdict.rt"),
         include_str!("../../../crates/host_c/src/lib.rt"),
     ]
@@ -185,7 +185,7 @@ fn what_is_given_is_only_read() {
     }
 }
 
-/// A flag that is neither 0 nor 1 is read to the safe side.
+/// A flag that is neither 0 nor 1 gives the safe choice.
 #[test]
 fn odd_flags_are_safe() {
     let input = Input {

@@ -1,13 +1,15 @@
+use mathlib.Core.Path.{_≡_}
 use Prim.Native.Nat.{_≤_, _-_}
+use lib.ListN.{length}
 use borrow.Author.Needs.{needs}
 use Rattle.cases.proofs.at_end.Statement.{statement}
 use Rattle.cases.proofs.at_end.Tie as tie
 
 abbrev Inv-loop : tie.InvT-loop
-Inv-loop missed i₀ i = i ≤ 8
+Inv-loop out missed i₀ left i = (i ≤ 8) × (length left ≡ length out)
 
 abbrev μ-loop : tie.MeasureT-loop
-μ-loop missed i₀ i = 8 - i
+μ-loop out missed i₀ left i = 8 - i
 
 loop-holds : tie.Need-loop-holds Inv-loop μ-loop
 loop-holds c = search needs
@@ -30,6 +32,9 @@ loop-less c = search needs
 loop-again : tie.Need-loop-again Inv-loop μ-loop
 loop-again c = search needs
 
+same-length : tie.Need-same-length Inv-loop μ-loop
+same-length c = c .before .loop .inv .1
+
 returns : tie.Need-returns Inv-loop μ-loop
 returns c = search needs
 
@@ -46,4 +51,5 @@ at-end-spec =
     add-i
     loop-less
     loop-again
+    same-length
     returns)

@@ -42,7 +42,21 @@ push-requires-4 c κs = search needs
 
 returns : tie.Need-returns
 unfolding nameText
-returns c = simp (c .push4 .ensures, c .before .before .push-number3 .ensures, c .before .before .before .push3 .ensures, c .before .before .before .before .before .push-number2 .ensures, c .before .before .before .before .before .before .push2 .ensures, c .before .before .before .before .before .before .before .before .push-number .ensures, c .before .before .before .before .before .before .before .before .before .push .ensures, c .before .before .before .before .before .before .before .before .before .before .before .empty .ensures, push-line)
+returns c =
+    let third = c .before .before in
+    let second = third .before .before .before in
+    let first = second .before .before .before in
+    simp (
+      c .push4 .ensures,
+      third .push-number3 .ensures,
+      third .before .push3 .ensures,
+      second .push-number2 .ensures,
+      second .before .push2 .ensures,
+      first .push-number .ensures,
+      first .before .push .ensures,
+      first .before .before .before .empty .ensures,
+      push-line,
+    )
 
 pub named-spec : {M : Type 1} → statement M
 named-spec =

@@ -1,4 +1,3 @@
-use Rattle.cases.specs.Cases.{outcome}
 use lib.Ieee.{ofBits}
 use borrow.Author.Needs.{needs}
 use Rattle.cases.proofs.outcome.Statement.{statement}
@@ -14,7 +13,7 @@ no-row-requires-2 : tie.Need-no-row-requires-2
 no-row-requires-2 c κs = search needs
 
 returns : tie.Need-returns
-unfolding outcome ofBits
+unfolding ofBits
 returns c = cc
 
 pub outcome-spec : {M : Type 1} → statement M

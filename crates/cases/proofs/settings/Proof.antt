@@ -1,4 +1,4 @@
-use Rattle.cases.specs.Cases.{settings}
+use Rattle.cases.specs.Cases.{clockSettings}
 use lib.Ieee.{ofBits}
 use borrow.Author.Needs.{needs}
 use Rattle.cases.proofs.settings.Statement.{statement}
@@ -14,7 +14,7 @@ no-row-requires-2 : tie.Need-no-row-requires-2
 no-row-requires-2 c κs = search needs
 
 returns : tie.Need-returns
-unfolding settings ofBits
+unfolding clockSettings ofBits
 returns c = cc
 
 pub settings-spec : {M : Type 1} → statement M

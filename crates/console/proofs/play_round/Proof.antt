@@ -25,7 +25,10 @@ same-length-2 c = search needs
 
 returns : tie.Need-returns
 unfolding roundOf
-returns c = rw (c .round-of .ensures) (round-full _ _ _ _ _ _ _ _ (c .before .before .before .before .before .before .before .take-in .ensures) _ (length-take-le _ _ (c .before .before .before .before .before .before .before .before .before .before .before .before .before .pre .0)) _ (c .before .before .before .before .before .before .before .before .before .before .before .before .before .pre .2) (omega (arith, taken-within _ _ _ _ _ _ _ _ (c .before .before .before .before .before .before .before .take-in .ensures) _ (length-take-le _ _ (c .before .before .before .before .before .before .before .before .before .before .before .before .before .pre .0)), c .before .before .before .before .before .before .before .before .before .before .before .before .before .pre .0, c .before .before .before .before .before .before .before .take-in .kept .1 .1 .1 .1 .0)) (c .before .if1 .taken))
+returns c =
+    let start = c .before .before .before .before .before .before .before .before .before .before .before .before .before in
+    let taken = c .before .before .before .before .before .before .before .take-in in
+    rw (c .round-of .ensures) (round-full _ _ _ _ _ _ _ _ (taken .ensures) _ (length-take-le _ _ (start .pre .0)) _ (start .pre .2) (omega (arith, taken-within _ _ _ _ _ _ _ _ (taken .ensures) _ (length-take-le _ _ (start .pre .0)), start .pre .0, taken .kept .1 .1 .1 .1 .0)) (c .before .if1 .taken))
 
 round-of-requires-2 : tie.Need-round-of-requires-2
 round-of-requires-2 c κs = search needs
@@ -38,7 +41,10 @@ same-length-4 c = search needs
 
 returns-2 : tie.Need-returns-2
 unfolding roundOf
-returns-2 c = rw (c .round-of2 .ensures) (round-over _ _ _ _ _ _ _ _ (c .before .before .before .before .before .before .before .before .before .take-in .ensures) _ (length-take-le _ _ (c .before .before .before .before .before .before .before .before .before .before .before .before .before .before .before .pre .0)) _ (c .before .before .before .before .before .before .before .before .before .before .before .before .before .before .before .pre .2) (omega (arith, taken-within _ _ _ _ _ _ _ _ (c .before .before .before .before .before .before .before .before .before .take-in .ensures) _ (length-take-le _ _ (c .before .before .before .before .before .before .before .before .before .before .before .before .before .before .before .pre .0)), c .before .before .before .before .before .before .before .before .before .before .before .before .before .before .before .pre .0, c .before .before .before .before .before .before .before .before .before .take-in .kept .1 .1 .1 .1 .0)) (c .before .before .before .if1 .left))
+returns-2 c =
+    let start = c .before .before .before .before .before .before .before .before .before .before .before .before .before .before .before in
+    let taken = c .before .before .before .before .before .before .before .before .before .take-in in
+    rw (c .round-of2 .ensures) (round-over _ _ _ _ _ _ _ _ (taken .ensures) _ (length-take-le _ _ (start .pre .0)) _ (start .pre .2) (omega (arith, taken-within _ _ _ _ _ _ _ _ (taken .ensures) _ (length-take-le _ _ (start .pre .0)), start .pre .0, taken .kept .1 .1 .1 .1 .0)) (c .before .before .before .if1 .left))
 
 round-of-requires-3 : tie.Need-round-of-requires-3
 round-of-requires-3 c κs = search needs
@@ -51,10 +57,16 @@ same-length-6 c = search needs
 
 returns-3 : tie.Need-returns-3
 unfolding roundOf
-returns-3 c = rw (c .round-of3 .ensures) (round-over _ _ _ _ _ _ _ _ (c .before .before .before .before .before .before .before .before .before .before .take-in .ensures) _ (length-take-le _ _ (c .before .before .before .before .before .before .before .before .before .before .before .before .before .before .before .before .pre .0)) _ (c .before .before .before .before .before .before .before .before .before .before .before .before .before .before .before .before .pre .2) (omega (arith, taken-within _ _ _ _ _ _ _ _ (c .before .before .before .before .before .before .before .before .before .before .take-in .ensures) _ (length-take-le _ _ (c .before .before .before .before .before .before .before .before .before .before .before .before .before .before .before .before .pre .0)), c .before .before .before .before .before .before .before .before .before .before .before .before .before .before .before .before .pre .0, c .before .before .before .before .before .before .before .before .before .before .take-in .kept .1 .1 .1 .1 .0)) (c .before .before .before .before .if1 .left))
+returns-3 c =
+    let start = c .before .before .before .before .before .before .before .before .before .before .before .before .before .before .before .before in
+    let taken = c .before .before .before .before .before .before .before .before .before .before .take-in in
+    rw (c .round-of3 .ensures) (round-over _ _ _ _ _ _ _ _ (taken .ensures) _ (length-take-le _ _ (start .pre .0)) _ (start .pre .2) (omega (arith, taken-within _ _ _ _ _ _ _ _ (taken .ensures) _ (length-take-le _ _ (start .pre .0)), start .pre .0, taken .kept .1 .1 .1 .1 .0)) (c .before .before .before .before .if1 .left))
 
 read-on-requires : tie.Need-read-on-requires
-read-on-requires c κs = omega (arith, left-short _ _ _ _ _ _ _ _ (c .before .before .before .before .before .before .before .before .before .before .take-in .ensures) _ (length-take-le _ _ (c .before .before .before .before .before .before .before .before .before .before .before .before .before .before .before .before .pre .0)) (c .before .before .before .before .if1 .left) (c .before .before .if2 .left), c .before .before .before .before .before .before .before .before .before .before .before .before .before .before .before .before .pre .1, c .before .before .before .before .before .before .before .before .before .before .take-in .kept .1 .1 .1 .1 .0)
+read-on-requires c κs =
+    let start = c .before .before .before .before .before .before .before .before .before .before .before .before .before .before .before .before in
+    let taken = c .before .before .before .before .before .before .before .before .before .before .take-in in
+    omega (arith, left-short _ _ _ _ _ _ _ _ (taken .ensures) _ (length-take-le _ _ (start .pre .0)) (c .before .before .before .before .if1 .left) (c .before .before .if2 .left), start .pre .1, taken .kept .1 .1 .1 .1 .0)
 
 sub-round-of : tie.Need-sub-round-of
 sub-round-of c = search needs
@@ -72,7 +84,9 @@ returns-4 : tie.Need-returns-4
 unfolding roundOf
 returns-4 c =
     let b = c .before .before .before .read-on .kept .0 ∙ c .before .before .before .before .before .before .before .before .before .before .before .before .before .before .take-in .kept .1 .1 .1 .1 .0 ∙ sym (c .before .before .before .before .before .before .before .before .before .before .before .before .before .before .before .before .before .before .before .before .pre .1) in
-    rw (c .round-of4 .ensures) (round-read _ _ _ _ _ _ _ _ (c .before .before .before .before .before .before .before .before .before .before .before .before .before .before .take-in .ensures) _ (length-take-le _ _ (c .before .before .before .before .before .before .before .before .before .before .before .before .before .before .before .before .before .before .before .before .pre .0)) _ (omega (arith, c .before .before .before .before .before .if3 .left)) (c .before .before .before .before .before .before .before .before .if1 .left) _ _ b (c .before .before .before .read-on .ensures) _ (λ y. ltb-false _ _ y))
+    let start = c .before .before .before .before .before .before .before .before .before .before .before .before .before .before .before .before .before .before .before .before in
+    let taken = c .before .before .before .before .before .before .before .before .before .before .before .before .before .before .take-in in
+    rw (c .round-of4 .ensures) (round-read _ _ _ _ _ _ _ _ (taken .ensures) _ (length-take-le _ _ (start .pre .0)) _ (omega (arith, c .before .before .before .before .before .if3 .left)) (c .before .before .before .before .before .before .before .before .if1 .left) _ _ b (c .before .before .before .read-on .ensures) _ (λ y. ltb-false _ _ y))
 
 pub play-round-spec : {M : Type 1} → statement M
 play-round-spec =

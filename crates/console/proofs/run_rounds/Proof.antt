@@ -5,6 +5,7 @@ use native.Mathlib.Omega.{arith}
 use lib.ListN.{length}
 use lib.Seq.{length-take-le}
 use borrow.Author.Needs.{needs}
+use Rattle.console.specs.Console.{bufferRoom}
 use Rattle.console.proofs.Runs.{bounds, Come, come-first, come-on, come-end, round-less}
 use Rattle.console.proofs.run_rounds.Statement.{statement}
 use Rattle.console.proofs.run_rounds.Tie as tie
@@ -13,7 +14,7 @@ abbrev Inv-loop : tie.InvT-loop
 Inv-loop code lists₀ buf₀ out₀ r₀ place₀ lists buf out r place = (Come buf₀ r lists buf place) × (length out ≡ length out₀)
 
 abbrev μ-loop : tie.MeasureT-loop
-μ-loop code lists₀ buf₀ out₀ r₀ place₀ lists buf out r place = cond (r .more) (1 + r .have + r .reads * 65537) 0
+μ-loop code lists₀ buf₀ out₀ r₀ place₀ lists buf out r place = cond (r .more) (1 + r .have + r .reads * (bufferRoom + 1)) 0
 
 start-requires : tie.Need-start-requires Inv-loop μ-loop
 start-requires c κs = tt

@@ -4,15 +4,12 @@ use borrow.Author.Needs.{needs}
 use Rattle.console.proofs.write_part.Statement.{statement}
 use Rattle.console.proofs.write_part.Tie as tie
 
--- src/lib.rt:114:34
 slice-aggregate-write-all : tie.Need-slice-aggregate-write-all
 slice-aggregate-write-all c = simp (length-take) (omega arith)
 
--- src/lib.rt:114:5
 write-all-requires : tie.Need-write-all-requires
 write-all-requires c κs = search needs
 
--- src/lib.rt:111:1
 returns : tie.Need-returns
 returns c = search needs
 

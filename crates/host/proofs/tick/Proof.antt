@@ -1,7 +1,6 @@
--- `host::tick` meets its contract: it is `answered` over the by-value `tick`.
+-- `host::tick` meets its contract: it is `answering` over the by-value `tick`.
 -- Assumes nothing.
-use mathlib.Core.Path.{_≡_, refl}
-use mathlib.Core.Bool.{false}
+use mathlib.Core.Path.{refl}
 use contract.Running.{givenOf, tables, tablesOf}
 use denote.Triple.Spec.{tripleOf}
 use denote.Triple.Table.{entered, cited}
@@ -9,31 +8,21 @@ use Rattle.lictor_core.specs.declared.envelope.Settings.{Settings}
 use Rattle.lictor_core.specs.declared.fuse.FuseRt.{FuseRt}
 use Rattle.lictor_core.specs.declared.fuse.TickInput.{TickInput}
 use Rattle.lictor_core.specs.declared.outcome.Outcome.{Outcome}
-use Rattle.lictor_settings.specs.Settings.{checkOf, checkNumber}
-use Rattle.lictor_fuse.specs.declared.tick.Ticked.{Ticked}
-use Rattle.lictor_fuse.specs.Tick.{tickOf, isAccepted, noVerdict}
-use Rattle.lictor_fuse.proofs.tick.tick as core
-use Rattle.lictor_fuse.proofs.tick.tick.Symbol as core-def
-use Rattle.lictor_fuse.proofs.tick.tick.Symbol.{name as #core}
-use Rattle.lictor_fuse.proofs.tick.tick.Met as core-thm
-use Rattle.host.specs.declared.Answer.{Answer}
-use Rattle.host.specs.Host.{answerOf, numberOf}
-use Rattle.lent.proofs.Call.{Fs, answered-meets}
+use Rattle.lictor_fuse.proofs.tick as core
+use Rattle.lictor_fuse.proofs.tick.Symbol as core-def
+use Rattle.lictor_fuse.proofs.tick.Symbol.{name as #core}
+use Rattle.lictor_fuse.proofs.tick.Met as core-thm
+use Rattle.host.specs.Host.{hostAnswerOf}
+use Rattle.lent.proofs.Call.{Fs, answering-meets}
 use Rattle.host.proofs.Refused.{refused-call}
-use Rattle.host.proofs.Types.{S, G, I, O, R, Z, parts}
+use Rattle.host.proofs.Says.{fuseGives, FuseSays}
+use Rattle.host.proofs.Types.{fuseRun, fuseSettings, fuseInput, fuseOutcome, fuseResult, fuseAnswer, fuseParts}
 use Rattle.host.proofs.tick.Key.{name as #this}
 use Rattle.host.proofs.tick as this
 use Rattle.host.proofs.tick.Statement as stated
 use Rattle.host.proofs.tick.Code as code
 
--- what the core gives, and what the contract says of the answer a and of the last state z
-abbrev given : Settings → FuseRt → TickInput → Outcome → Fs → Ticked
-given s h i u l = tickOf s h i u (l .0) (l .1 .0) (l .1 .1 .0) (l .1 .1 .1 .0) (l .1 .1 .1 .1 .0)
-
-abbrev Says : FuseRt → Settings → TickInput → Outcome → Fs → Answer → FuseRt → Type 0
-Says h s i u l a z = (a ≡ answerOf (given s h i u l)) × (z ≡ given s h i u l .rt) × (isAccepted (checkOf s) ≡ false → (numberOf a ≡ checkNumber (checkOf s)) × (a .verdict ≡ noVerdict) × (z ≡ h))
-
-said : (h : FuseRt) (s : Settings) (i : TickInput) (u : Outcome) (l : Fs) → Says h s i u l (answerOf (given s h i u l)) (given s h i u l .rt)
+said : (h : FuseRt) (s : Settings) (i : TickInput) (u : Outcome) (l : Fs) → FuseSays h s i u l (hostAnswerOf (fuseGives s h i u l)) (fuseGives s h i u l .rt)
 said h s i u l = (refl, refl, refused-call s h i u (l .0) (l .1 .0) (l .1 .1 .0) (l .1 .1 .1 .0) (l .1 .1 .1 .1 .0))
 
 pub tick-spec : {M : Type 1} → stated.statement M
@@ -41,5 +30,5 @@ unfolding code.routine tablesOf
 tick-spec 𝓤 H 𝓜 𝓖 𝓡 =
     entered 𝓤 H (tripleOf 𝓤 H (𝓖 .A) this.signature (this.spec 𝓤 H (𝓖 .A) (𝓜 .mem) (𝓡 .run)))
     (tables 𝓤 H 𝓜 𝓡 code.env .C) (tables 𝓤 H 𝓜 𝓡 code.env .Λ) #this code.function (code.unfolded 𝓤 H 𝓜 𝓡)
-    (answered-meets S G I O R Z parts given Says #core 𝓤 H (𝓖 .A) (givenOf 𝓤 H 𝓜 𝓖) said (tablesOf 𝓤 H 𝓜 (tables 𝓤 H 𝓜 𝓡 code.env))
-    (cited 𝓤 H (tripleOf 𝓤 H (𝓖 .A) core.signature (core.spec 𝓤 H (𝓖 .A) (𝓜 .mem) (𝓡 .run))) 𝓜 𝓡 code.env #core core-def.routine code.calls-lictor-fuse·tick·tick (core-thm.met 𝓤 H 𝓜 𝓖 𝓡)))
+    (answering-meets fuseRun fuseSettings fuseInput fuseOutcome fuseResult fuseAnswer fuseParts fuseGives FuseSays #core 𝓤 H (𝓖 .A) (givenOf 𝓤 H 𝓜 𝓖) said (tablesOf 𝓤 H 𝓜 (tables 𝓤 H 𝓜 𝓡 code.env))
+    (cited 𝓤 H (tripleOf 𝓤 H (𝓖 .A) core.signature (core.spec 𝓤 H (𝓖 .A) (𝓜 .mem) (𝓡 .run))) 𝓜 𝓡 code.env #core core-def.routine code.calls-lictor-fuse·tick (core-thm.met 𝓤 H 𝓜 𝓖 𝓡)))

@@ -1,5 +1,5 @@
 use Rattle.lictor_fuse.specs.Tick.{givenOf}
-use Rattle.host_c.specs.Call.{steppedOf}
+use Rattle.host_c.specs.Call.{tickedOut}
 use borrow.Author.Needs.{needs}
 use Rattle.host_c.proofs.packed.Statement.{statement}
 use Rattle.host_c.proofs.packed.Tie as tie
@@ -11,7 +11,7 @@ verdict-out-requires : tie.Need-verdict-out-requires
 verdict-out-requires c κs = search needs
 
 returns : tie.Need-returns
-unfolding steppedOf givenOf
+unfolding tickedOut givenOf
 returns c = cc
 
 pub packed-spec : {M : Type 1} → statement M

@@ -6,17 +6,17 @@ use mathlib.Core.List.{List}
 use native.Mathlib.Omega.{arith}
 use lib.ListN.{length, drop}
 use lib.Ieee.{Float}
-use Rattle.lictor_decide.specs.declared.Decided.{Decided}
-use Rattle.judge.specs.declared.Refusal.{Refusal}
-use Rattle.waiting.specs.declared.Reader.{Reader}
-use Rattle.reader.specs.Stream.{Advanced, Reached, goesOn}
-use Rattle.reader.specs.Reading.{nextOf}
-use Rattle.reader.proofs.Stream.{reached-none, reached-on, reached-end}
-use Rattle.journal_tick.specs.declared.Run.{Run}
+use Rattle.lictor_fuse.specs.declared.decide.Decided.{Decided}
+use Rattle.journal_refusals.specs.declared.Refusal.{Refusal}
+use Rattle.journal_reader.specs.declared.waiting.Reader.{Reader}
+use Rattle.stream.specs.Stream.{Advanced, Reached, goesOn}
+use Rattle.journal_reader.specs.Reading.{onBytes}
+use Rattle.stream.proofs.Stream.{impossible, reached-none, reached-on, reached-end}
+use Rattle.journal.specs.declared.tick.Run.{Run}
 use Rattle.journal.specs.declared.How.the-variants.{Waits}
 use Rattle.journal.specs.declared.Step.{Step}
 use Rattle.journal.specs.declared.Advanced as J
-use Rattle.journal_tick.specs.Tick.{Whole, wholeOf}
+use Rattle.journal.specs.Tick.{Whole, wholeOf}
 use Rattle.journal.specs.Journal.{replayOf, howOf, advancedOf, listsAfter, Stepped}
 use Rattle.journal.proofs.Replay.{replay}
 use Rattle.journal.proofs.Steps.{step-less}
@@ -30,11 +30,11 @@ at-step t l = wholeOf (t .reader) (t .run) l
 abbrev first : Reader → Run → Step
 first rd run = record { reader = rd; run = run; at = 0; how = Waits; more = true }
 
--- what was taken so far, and what stands there where nothing more is taken
+-- what was taken so far, and what is there where nothing more is taken
 record Kept (l₀ : List Float) (s : List ℕ) (t₀ : Step) (l : List Float) (t : Step) : Type 0 where
   pub reached : Reached replayOf (at-step t₀ l₀) s (t₀ .at) (at-step t l) (t .at)
   pub stops : t .more ≡ false → goesOn (replayOf (at-step t l) (drop (t .at) s)) ≡ false
-  pub how : t .more ≡ false → t .how ≡ howOf (nextOf (at-step t l .state) (drop (t .at) s))
+  pub how : t .more ≡ false → t .how ≡ howOf (onBytes (at-step t l .state) (drop (t .at) s))
 
 kept-first : (rd : Reader) (run : Run) (s : List ℕ) (l : List Float) → Kept l s (first rd run) l (first rd run)
 kept-first rd run s l = record {
@@ -44,7 +44,7 @@ kept-first rd run s l = record {
 }
   where
     no : true ≡ false → ⊥
-    no y = let f : _≡_ {A = ℕ} 0 1 = cc in omega arith
+    no y = impossible cc
 
 kept-more : (l₀ : List Float) (s : List ℕ) (t₀ : Step) (l : List Float) (t : Step) → Kept l₀ s t₀ l t → (r : Step) (l' : List Float) → Stepped (at-step t l) s (t .at) r l'
     → Kept l₀ s t₀ l' r

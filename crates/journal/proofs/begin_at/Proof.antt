@@ -4,22 +4,22 @@ use Prim.Native.Nat.{ℕ, _+_, _-_}
 use mathlib.Core.Path.{_≡_, ap, _∙_}
 use native.Mathlib.Nat.{add-sub-cancel-left}
 use lib.ListN.{take, drop}
-use Rattle.bytes_le.specs.Little.{byteAt}
-use Rattle.records.specs.Kinds.{journalKinds, bodyLen}
+use Rattle.journal_records.specs.Little.{byteAt}
+use Rattle.journal_records.specs.Kinds.{journalKinds, bodyLen}
 use Rattle.journal.proofs.begin_at.Statement.{statement}
 use Rattle.journal.proofs.begin_at.Tie as tie
 
-shared-slice-read-k : tie.Need-shared-slice-read-k
-shared-slice-read-k c = search needs
+shared-slice-read-kind : tie.Need-shared-slice-read-kind
+shared-slice-read-kind c = search needs
 
-add-a : tie.Need-add-a
-add-a c = search needs
+add-from : tie.Need-add-from
+add-from c = search needs
 
 body-len-requires : tie.Need-body-len-requires
 body-len-requires c κs = search needs
 
-add-e : tie.Need-add-e
-add-e c = search needs
+add-end : tie.Need-add-end
+add-end c = search needs
 
 sub-read-settings : tie.Need-sub-read-settings
 sub-read-settings c = search needs
@@ -54,10 +54,10 @@ pub begin-at-spec : {M : Type 1} → statement M
 begin-at-spec =
     tie.close
     (tie.spec
-    shared-slice-read-k
-    add-a
+    shared-slice-read-kind
+    add-from
     body-len-requires
-    add-e
+    add-end
     sub-read-settings
     part-read-settings-start
     part-read-settings-end

@@ -3,17 +3,17 @@ use borrow.Author.Needs.{needs}
 use Rattle.journal.proofs.reset_at.Statement.{statement}
 use Rattle.journal.proofs.reset_at.Tie as tie
 
-shared-slice-read-k : tie.Need-shared-slice-read-k
-shared-slice-read-k c = search needs
+shared-slice-read-kind : tie.Need-shared-slice-read-kind
+shared-slice-read-kind c = search needs
 
-add-a : tie.Need-add-a
-add-a c = search needs
+add-from : tie.Need-add-from
+add-from c = search needs
 
 body-len-requires : tie.Need-body-len-requires
 body-len-requires c κs = search needs
 
-add-e : tie.Need-add-e
-add-e c = search needs
+add-end : tie.Need-add-end
+add-end c = search needs
 
 emptied-requires : tie.Need-emptied-requires
 emptied-requires c κs = search needs
@@ -29,10 +29,10 @@ pub reset-at-spec : {M : Type 1} → statement M
 reset-at-spec =
     tie.close
     (tie.spec
-    shared-slice-read-k
-    add-a
+    shared-slice-read-kind
+    add-from
     body-len-requires
-    add-e
+    add-end
     emptied-requires
     restart-requires
     returns)

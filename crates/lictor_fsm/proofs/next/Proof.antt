@@ -1,4 +1,5 @@
 -- The five calls make up the rows; that the rows are the table is shown in lictor_table.
+use Rattle.lictor_table.specs.Helpers.{countRun}
 use Rattle.lictor_table.specs.Rows.{nextByRows}
 use Rattle.lictor_table.proofs.ByTable.{tells}
 use borrow.Author.Needs.{needs}
@@ -21,7 +22,7 @@ settled-requires : tie.Need-settled-requires
 settled-requires c κs = search needs
 
 returns : tie.Need-returns
-unfolding nextByRows
+unfolding nextByRows countRun
 returns c =
     rw (c .settled .ensures, c .before .transition .ensures, c .before .before .accepted-ack .ensures, c .before .before .before .count-run .ensures, c .before .before .before .before .is-clean .ensures)
     (tells _ _ _ _)

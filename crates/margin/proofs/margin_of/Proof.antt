@@ -16,8 +16,8 @@ returns : tie.Need-returns
 unfolding marginOf
 returns c = sym (ap marginOf (is-nan (c .before .args .x) (c .if1 .taken)))
 
-float-to-bits-b : tie.Need-float-to-bits-b
-float-to-bits-b c = not-nan (c .before .args .x) (c .if1 .left)
+float-to-bits-bits : tie.Need-float-to-bits-bits
+float-to-bits-bits c = not-nan (c .before .args .x) (c .if1 .left)
 
 far-of-requires : tie.Need-far-of-requires
 far-of-requires c κs = search needs
@@ -76,7 +76,7 @@ margin-of-spec =
     tie.close
     (tie.spec
     returns
-    float-to-bits-b
+    float-to-bits-bits
     far-of-requires
     returns-2
     millis-requires

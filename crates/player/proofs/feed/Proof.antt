@@ -3,8 +3,8 @@ use mathlib.Core.Bool.{cond}
 use native.Mathlib.Omega.{arith}
 use lib.ListN.{length}
 use borrow.Author.Needs.{needs}
-use Rattle.journal_tick.specs.Tick.{wholeOf}
-use Rattle.player.proofs.Turns.{turn-less, Since, since-first, since-more, more-is, fed-is}
+use Rattle.journal.specs.Tick.{wholeOf}
+use Rattle.player.proofs.Feeding.{on-less, Since, since-first, since-more, goes-on-is, fed-is}
 use Rattle.player.proofs.feed.Statement.{statement}
 use Rattle.player.proofs.feed.Tie as tie
 
@@ -22,8 +22,8 @@ loop-holds c =
     let a = c .before .before .before .args in
     since-first (a .code) (wholeOf (a .rd) (a .run) (a .lists .now)) (a .s .now) (a .out .now) _ (c .goes-on .ensures)
 
-play-turn-requires : tie.Need-play-turn-requires Inv-loop μ-loop
-play-turn-requires c κs =
+play-on-requires : tie.Need-play-on-requires Inv-loop μ-loop
+play-on-requires c κs =
     let i = c .before .before .before .before .before .loop .inv in
     (i .within, i .room (c .before .before .before .before .loop-test .taken))
 
@@ -32,12 +32,12 @@ goes-on-requires-2 c κs = search needs
 
 loop-less : tie.Need-loop-less Inv-loop μ-loop
 loop-less c =
-    let q = c .before .before .before .play-turn .ensures in
-    turn-less _ _ _ (q .from) (q .within) _ _ (c .before .before .before .before .before .before .before .before .loop-test .taken) (λ y. q .further (more-is _ _ _ _ (c .goes-on2 .ensures) y .0))
+    let q = c .before .before .before .play-on .ensures in
+    on-less _ _ _ (q .from) (q .within) _ _ (c .before .before .before .before .before .before .before .before .loop-test .taken) (λ y. q .further (goes-on-is _ _ _ _ (c .goes-on2 .ensures) y .0))
 
 loop-again : tie.Need-loop-again Inv-loop μ-loop
 loop-again c =
-    let p = c .before .before .before .play-turn in
+    let p = c .before .before .before .play-on in
     since-more _ _ _ _ _ _ _ _ _ _ _ _ _ (omega arith) (p .kept .1 .1 .1 .1 .1 .1 .0) (c .before .before .before .before .before .before .before .before .before .loop .inv) (p .ensures) (c .goes-on2 .ensures)
 
 same-length : tie.Need-same-length Inv-loop μ-loop
@@ -54,7 +54,7 @@ feed-spec =
     μ-loop
     goes-on-requires
     loop-holds
-    play-turn-requires
+    play-on-requires
     goes-on-requires-2
     loop-less
     loop-again

@@ -2,7 +2,8 @@ use Prim.Native.Nat.{_+_}
 use mathlib.Core.Path.{refl}
 use native.Mathlib.Omega.{arith}
 use borrow.Author.Tests.{le-leb, lt-leb}
-use Rattle.player.specs.Play.{tickRoom, goesOnOf}
+use Rattle.report.specs.Text.{tickRoom}
+use Rattle.player.specs.Play.{goesOnOf}
 use Rattle.player.proofs.goes_on.Statement.{statement}
 use Rattle.player.proofs.goes_on.Tie as tie
 

@@ -1,33 +1,29 @@
 use mathlib.Core.Path.{_≡_, refl, ap}
 use native.Mathlib.Omega.{arith}
 use borrow.Author.Needs.{needs}
-use Rattle.journal_tick.specs.declared.Ticked.{Ticked}
-use Rattle.render.proofs.Laws.{put-is}
+use Rattle.journal.specs.declared.tick.JournalTicked.{JournalTicked}
+use Rattle.report.proofs.Laws.{put-is}
 use Rattle.player.proofs.play_tick.Statement.{statement}
 use Rattle.player.proofs.play_tick.Tie as tie
 
--- src/lib.rt:37:9
 tick-requires : tie.Need-tick-requires
 tick-requires c κs = search needs
 
--- src/lib.rt:42:9
 tick-text-requires : tie.Need-tick-text-requires
 tick-text-requires c κs = search needs
 
--- src/lib.rt:33:1
 same-length : tie.Need-same-length
 same-length c = search needs
 
--- src/lib.rt:33:1
 returns : tie.Need-returns
 returns c =
     let t = c .before .before .before .before .before .before .before .before .tick .ensures in
     let m = c .before .before .tick-text .ensures in
     record {
-      reader = ap (λ (x : Ticked). x .reader) t;
-      run = ap (λ (x : Ticked). x .run) t;
+      reader = ap (λ (x : JournalTicked). x .reader) t;
+      run = ap (λ (x : JournalTicked). x .run) t;
       at-is = refl;
-      ticked = refl;
+      more = refl;
       none = refl;
       text = rw t at (put-is _ _ _ (omega arith) _ _ (m .0) (m .1));
     }

@@ -5,7 +5,8 @@ use native.Mathlib.Omega.{arith}
 use borrow.Author.Needs.{needs}
 use lib.ListN.{length, take, drop, length-drop}
 use mathlib.Core.Bool.{Bool}
-use Rattle.roots.specs.Text.{answerTo, isBad, Put}
+use Rattle.text.specs.Memory.{Put}
+use Rattle.roots.specs.Text.{answerTo, isBad}
 use Rattle.roots.proofs.Laws.{Answering, none-answered, one-answered, bad-answered, all-answered, line-is}
 use Rattle.roots.proofs.answer.Statement.{statement}
 use Rattle.roots.proofs.answer.Tie as tie
@@ -20,7 +21,7 @@ abbrev μ-loop : tie.MeasureT-loop
 there : (c : tie.After-answer-line Inv-loop μ-loop) → take (c .before .before .before .least .result - c .before .before .before .before .before .loop .at) (drop (c .before .before .before .before .before .loop .at) (c .before .before .before .before .before .before .before .before .args .s .now)) ≡ take 17 (drop (c .before .before .before .before .before .loop .at) (c .before .before .before .before .before .before .before .before .args .s .now))
 there c = rw (c .before .before .before .least .ensures) (line-is (c .before .before .before .before .before .before .before .before .args .s .now) (c .before .before .before .before .before .loop .at))
 
-put-there : (c : tie.After-answer-line Inv-loop μ-loop) → Put (c .before .before .before .before .before .loop .out) (c .before .before .before .before .before .loop .n) (answerTo (take 17 (drop (c .before .before .before .before .before .loop .at) (c .before .before .before .before .before .before .before .before .args .s .now)))) (c .answer-line .last .1 .0) (c .answer-line .result .n)
+put-there : (c : tie.After-answer-line Inv-loop μ-loop) → Put (c .before .before .before .before .before .loop .out) (c .before .before .before .before .before .loop .written) (answerTo (take 17 (drop (c .before .before .before .before .before .loop .at) (c .before .before .before .before .before .before .before .before .args .s .now)))) (c .answer-line .result .n) (c .answer-line .last .1 .0)
 put-there c = rw (there c) at (c .answer-line .ensures .0)
 
 bad-there : (c : tie.After-answer-line Inv-loop μ-loop) {b : Bool} → c .answer-line .result .bad ≡ b → isBad (take 17 (drop (c .before .before .before .before .before .loop .at) (c .before .before .before .before .before .before .before .before .args .s .now))) ≡ b
@@ -55,7 +56,7 @@ returns c =
     let a = c .before .before .before in
     let at = a .before .before .before .before .before in
     let s = at .before .before .before .args .s .now in
-    bad-answered s _ (at .loop .out) (at .loop .at) (at .loop .n) (a .before .before .before .before .loop-test .taken) (at .loop .inv) (a .answer-line .last .1 .0) (a .answer-line .result .n) (a .answer-line .kept .1 .0) (put-there a) (bad-there a (c .if1 .taken))
+    bad-answered s _ (at .loop .out) (at .loop .at) (at .loop .written) (a .before .before .before .before .loop-test .taken) (at .loop .inv) (a .answer-line .last .1 .0) (a .answer-line .result .n) (a .answer-line .kept .1 .0) (put-there a) (bad-there a (c .if1 .taken))
 
 add-at : tie.Need-add-at Inv-loop μ-loop
 add-at c = omega (arith, c .before .before .before .before .before .before .before .before .before .before .before .pre)
@@ -68,7 +69,7 @@ loop-again c =
     let a = c .before .before .before in
     let at = a .before .before .before .before .before in
     let s = at .before .before .before .args .s .now in
-    one-answered s _ (at .loop .out) (at .loop .at) (at .loop .n) (a .before .before .before .before .loop-test .taken) (at .loop .inv) (a .answer-line .last .1 .0) (a .answer-line .result .n) (a .answer-line .kept .1 .0) (put-there a) (bad-there a (c .if1 .left))
+    one-answered s _ (at .loop .out) (at .loop .at) (at .loop .written) (a .before .before .before .before .loop-test .taken) (at .loop .inv) (a .answer-line .last .1 .0) (a .answer-line .result .n) (a .answer-line .kept .1 .0) (put-there a) (bad-there a (c .if1 .left))
 
 same-length-2 : tie.Need-same-length-2 Inv-loop μ-loop
 same-length-2 c = c .before .loop .inv .long

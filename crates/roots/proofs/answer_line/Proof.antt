@@ -1,5 +1,7 @@
 -- `roots::answer_line` meets its contract. Assumes nothing.
 use mathlib.Core.Path.{refl, sym, _∙_}
+use native.Mathlib.Omega.{arith}
+use Rattle.text.proofs.Puts.{put-there}
 use Rattle.roots.specs.Text.{answerTo, isBad}
 use borrow.Author.Needs.{needs}
 use Rattle.roots.proofs.answer_line.Statement.{statement}
@@ -39,7 +41,7 @@ returns-2 : tie.Need-returns-2
 unfolding answerTo isBad
 returns-2 c =
     let r = sym (c .before .before .before .before .before .before .before .read-line .ensures) ∙ c .before .before .before .before .before .enum-told .given .1 in
-    rw r (c .before .before .put .ensures, refl)
+    rw r (put-there _ _ _ (omega arith) _ _ (c .before .before .put .ensures), refl)
 
 pub answer-line-spec : {M : Type 1} → statement M
 answer-line-spec =

@@ -1,7 +1,7 @@
-use mathlib.Core.Path.{sym, ap}
+use mathlib.Core.Path.{sym}
 use native.Mathlib.Omega.{arith}
-use lib.ListN.{length}
 use lib.Seq.{length-take-le}
+use Rattle.text.proofs.Puts.{put-there}
 use Rattle.roots.proofs.Laws.{line-length, root-fits, root-shown}
 use borrow.Author.Needs.{needs}
 use Rattle.roots.proofs.put_root.Statement.{statement}
@@ -17,13 +17,16 @@ slice-aggregate-put : tie.Need-slice-aggregate-put
 slice-aggregate-put c = sym (length-take-le _ _ (root-fits _ _ (c .before .before .before .root-line .ensures)))
 
 put-requires : tie.Need-put-requires
-put-requires c κs = let r = c .before .before .before .root-line in omega (arith, ap length (root-shown _ _ (r .ensures)), line-length (c .before .before .before .before .before .args .b))
+put-requires c κs = search needs
 
 same-length : tie.Need-same-length
 same-length c = search needs
 
 returns : tie.Need-returns
-returns c = rw (root-shown _ _ (c .before .before .before .before .before .before .root-line .ensures)) at (c .before .before .put .ensures)
+returns c =
+    let shown = root-shown _ _ (c .before .before .before .before .before .before .root-line .ensures) in
+    let short = line-length (c .before .before .before .before .before .before .before .before .args .b) in
+    put-there _ _ _ (omega (arith, short)) _ _ (rw shown at (c .before .before .put .ensures))
 
 pub put-root-spec : {M : Type 1} → statement M
 put-root-spec =

@@ -4,7 +4,7 @@ use Prim.Native.Nat.{_-_, _^_, _<_}
 use native.Mathlib.Omega.{arith}
 use borrow.Author.Tests.{eq-eqb, ne-eqb}
 use lib.ListN.{take, drop, getD}
-use Rattle.roots.specs.Text.{digitOf, readDigits, readOf}
+use Rattle.roots.specs.Text.{digitOf, readDigits, patternOf}
 use Rattle.roots.proofs.Laws.{digits-on, digits-stop, digits-end, value-lt, value-small}
 use Rattle.roots.proofs.read_line.Statement.{statement}
 use Rattle.roots.proofs.read_line.Tie as tie
@@ -16,14 +16,14 @@ abbrev μ-loop : tie.MeasureT-loop
 μ-loop s b₀ i₀ b i = 16 - i
 
 returns : tie.Need-returns Inv-loop μ-loop
-unfolding readOf
+unfolding patternOf
 returns c = simp (ne-eqb _ _ (c .if1 .taken))
 
 shared-slice-read-if2 : tie.Need-shared-slice-read-if2 Inv-loop μ-loop
 shared-slice-read-if2 c = omega arith
 
 returns-2 : tie.Need-returns-2 Inv-loop μ-loop
-unfolding readOf
+unfolding patternOf
 returns-2 c = simp (eq-eqb _ _ (c .before .before .if1 .left), ne-eqb _ _ (c .if2 .taken))
 
 loop-holds : tie.Need-loop-holds Inv-loop μ-loop
@@ -36,21 +36,21 @@ digit-requires : tie.Need-digit-requires Inv-loop μ-loop
 digit-requires c κs = tt
 
 returns-3 : tie.Need-returns-3 Inv-loop μ-loop
-unfolding readOf
+unfolding patternOf
 returns-3 c =
     let at = c .before .before .before .before in
     let e = at .before in
     let s = e .before .before .before .before in
-    simp (eq-eqb _ _ (e .before .before .if1 .left), eq-eqb _ _ (e .if2 .left), at .loop .inv .1, digits-stop (s .args .s .now) (at .loop .i) (at .loop .b) (e .before .before .if1 .left) (c .before .before .before .loop-test .taken) (rw (c .before .digit .ensures) at (c .if3 .taken)))
+    simp (eq-eqb _ _ (e .before .before .if1 .left), eq-eqb _ _ (e .if2 .left), at .loop .inv .1, digits-stop (s .args .s .now) (at .loop .i) (at .loop .pattern) (e .before .before .if1 .left) (c .before .before .before .loop-test .taken) (rw (c .before .digit .ensures) at (c .if3 .taken)))
 
-mul-b : tie.Need-mul-b Inv-loop μ-loop
-mul-b c = omega (arith, value-small _ _ (c .before .before .before .before .loop .inv .0) (c .before .before .before .loop-test .taken))
+mul-pattern : tie.Need-mul-pattern Inv-loop μ-loop
+mul-pattern c = omega (arith, value-small _ _ (c .before .before .before .before .loop .inv .0) (c .before .before .before .loop-test .taken))
 
-cast-b : tie.Need-cast-b Inv-loop μ-loop
-cast-b c = omega arith
+cast-pattern : tie.Need-cast-pattern Inv-loop μ-loop
+cast-pattern c = omega arith
 
-add-b : tie.Need-add-b Inv-loop μ-loop
-add-b c = omega (arith, value-small _ _ (c .before .before .before .before .loop .inv .0) (c .before .before .before .loop-test .taken))
+add-pattern : tie.Need-add-pattern Inv-loop μ-loop
+add-pattern c = omega (arith, value-small _ _ (c .before .before .before .before .loop .inv .0) (c .before .before .before .loop-test .taken))
 
 add-i : tie.Need-add-i Inv-loop μ-loop
 add-i c = omega arith
@@ -65,17 +65,17 @@ loop-again c =
     let s = e .before .before .before .before in
     let r : c .before .digit .result < 16 = omega arith in
     let d : digitOf (getD (s .args .s .now) (at .loop .i) 0) < 16 = rw (c .before .digit .ensures) at r in (
-      value-lt (at .loop .b) (c .before .digit .result) (at .loop .i) (at .loop .inv .0) (omega arith),
-      rw (c .before .digit .ensures) (at .loop .inv .1 ∙ digits-on (s .args .s .now) (at .loop .i) (at .loop .b) (e .before .before .if1 .left) (c .before .before .before .loop-test .taken) d),
+      value-lt (at .loop .pattern) (c .before .digit .result) (at .loop .i) (at .loop .inv .0) (omega arith),
+      rw (c .before .digit .ensures) (at .loop .inv .1 ∙ digits-on (s .args .s .now) (at .loop .i) (at .loop .pattern) (e .before .before .if1 .left) (c .before .before .before .loop-test .taken) d),
     )
 
 returns-4 : tie.Need-returns-4 Inv-loop μ-loop
-unfolding readOf
+unfolding patternOf
 returns-4 c =
     let at = c .before in
     let e = at .before in
     let s = e .before .before .before .before in
-    simp (eq-eqb _ _ (e .before .before .if1 .left), eq-eqb _ _ (e .if2 .left), at .loop .inv .1, digits-end (s .args .s .now) (at .loop .i) (at .loop .b) (c .loop-test .left))
+    simp (eq-eqb _ _ (e .before .before .if1 .left), eq-eqb _ _ (e .if2 .left), at .loop .inv .1, digits-end (s .args .s .now) (at .loop .i) (at .loop .pattern) (c .loop-test .left))
 
 pub read-line-spec : {M : Type 1} → statement M
 read-line-spec =
@@ -90,9 +90,9 @@ read-line-spec =
     shared-slice-read-digit
     digit-requires
     returns-3
-    mul-b
-    cast-b
-    add-b
+    mul-pattern
+    cast-pattern
+    add-pattern
     add-i
     loop-less
     loop-again

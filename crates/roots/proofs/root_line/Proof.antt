@@ -1,4 +1,4 @@
--- Four texts, one behind the other.
+-- Four texts, one after the other.
 use Rattle.text.proofs.Lines.{push-line}
 use Rattle.roots.specs.Text.{rootText}
 use borrow.Author.Needs.{needs}

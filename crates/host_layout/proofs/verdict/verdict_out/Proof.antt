@@ -35,7 +35,22 @@ code-requires-3 c κs = search needs
 
 returns : tie.Need-returns
 unfolding verdictOut
-returns c = rw (c .code3 .ensures, c .before .code2 .ensures, c .before .before .code .ensures, c .before .before .before .handoff-number .ensures, c .before .before .before .before .handoff-set .ensures, c .before .before .before .before .before .reason-code .ensures, c .before .before .before .before .before .before .source-code .ensures, c .before .before .before .before .before .before .before .state-code2 .ensures, c .before .before .before .before .before .before .before .before .state-code .ensures, c .before .before .before .before .before .before .before .before .before .status-code .ensures)
+returns c =
+    let handoff = c .before .before .before in
+    let codes = handoff .before .before in
+    let states = codes .before .before in
+    rw (
+      c .code3 .ensures,
+      c .before .code2 .ensures,
+      c .before .before .code .ensures,
+      handoff .handoff-number .ensures,
+      handoff .before .handoff-set .ensures,
+      codes .reason-code .ensures,
+      codes .before .source-code .ensures,
+      states .state-code2 .ensures,
+      states .before .state-code .ensures,
+      states .before .before .status-code .ensures,
+    )
 
 pub verdict-out-spec : {M : Type 1} → statement M
 verdict-out-spec =

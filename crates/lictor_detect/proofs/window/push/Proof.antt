@@ -1,14 +1,14 @@
-use Rattle.lictor_detect.specs.Window.{pushOf}
+use Rattle.lictor_detect.specs.Window.{pushHit}
 use borrow.Author.Needs.{needs}
 use Rattle.lictor_detect.proofs.window.push.Statement.{statement}
 use Rattle.lictor_detect.proofs.window.push.Tie as tie
 
-bit-requires : tie.Need-bit-requires
-bit-requires c κs = search needs
+hit-bit-requires : tie.Need-hit-bit-requires
+hit-bit-requires c κs = search needs
 
 returns : tie.Need-returns
-unfolding pushOf
-returns c = rw (c .before .bit .ensures)
+unfolding pushHit
+returns c = rw (c .before .hit-bit .ensures)
 
 pub push-spec : {M : Type 1} → statement M
-push-spec = tie.close (tie.spec bit-requires returns)
+push-spec = tie.close (tie.spec hit-bit-requires returns)

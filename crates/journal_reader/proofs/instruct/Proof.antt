@@ -1,0 +1,88 @@
+-- The small kinds do not come here.
+use borrow.Author.Needs.{needs}
+use Prim.Native.Nat.{ℕ}
+use mathlib.Core.Bool.{Bool, true, false}
+use mathlib.Core.Path.{_≡_, ap, _∙_}
+use Rattle.journal_records.specs.Long.{outcomeOf}
+use Rattle.stream.proofs.Stream.{impossible}
+use Rattle.journal_reader.proofs.Steps.{body-part, instructs-outcome, instructs-settings, instructs-reset, instructs-tick, is-small}
+use Rattle.journal_reader.proofs.instruct.Statement.{statement}
+use Rattle.journal_reader.proofs.instruct.Tie as tie
+
+never : (t : Bool) → t ≡ false → t ≡ true → ⊥
+never t p q = impossible cc
+
+enum-told : tie.Need-enum-told
+enum-told c = search needs
+
+add-from : tie.Need-add-from
+add-from c = search needs
+
+add-end : tie.Need-add-end
+add-end c = search needs
+
+sub-read-outcome : tie.Need-sub-read-outcome
+sub-read-outcome c = search needs
+
+part-read-outcome-start : tie.Need-part-read-outcome-start
+part-read-outcome-start c = search needs
+
+part-read-outcome-end : tie.Need-part-read-outcome-end
+part-read-outcome-end c = search needs
+
+read-outcome-requires : tie.Need-read-outcome-requires
+read-outcome-requires c κs = search needs
+
+with-outcome-requires : tie.Need-with-outcome-requires
+with-outcome-requires c κs = search needs
+
+enum-told-2 : tie.Need-enum-told-2
+enum-told-2 c = search needs
+
+enum-told-3 : tie.Need-enum-told-3
+enum-told-3 c = search needs
+
+enum-known-x : tie.Need-enum-known-x
+enum-known-x c = search needs
+
+input-of-requires : tie.Need-input-of-requires
+input-of-requires c κs = search needs
+
+returns : tie.Need-returns
+returns c =
+    let a = c .before .before .before .before .before .before .before .args in
+    instructs-outcome _ _ _ _ _ _ _ _ (c .before .before .before .enum-told .given .1) (c .before .read-outcome .ensures ∙ ap outcomeOf (body-part (a .s .now) (a .at) (a .n))) (c .with-outcome .ensures)
+
+returns-2 : tie.Need-returns-2
+returns-2 c = instructs-settings _ _ _ _ _ _ (c .enum-told2 .given .1)
+
+returns-3 : tie.Need-returns-3
+returns-3 c = instructs-reset _ _ _ _ _ _ (c .enum-told3 .given .1)
+
+returns-4 : tie.Need-returns-4
+returns-4 c = instructs-tick _ _ _ _ _ _ _ _ (c .before .before .x .given .1) (c .input-of .ensures)
+
+returns-5 : tie.Need-returns-5
+returns-5 c = absurd (never _ (c .before .before .before .pre .1) (is-small (c .before .before .before .args .x) (c .match .keys5)))
+
+pub instruct-spec : {M : Type 1} → statement M
+instruct-spec =
+    tie.close
+    (tie.spec
+    enum-told
+    add-from
+    add-end
+    sub-read-outcome
+    part-read-outcome-start
+    part-read-outcome-end
+    read-outcome-requires
+    with-outcome-requires
+    enum-told-2
+    enum-told-3
+    enum-known-x
+    input-of-requires
+    returns
+    returns-2
+    returns-3
+    returns-4
+    returns-5)

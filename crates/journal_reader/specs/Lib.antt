@@ -1,0 +1,4 @@
+-- Definitions that the contracts of this crate, and of those above it, cite.
+pub mod Reading
+pub mod Steps
+pub mod State

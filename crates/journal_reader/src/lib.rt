@@ -1,0 +1,309 @@
+// Reads a journal, in parts of any sizes: from bytes to records to instructions for the fuse.
+pub mod waiting; // what waits for a tick
+
+ghost use mathlib.Core.Bool.{false};
+ghost use mathlib.Core.List.{[]};
+ghost use mathlib.Core.Path.{_≡_};
+ghost use Prim.Native.Nat.{_+_, _<_, _≤_, _^_};
+ghost use lib.ListN.{length, drop, getD};
+ghost use Rattle.journal_refusals.specs.declared.Judged.the-variants as Judged;
+ghost use Rattle.journal_refusals.specs.Causes.{capacities, countOf};
+ghost use Rattle.journal_refusals.specs.Table.{isCutBody};
+ghost use Rattle.journal_reader.specs.State.{valueWaits, stored};
+ghost use Rattle.journal_reader.specs.Reading.{lookAs, lookOf, readOf, listsRead};
+ghost use Rattle.journal_reader.specs.Steps.{Room, isSmall, Added, TookOne, Collected, Instructs, TookStretch};
+use crate::waiting::PLACES;
+use crate::waiting::Reader;
+use crate::waiting::Waiting;
+use journal_records::Record;
+use journal_refusals::Judged;
+use journal_refusals::Refusal;
+use journal_refusals::Seen;
+use lictor_core::fuse::TickInput;
+
+// The record at the front of some bytes.
+pub enum Look {
+    // There is none, or it is not there whole.
+    Waits,
+    Refuses(Refusal),
+    // The record, and the length of its body.
+    Found(Record, usize),
+}
+
+// What a reader comes to: the end of the bytes, a refusal, or an instruction for the fuse.
+pub enum What {
+    Waits,
+    Refuses(Refusal),
+    Begins,
+    Resets,
+    Ticks(TickInput),
+}
+
+pub struct Progress {
+    pub reader: Reader,
+    // the bytes up to there
+    pub used: usize,
+    pub what: What,
+}
+
+fn is_cut_body(r: Refusal) -> bool
+    ensures { λ t. ⌜ t ≡ isCutBody r ⌝ }
+{
+    journal_refusals::number(r) == journal_refusals::number(Refusal::CutBody)
+}
+
+fn refused_as(r: Refusal) -> Look
+    ensures { λ x. ⌜ x ≡ lookAs 0 [] (Judged.Refused r) ⌝ }
+{
+    if is_cut_body(r) {
+        return Look::Waits;
+    }
+    Look::Refuses(r)
+}
+
+// A record of a kind, with its body as far as it came, by what the judge says.
+fn look_as(k: u8, b: &[u8], j: Judged) -> Look
+    ensures { λ r. ⌜ r ≡ lookAs k (now (b .entry)) j ⌝ }
+{
+    match j {
+        Judged::Refused(r) => refused_as(r),
+        Judged::Accepted => Look::Found(
+            journal_records::decode(k, b),
+            journal_records::body_len(k),
+        ),
+    }
+}
+
+// The record at a place.
+fn look_at(seen: Seen, s: &[u8], at: usize) -> Look
+    ensures { λ r. ⌜ r ≡ lookOf seen (drop at (now (s .entry))) ⌝ }
+{
+    if s.len() <= at {
+        return Look::Waits;
+    }
+    let kind = s[at];
+    let from = at + 1;
+    let len = journal_records::body_len(kind);
+    let end = from + lictor_core::num::least(len, s.len() - from);
+    let body = &s[from..end];
+    let judged = journal_refusals::judge(seen, kind, body);
+    look_as(kind, body, judged)
+}
+
+// ---- records that only wait
+
+fn with_value(w: Waiting, c: u8) -> Waiting
+    requires { ⌜ (c < length capacities) × (countOf (w .seen) c < getD capacities c 0) ⌝ }
+    ensures { λ r. ⌜ r ≡ valueWaits w c ⌝ }
+{
+    let i = c as usize;
+    let mut seen = w.seen;
+    let mut counts = seen.counts;
+    counts[i] = counts[i] + 1;
+    seen.counts = counts;
+    let ack = w.ack;
+    let head = w.head;
+    Waiting { seen, ack, head }
+}
+
+// Puts a value after those that its list has.
+fn store(lists: &mut [f64; PLACES], seen: Seen, c: u8, x: f64) -> usize
+    requires { ⌜ (c < length capacities) × (countOf seen c < getD capacities c 0) ⌝ }
+    ensures { λ r. ⌜ now (lists .exit) ≡ stored (now (lists .entry)) seen c x ⌝ }
+{
+    let i = c as usize;
+    let counts = seen.counts;
+    let at = crate::waiting::base(i) + counts[i];
+    lists[at] = x;
+    at
+}
+
+struct Took {
+    waiting: Waiting,
+    at: usize,
+    look: Look,
+    more: bool,
+}
+
+// Adds the record at a place to what waits, where it is small.
+fn add(w: Waiting, lists: &mut [f64; PLACES], at: usize, n: usize, x: Record) -> Took
+    requires { ⌜ at + n + 1 < 2 ^ 64 ⌝ }
+    requires { ⌜ Room (w .seen) x ⌝ }
+    ensures { λ r. ⌜ Added w (now (lists .entry)) at n x r (now (lists .exit)) ⌝ }
+{
+    let seen = w.seen;
+    let end = at + n + 1;
+    match x {
+        Record::Ack(a) => Took {
+            waiting: crate::waiting::with_ack(w, a),
+            at: end,
+            look: Look::Waits,
+            more: true,
+        },
+        Record::Head(h) => Took {
+            waiting: crate::waiting::with_head(w, h),
+            at: end,
+            look: Look::Waits,
+            more: true,
+        },
+        Record::Value(c, v) => {
+            store(lists, seen, c, v);
+            Took {
+                waiting: with_value(w, c),
+                at: end,
+                look: Look::Waits,
+                more: true,
+            }
+        }
+        Record::Settings | Record::Reset | Record::Outcome | Record::Tick(_) => Took {
+            waiting: w,
+            at,
+            look: Look::Found(x, n),
+            more: false,
+        },
+    }
+}
+
+fn take_one(w: Waiting, lists: &mut [f64; PLACES], s: &[u8], at: usize) -> Took
+    ensures { λ r. ⌜ TookOne w (now (lists .entry)) (now (s .entry)) at r (now (lists .exit)) ⌝ }
+{
+    let seen = w.seen;
+    let look = look_at(seen, s, at);
+    match look {
+        Look::Found(x, n) => add(w, lists, at, n, x),
+        Look::Waits | Look::Refuses(_) => Took {
+            waiting: w,
+            at,
+            look,
+            more: false,
+        },
+    }
+}
+
+// Takes all small records from a place on.
+fn collect(w: Waiting, lists: &mut [f64; PLACES], s: &[u8], at: usize) -> Took
+    requires { ⌜ at ≤ length (now s) ⌝ }
+    ensures { λ r. ⌜ Collected w (now (lists .entry)) (now (s .entry)) at r (now (lists .exit)) ⌝ }
+{
+    let mut took = Took {
+        waiting: w,
+        at,
+        look: Look::Waits,
+        more: true,
+    };
+    while took.more {
+        let next = took.waiting;
+        let i = took.at;
+        took = take_one(next, lists, s, i);
+    }
+    took
+}
+
+// ---- records that instruct
+
+struct Stretch {
+    reader: Reader,
+    at: usize,
+    what: What,
+    more: bool,
+}
+
+// A record that is not small.
+fn instruct(rd: Reader, lists: &[f64; PLACES], s: &[u8], at: usize, n: usize, x: Record) -> Stretch
+    requires { ⌜ at + n < length (now s) ⌝ }
+    requires { ⌜ isSmall x ≡ false ⌝ }
+    ensures { λ r. ⌜ Instructs rd (now (lists .entry)) (now (s .entry)) at n x r ⌝ }
+{
+    let waiting = rd.waiting;
+    match x {
+        Record::Outcome => {
+            let from = at + 1;
+            let end = from + n;
+            let outcome = journal_records::long::read_outcome(&s[from..end]);
+            Stretch {
+                reader: crate::waiting::with_outcome(rd, outcome),
+                at: end,
+                what: What::Waits,
+                more: true,
+            }
+        }
+        Record::Settings => Stretch {
+            reader: rd,
+            at,
+            what: What::Begins,
+            more: false,
+        },
+        Record::Reset => Stretch {
+            reader: rd,
+            at,
+            what: What::Resets,
+            more: false,
+        },
+        Record::Tick(t) => Stretch {
+            reader: rd,
+            at,
+            what: What::Ticks(crate::waiting::input_of(waiting, t)),
+            more: false,
+        },
+        Record::Ack(_) | Record::Head(_) | Record::Value(_, _) => Stretch {
+            reader: rd,
+            at,
+            what: What::Waits,
+            more: false,
+        },
+    }
+}
+
+// All small records from a place on, and the one after them.
+fn take_stretch(rd: Reader, lists: &mut [f64; PLACES], s: &[u8], at: usize) -> Stretch
+    requires { ⌜ at ≤ length (now s) ⌝ }
+    ensures { λ r. ⌜ TookStretch (record { reader = rd; lists = now (lists .entry) }) (now (s .entry)) at r (now (lists .exit)) ⌝ }
+{
+    let w = rd.waiting;
+    let outcome = rd.outcome;
+    let took = collect(w, lists, s, at);
+    let waiting = took.waiting;
+    let next = took.at;
+    let look = took.look;
+    let reader = Reader { waiting, outcome };
+    match look {
+        Look::Found(x, n) => instruct(reader, lists, s, next, n, x),
+        Look::Waits => Stretch {
+            reader,
+            at: next,
+            what: What::Waits,
+            more: false,
+        },
+        Look::Refuses(r) => Stretch {
+            reader,
+            at: next,
+            what: What::Refuses(r),
+            more: false,
+        },
+    }
+}
+
+// Takes all records up to the next that instructs the fuse, that is refused or that is not
+// there whole, and says what comes there.
+pub fn read(rd: Reader, lists: &mut [f64; PLACES], s: &[u8]) -> Progress
+    ensures { λ r. ⌜ (r ≡ readOf (record { reader = rd; lists = now (lists .entry) }) (now (s .entry))) × (now (lists .exit) ≡ listsRead (record { reader = rd; lists = now (lists .entry) }) (now (s .entry))) ⌝ }
+{
+    let mut stretch = Stretch {
+        reader: rd,
+        at: 0,
+        what: What::Waits,
+        more: true,
+    };
+    while stretch.more {
+        let next = stretch.reader;
+        let i = stretch.at;
+        stretch = take_stretch(next, lists, s, i);
+    }
+    let reader = stretch.reader;
+    let what = stretch.what;
+    Progress {
+        reader,
+        used: stretch.at,
+        what,
+    }
+}

@@ -1,0 +1,100 @@
+// Numbers in little-endian order, at any place of a slice of bytes.
+// A byte past the end of the slice counts as 0.
+ghost use mathlib.Core.Path.{_≡_};
+ghost use Prim.Native.Nat.{_+_, _<_, _≤_};
+ghost use lib.ListN.{length};
+ghost use Rattle.journal_records.specs.Little.{byteAt, leAt, floatAt, flag};
+
+fn wide(x: u8) -> u64
+    ensures { λ r. ⌜ (r ≡ x) × (r < 256) ⌝ }
+{
+    x as u64
+}
+
+// The byte at a place.
+pub fn byte(s: &[u8], at: usize) -> u8
+    ensures { λ r. ⌜ r ≡ byteAt (now (s .entry)) at ⌝ }
+{
+    if at < s.len() { s[at] } else { 0 }
+}
+
+// Whether a flag is set.
+pub fn flag_set(n: u8) -> bool
+    ensures { λ r. ⌜ r ≡ flag n ⌝ }
+{
+    n == 1
+}
+
+// The n bytes from place at on, which are all there.
+fn present(s: &[u8], at: usize, n: usize) -> u64
+    requires { ⌜ (n ≤ 8) × (at + n ≤ length (now s)) ⌝ }
+    ensures { λ r. ⌜ r ≡ leAt (now (s .entry)) at n ⌝ }
+{
+    let mut v: u64 = 0;
+    let mut i = n;
+    while i > 0 {
+        i -= 1;
+        v = v * 256 + wide(s[at + i]);
+    }
+    v
+}
+
+// The same of 8 bytes, as one sum: it is compiled to one load.
+fn le_eight(s: &[u8], at: usize) -> u64
+    requires { ⌜ at + 8 ≤ length (now s) ⌝ }
+    ensures { λ r. ⌜ r ≡ leAt (now (s .entry)) at 8 ⌝ }
+{
+    wide(s[at])
+        + wide(s[at + 1]) * 0x100
+        + wide(s[at + 2]) * 0x1_0000
+        + wide(s[at + 3]) * 0x100_0000
+        + wide(s[at + 4]) * 0x1_0000_0000
+        + wide(s[at + 5]) * 0x100_0000_0000
+        + wide(s[at + 6]) * 0x1_0000_0000_0000
+        + wide(s[at + 7]) * 0x100_0000_0000_0000
+}
+
+// The n bytes from place at on.
+fn le(s: &[u8], at: usize, n: usize) -> u64
+    requires { ⌜ n ≤ 8 ⌝ }
+    ensures { λ r. ⌜ r ≡ leAt (now (s .entry)) at n ⌝ }
+{
+    if s.len() <= at {
+        return 0;
+    }
+    let here = s.len() - at;
+    if here < n {
+        return present(s, at, here);
+    }
+    present(s, at, n)
+}
+
+pub fn le16(s: &[u8], at: usize) -> u16
+    ensures { λ r. ⌜ r ≡ leAt (now (s .entry)) at 2 ⌝ }
+{
+    le(s, at, 2) as u16
+}
+
+pub fn le32(s: &[u8], at: usize) -> u32
+    ensures { λ r. ⌜ r ≡ leAt (now (s .entry)) at 4 ⌝ }
+{
+    le(s, at, 4) as u32
+}
+
+pub fn le64(s: &[u8], at: usize) -> u64
+    ensures { λ r. ⌜ r ≡ leAt (now (s .entry)) at 8 ⌝ }
+{
+    if s.len() <= at {
+        return 0;
+    }
+    if s.len() - at < 8 {
+        return le(s, at, 8);
+    }
+    le_eight(s, at)
+}
+
+pub fn f64_at(s: &[u8], at: usize) -> f64
+    ensures { λ r. ⌜ r ≡ floatAt (now (s .entry)) at ⌝ }
+{
+    floats::double(le64(s, at))
+}

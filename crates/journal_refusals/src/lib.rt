@@ -1,0 +1,264 @@
+// Whether a record of a journal is refused, and why: the ten causes in the order of the table.
+// It is judged by its kind, its body and what has been seen before it, never by the run state.
+ghost use mathlib.Core.Bool.{not, _&&_};
+ghost use mathlib.Core.Path.{_≡_};
+ghost use lib.Dec.{eqb, ltb};
+ghost use lib.ListN.{getD};
+ghost use Rattle.journal_records.specs.Little.{byteAt};
+ghost use Rattle.journal_records.specs.Kinds.{journalKinds, settingsKind, ackKind, valueKind, outcomeKind, tickKind};
+ghost use Rattle.journal_refusals.specs.Causes.{capacities, unknownKind, bodyCut, beforeSettings, notBelow, again as Causes·again, listFull, notReady};
+ghost use Rattle.journal_refusals.specs.Table.{numberOf, judgedOf, contentsOf};
+use journal_records::ACK;
+use journal_records::HEAD;
+use journal_records::OUTCOME;
+use journal_records::SETTINGS;
+use journal_records::TICK;
+use journal_records::VALUE;
+use journal_records::little::byte;
+use lictor_settings::SettingsCheck;
+
+// The lists of values, by their codes.
+pub const CHUNK: usize = 0;
+
+pub const POS: usize = 1;
+
+pub const VEL: usize = 2;
+
+pub const AUX: usize = 3;
+
+pub const EXT: usize = 4;
+
+pub const LISTS: usize = 5;
+
+// How many values the chunk's list can hold, and each of the others.
+pub const CHUNK_ROOM: usize = 512;
+
+pub const LIST_ROOM: usize = 16;
+
+// What has been seen of a journal: whether its settings came, and what waits for a tick.
+pub struct Seen {
+    pub settings: bool,
+    pub ack: bool,
+    pub head: bool,
+    pub outcome: bool,
+    // how many values of each list: chunk, pos, vel, aux, ext
+    pub counts: [usize; LISTS],
+}
+
+// Why a record is refused, in the order in which the causes are looked for.
+pub enum Refusal {
+    UnknownKind,
+    CutBody,
+    BeforeSettings,
+    Again,
+    BadCode,
+    BadSize,
+    NotFinite,
+    BoxCrossed,
+    ListFull,
+    NotReady,
+}
+
+pub enum Judged {
+    Accepted,
+    Refused(Refusal),
+}
+
+// How many values a list can hold, 0 for one that is not listed.
+pub fn capacity(c: usize) -> usize
+    ensures { λ r. ⌜ r ≡ getD capacities c 0 ⌝ }
+{
+    if c == CHUNK {
+        return CHUNK_ROOM;
+    }
+    if c < LISTS { LIST_ROOM } else { 0 }
+}
+
+// The refusal's number.
+pub fn number(r: Refusal) -> u8
+    ensures { λ n. ⌜ n ≡ numberOf r ⌝ }
+{
+    match r {
+        Refusal::UnknownKind => 5,
+        Refusal::CutBody => 6,
+        Refusal::BeforeSettings => 8,
+        Refusal::Again => 9,
+        Refusal::BadCode => 1,
+        Refusal::BadSize => 2,
+        Refusal::NotFinite => 3,
+        Refusal::BoxCrossed => 4,
+        Refusal::ListFull => 7,
+        Refusal::NotReady => 10,
+    }
+}
+
+fn is_unknown(seen: Seen, k: u8, b: &[u8]) -> bool
+    ensures { λ r. ⌜ r ≡ unknownKind journalKinds seen k (now (b .entry)) ⌝ }
+{
+    !journal_records::is_known(k)
+}
+
+fn is_cut(seen: Seen, k: u8, b: &[u8]) -> bool
+    ensures { λ r. ⌜ r ≡ bodyCut journalKinds seen k (now (b .entry)) ⌝ }
+{
+    b.len() < journal_records::body_len(k)
+}
+
+fn is_early(seen: Seen, k: u8, b: &[u8]) -> bool
+    ensures { λ r. ⌜ r ≡ beforeSettings seen k (now (b .entry)) ⌝ }
+{
+    if k == SETTINGS {
+        return false;
+    }
+    !seen.settings
+}
+
+fn is_again(seen: Seen, k: u8, b: &[u8]) -> bool
+    ensures { λ r. ⌜ r ≡ Causes·again seen k (now (b .entry)) ⌝ }
+{
+    match k {
+        SETTINGS => seen.settings,
+        ACK => seen.ack,
+        HEAD => seen.head,
+        OUTCOME => seen.outcome,
+        _ => false,
+    }
+}
+
+fn judge_settings(seen: Seen, b: &[u8]) -> Judged
+    ensures { λ r. ⌜ r ≡ contentsOf seen settingsKind (now (b .entry)) ⌝ }
+{
+    let c = lictor_settings::check(journal_records::long::read_settings(b));
+    match c {
+        SettingsCheck::Accepted => Judged::Accepted,
+        SettingsCheck::BadCode => Judged::Refused(Refusal::BadCode),
+        SettingsCheck::BadSize => Judged::Refused(Refusal::BadSize),
+        SettingsCheck::NotFinite => Judged::Refused(Refusal::NotFinite),
+        SettingsCheck::BoxCrossed => Judged::Refused(Refusal::BoxCrossed),
+    }
+}
+
+// A code or flag of so many cases, at a place of the body, that is not listed.
+fn is_bad(b: &[u8], at: usize, cases: u8) -> bool
+    ensures { λ r. ⌜ r ≡ notBelow cases (byteAt (now (b .entry)) at) ⌝ }
+{
+    let n = byte(b, at);
+    cases <= n
+}
+
+fn judge_ack(seen: Seen, b: &[u8]) -> Judged
+    ensures { λ r. ⌜ r ≡ contentsOf seen ackKind (now (b .entry)) ⌝ }
+{
+    if is_bad(b, 0, 3) {
+        return Judged::Refused(Refusal::BadCode);
+    }
+    Judged::Accepted
+}
+
+fn is_full(seen: Seen, b: &[u8]) -> bool
+    ensures { λ r. ⌜ r ≡ listFull seen valueKind (now (b .entry)) ⌝ }
+{
+    let counts = seen.counts;
+    let list = byte(b, 0);
+    let i = list as usize;
+    if i < LISTS {
+        capacity(i) <= counts[i]
+    } else {
+        true
+    }
+}
+
+fn judge_value(seen: Seen, b: &[u8]) -> Judged
+    ensures { λ r. ⌜ r ≡ contentsOf seen valueKind (now (b .entry)) ⌝ }
+{
+    if is_bad(b, 0, 5) {
+        return Judged::Refused(Refusal::BadCode);
+    }
+    if is_full(seen, b) {
+        return Judged::Refused(Refusal::ListFull);
+    }
+    Judged::Accepted
+}
+
+fn judge_outcome(seen: Seen, b: &[u8]) -> Judged
+    ensures { λ r. ⌜ r ≡ contentsOf seen outcomeKind (now (b .entry)) ⌝ }
+{
+    if is_bad(b, 8, 2) {
+        return Judged::Refused(Refusal::BadCode);
+    }
+    Judged::Accepted
+}
+
+fn lacks_head(chunk: usize, head: bool) -> bool
+    ensures { λ r. ⌜ r ≡ (ltb 0 chunk && not head) ⌝ }
+{
+    if 0 < chunk { !head } else { false }
+}
+
+fn lacks_velocity(vel: usize, b: &[u8]) -> bool
+    ensures { λ r. ⌜ r ≡ (ltb 0 vel && eqb (byteAt (now (b .entry)) 8) 0) ⌝ }
+{
+    let flag = byte(b, 8);
+    if 0 < vel { flag == 0 } else { false }
+}
+
+fn is_unready(seen: Seen, b: &[u8]) -> bool
+    ensures { λ r. ⌜ r ≡ notReady seen tickKind (now (b .entry)) ⌝ }
+{
+    let counts = seen.counts;
+    if seen.outcome {
+        if lacks_head(counts[CHUNK], seen.head) {
+            return true;
+        }
+        return lacks_velocity(counts[VEL], b);
+    }
+    true
+}
+
+fn judge_tick(seen: Seen, b: &[u8]) -> Judged
+    ensures { λ r. ⌜ r ≡ contentsOf seen tickKind (now (b .entry)) ⌝ }
+{
+    if is_bad(b, 7, 2) {
+        return Judged::Refused(Refusal::BadCode);
+    }
+    if is_bad(b, 8, 2) {
+        return Judged::Refused(Refusal::BadCode);
+    }
+    if is_unready(seen, b) {
+        return Judged::Refused(Refusal::NotReady);
+    }
+    Judged::Accepted
+}
+
+// A record of a known kind, whole, and in its order.
+fn judge_contents(seen: Seen, k: u8, b: &[u8]) -> Judged
+    ensures { λ r. ⌜ r ≡ contentsOf seen k (now (b .entry)) ⌝ }
+{
+    match k {
+        SETTINGS => judge_settings(seen, b),
+        ACK => judge_ack(seen, b),
+        VALUE => judge_value(seen, b),
+        OUTCOME => judge_outcome(seen, b),
+        TICK => judge_tick(seen, b),
+        _ => Judged::Accepted,
+    }
+}
+
+// What becomes of a record of this kind, whose body came as far as b.
+pub fn judge(seen: Seen, k: u8, b: &[u8]) -> Judged
+    ensures { λ r. ⌜ r ≡ judgedOf journalKinds seen k (now (b .entry)) ⌝ }
+{
+    if is_unknown(seen, k, b) {
+        return Judged::Refused(Refusal::UnknownKind);
+    }
+    if is_cut(seen, k, b) {
+        return Judged::Refused(Refusal::CutBody);
+    }
+    if is_early(seen, k, b) {
+        return Judged::Refused(Refusal::BeforeSettings);
+    }
+    if is_again(seen, k, b) {
+        return Judged::Refused(Refusal::Again);
+    }
+    judge_contents(seen, k, b)
+}

@@ -1,0 +1,23 @@
+use Rattle.lictor_core.proofs.Branch.{branches}
+use Rattle.lictor_detect.specs.Brake.{component}
+use lib.Ieee.{ofBits}
+use borrow.Author.Needs.{needs}
+use Rattle.lictor_detect.proofs.brake.live_component.Statement.{statement}
+use Rattle.lictor_detect.proofs.brake.live_component.Tie as tie
+
+mul-result : tie.Need-mul-result
+mul-result c = search needs
+
+array-read-result : tie.Need-array-read-result
+array-read-result c = search needs
+
+returns : tie.Need-returns
+unfolding component ofBits
+returns c = search branches depth 12
+
+returns-2 : tie.Need-returns-2
+unfolding component ofBits
+returns-2 c = search branches depth 12
+
+pub live-component-spec : {M : Type 1} → statement M
+live-component-spec = tie.close (tie.spec mul-result array-read-result returns returns-2)

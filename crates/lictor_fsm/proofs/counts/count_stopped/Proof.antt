@@ -1,0 +1,19 @@
+use Rattle.lictor_core.proofs.Branch.{branches}
+use Rattle.lictor_table.specs.Helpers.{countIf}
+use borrow.Author.Needs.{needs}
+use Rattle.lictor_fsm.proofs.counts.count_stopped.Statement.{statement}
+use Rattle.lictor_fsm.proofs.counts.count_stopped.Tie as tie
+
+sat-u8-requires : tie.Need-sat-u8-requires
+sat-u8-requires c κs = search needs
+
+returns : tie.Need-returns
+unfolding countIf
+returns c = search branches depth 12
+
+returns-2 : tie.Need-returns-2
+unfolding countIf
+returns-2 c = search branches depth 12
+
+pub count-stopped-spec : {M : Type 1} → statement M
+count-stopped-spec = tie.close (tie.spec sat-u8-requires returns returns-2)

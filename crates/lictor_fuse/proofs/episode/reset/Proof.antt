@@ -1,0 +1,14 @@
+use Rattle.lictor_core.specs.Initial.{resetOf}
+use borrow.Author.Needs.{needs}
+use Rattle.lictor_fuse.proofs.episode.reset.Statement.{statement}
+use Rattle.lictor_fuse.proofs.episode.reset.Tie as tie
+
+fresh-requires : tie.Need-fresh-requires
+fresh-requires c κs = search needs
+
+returns : tie.Need-returns
+unfolding resetOf
+returns c = rw (c .fresh .ensures)
+
+pub reset-spec : {M : Type 1} → statement M
+reset-spec = tie.close (tie.spec fresh-requires returns)

@@ -1,0 +1,90 @@
+// The run state before and at the start of an episode (fuse.rs, FuseRt::new and reset).
+ghost use mathlib.Core.Path.{_≡_};
+ghost use Rattle.lictor_core.specs.Initial.{emptyTally, freshControl, freshMotion, freshClock, newOf, resetOf};
+use lictor_core::fuse::Clock;
+use lictor_core::fuse::Control;
+use lictor_core::fuse::FuseRt;
+use lictor_core::fuse::Motion;
+use lictor_core::fuse::Window;
+use lictor_core::rows::no_row;
+use lictor_core::state::FuseState;
+
+fn fresh_control(s: FuseState) -> Control
+    ensures { λ r. ⌜ r ≡ freshControl s ⌝ }
+{
+    let hold = no_row();
+    let last_nonce = [0; 8];
+    let window = Window { bits: 0 };
+    Control {
+        window,
+        state: s,
+        hold,
+        clean_run: 0,
+        clamp_streak: 0,
+        clamps: 0,
+        brake_ticks: 0,
+        stopped_ticks: 0,
+        held_ticks: 0,
+        held_clean: 0,
+        escalated_ticks: 0,
+        rearms: 0,
+        handoff_seq: 0,
+        handoff_pending: false,
+        last_nonce,
+    }
+}
+
+fn fresh_motion() -> Motion
+    ensures { λ r. ⌜ r ≡ freshMotion ⌝ }
+{
+    let zeros = no_row();
+    Motion {
+        pos: zeros,
+        prev_pos: zeros,
+        vel: zeros,
+        have_prev_pos: false,
+        last_cmd: zeros,
+    }
+}
+
+fn fresh_clock() -> Clock
+    ensures { λ r. ⌜ r ≡ freshClock ⌝ }
+{
+    Clock {
+        filled: false,
+        seq: 0,
+        last_t: 0,
+        next_chunk_seq: 0,
+        chunk_ok_this_tick: false,
+    }
+}
+
+// Everything zero, no chunk, in state s.
+fn fresh(s: FuseState) -> FuseRt
+    ensures { λ r. ⌜ r ≡ record { control = freshControl s; motion = freshMotion; clock = freshClock; tally = emptyTally } ⌝ }
+{
+    let control = fresh_control(s);
+    let motion = fresh_motion();
+    let clock = fresh_clock();
+    let tally = lictor_tally::empty();
+    FuseRt {
+        control,
+        motion,
+        clock,
+        tally,
+    }
+}
+
+// No episode yet.
+pub fn new() -> FuseRt
+    ensures { λ r. ⌜ r ≡ newOf ⌝ }
+{
+    fresh(FuseState::Idle)
+}
+
+// Clears everything and arms the fuse.
+pub fn reset(rt: FuseRt) -> FuseRt
+    ensures { λ r. ⌜ r ≡ resetOf rt ⌝ }
+{
+    fresh(FuseState::Armed)
+}

@@ -1,1 +1,0 @@
--- What these functions compute is defined in the crate lictor_table; nothing is added here.

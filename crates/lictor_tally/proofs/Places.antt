@@ -1,0 +1,56 @@
+-- Lists whose elements each go by the rule of their place: what an element becomes, and how a loop gets there, one place a turn.
+use mathlib.Core.Path.{_≡_, refl, ap}
+use mathlib.Core.List.{List, [], _∷_}
+use Prim.Native.Nat.{ℕ, zero, suc, _+_, _<_}
+use native.Mathlib.Numerals.{add-one}
+use native.Mathlib.Omega.{arith}
+use lib.ListN.{length, getD, set}
+use Rattle.lictor_tally.specs.Counts.{eachFrom}
+
+module _ {X : Type 0} (f : ℕ → X → X) where
+  pub length-each : (i : ℕ) (l : List X) → length (eachFrom i f l) ≡ length l
+  unfolding eachFrom
+  length-each i [] = refl
+  length-each i (x ∷ l) = ap suc (length-each (i + 1) l)
+
+  -- an element becomes what the rule of its place makes of it
+  pub each-at : (i : ℕ) (l : List X) (k : ℕ) (d : X) → k < length l → getD (eachFrom i f l) k d ≡ f (i + k) (getD l k d)
+  unfolding eachFrom
+  each-at i [] k d h = absurd (omega arith)
+  each-at i (x ∷ l) zero d h = let e : i + 0 ≡ i = omega arith in rw e
+  each-at i (x ∷ l) (suc k) d h = let e : i + suc k ≡ i + 1 + k = omega arith in let g : k < length l = omega arith in rw e (each-at (i + 1) l k d g)
+
+  -- the first k places by the rule, counted from i, the others as they were
+  unfoldable pub eachTo : ℕ → ℕ → List X → List X
+  eachTo i zero l = l
+  eachTo i (suc k) [] = []
+  eachTo i (suc k) (x ∷ l) = f i x ∷ eachTo (i + 1) k l
+
+  pub each-none : (l : List X) → l ≡ eachTo 0 0 l
+  unfolding eachTo
+  each-none l = refl
+
+  pub each-next : (i k : ℕ) (l : List X) (d : X) → set (eachTo i k l) k (f (i + k) (getD (eachTo i k l) k d)) ≡ eachTo i (suc k) l
+  unfolding eachTo
+  each-next i zero [] d = refl
+  each-next i zero (x ∷ l) d = let e : i + 0 ≡ i = omega arith in rw e
+  each-next i (suc k) [] d = refl
+  each-next i (suc k) (x ∷ l) d = let e : i + suc k ≡ i + 1 + k = omega arith in rw (e, each-next (i + 1) k l d)
+
+  pub each-whole : (i : ℕ) (l : List X) → eachTo i (length l) l ≡ eachFrom i f l
+  unfolding eachTo eachFrom
+  each-whole i [] = refl
+  each-whole i (x ∷ l) = rw (each-whole (i + 1) l)
+
+  -- the two as a loop uses them
+  pub each-more : (l g : List X) (k : ℕ) (d v : X) → g ≡ eachTo 0 k l → v ≡ f k (getD g k d) → set g k v ≡ eachTo 0 (k + 1) l
+  each-more l g k d v p q = let e : 0 + k ≡ k = omega arith in rw (add-one, q, p) (rw e at (each-next 0 k l d))
+
+  pub each-done : (l g : List X) (k : ℕ) → g ≡ eachTo 0 k l → length l ≡ k → g ≡ eachFrom 0 f l
+  each-done l g k p e = rw (p, ← e) (each-whole 0 l)
+
+  -- a rule that changes nothing
+  pub each-same : (i : ℕ) (l : List X) → ((k : ℕ) (x : X) → f k x ≡ x) → eachFrom i f l ≡ l
+  unfolding eachFrom
+  each-same i [] h = refl
+  each-same i (x ∷ l) h = rw (h i x, each-same (i + 1) l h)

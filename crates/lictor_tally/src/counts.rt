@@ -1,0 +1,159 @@
+// The rules by which the fields of a tally go (tally.rs): a count that moves or stays, a mark that
+// is set once, a maximum.
+ghost use mathlib.Core.Path.{_≡_};
+ghost use mathlib.Core.Bool.{cond, _&&_};
+ghost use Prim.Native.Nat.{_<_, _≤_};
+ghost use lib.ListN.{length};
+ghost use Rattle.fmath.specs.Float.{maxOf};
+ghost use Rattle.lictor_core.specs.Codes.{isState, isStop};
+ghost use Rattle.lictor_tally.specs.Counts.{count, isNominal, bitOf, countBit, countBits, isNever, first, firstReason, mostLive};
+use lictor_core::num::sat_u32;
+use lictor_core::reason::ReasonCode;
+use lictor_core::state::FuseState;
+use lictor_core::state::Time;
+use lictor_core::state::is_state;
+use lictor_core::state::is_stop;
+use lictor_core::tally::Mark;
+use lictor_core::tally::ReasonMark;
+use lictor_core::tally::Tally;
+
+// ---- counts
+
+pub fn count_if(moves: bool, n: u32) -> u32
+    ensures { λ r. ⌜ r ≡ count moves n ⌝ }
+{
+    if moves { sat_u32(n) } else { n }
+}
+
+// The count of ticks that end in q, after one that ends in s.
+pub fn count_in(s: FuseState, q: FuseState, n: u32) -> u32
+    ensures { λ r. ⌜ r ≡ count (isState s q) n ⌝ }
+{
+    let moves = is_state(s, q);
+    count_if(moves, n)
+}
+
+fn is_nominal(s: FuseState) -> bool
+    ensures { λ r. ⌜ r ≡ isNominal s ⌝ }
+{
+    is_state(s, FuseState::Idle) || is_state(s, FuseState::Armed)
+}
+
+pub fn count_nominal(s: FuseState, n: u32) -> u32
+    ensures { λ r. ⌜ r ≡ count (isNominal s) n ⌝ }
+{
+    let moves = is_nominal(s);
+    count_if(moves, n)
+}
+
+fn bit_of(mask: u32, b: usize) -> bool
+    requires { ⌜ b < 32 ⌝ }
+    ensures { λ r. ⌜ r ≡ bitOf mask b ⌝ }
+{
+    mask >> b as u32 & 1 != 0
+}
+
+fn count_bit(mask: u32, b: usize, n: u32) -> u32
+    requires { ⌜ b < 32 ⌝ }
+    ensures { λ r. ⌜ r ≡ countBit mask b n ⌝ }
+{
+    let moves = bit_of(mask, b);
+    count_if(moves, n)
+}
+
+// Most masks are empty, and then no place is looked at.
+fn count_bits(mask: u32, l: &mut [u32])
+    requires { ⌜ length (now l) ≤ 32 ⌝ }
+    ensures { λ r. ⌜ now (l .exit) ≡ countBits mask (now (l .entry)) ⌝ }
+{
+    if mask == 0 {
+        return;
+    }
+    let mut b: usize = 0;
+    while b < l.len() {
+        l[b] = count_bit(mask, b, l[b]);
+        b += 1;
+    }
+}
+
+pub fn count_trips(tally: Tally, trips: u32) -> [u32; 16]
+    ensures { λ r. ⌜ r ≡ countBits trips (tally .«trips_by_bit») ⌝ }
+{
+    let mut l = tally.trips_by_bit;
+    count_bits(trips, &mut l);
+    l
+}
+
+pub fn count_fired(tally: Tally, fired: u32) -> [u32; 12]
+    ensures { λ r. ⌜ r ≡ countBits fired (tally .«fired_by_feat») ⌝ }
+{
+    let mut l = tally.fired_by_feat;
+    count_bits(fired, &mut l);
+    l
+}
+
+// ---- marks
+
+fn is_never(m: Mark) -> bool
+    ensures { λ r. ⌜ r ≡ isNever m ⌝ }
+{
+    match m {
+        Mark::Never => true,
+        Mark::At(_) => false,
+    }
+}
+
+fn is_first(happens: bool, m: Mark) -> bool
+    ensures { λ r. ⌜ r ≡ (happens && isNever m) ⌝ }
+{
+    if happens { is_never(m) } else { false }
+}
+
+pub fn first_at(happens: bool, t: Time, m: Mark) -> Mark
+    ensures { λ r. ⌜ r ≡ first happens t m ⌝ }
+{
+    if is_first(happens, m) {
+        return Mark::At(t);
+    }
+    m
+}
+
+pub fn first_stop(s: FuseState, t: Time, m: Mark) -> Mark
+    ensures { λ r. ⌜ r ≡ first (isStop s) t m ⌝ }
+{
+    let stops = is_stop(s);
+    first_at(stops, t, m)
+}
+
+pub fn first_reason(happens: bool, m: Mark, w: ReasonCode, old: ReasonMark) -> ReasonMark
+    ensures { λ r. ⌜ r ≡ firstReason happens m w old ⌝ }
+{
+    if is_first(happens, m) {
+        return ReasonMark::For(w);
+    }
+    old
+}
+
+// ---- maxima
+
+fn most_at(live: u32, j: usize, x: f64, m: f64) -> f64
+    requires { ⌜ j < 32 ⌝ }
+    ensures { λ r. ⌜ r ≡ cond (bitOf live j) (maxOf m x) m ⌝ }
+{
+    if bit_of(live, j) { fmath::max(m, x) } else { m }
+}
+
+pub fn most_live(tally: Tally, z: [f64; 12], live: u32) -> [f64; 12]
+    ensures { λ r. ⌜ r ≡ mostLive live z (tally .«max_z») ⌝ }
+{
+    let mut h = tally.max_z;
+    if live == 0 {
+        return h;
+    }
+    let mut j: usize = 0;
+    while j < 12 {
+        h[j] = most_at(live, j, z[j], h[j]);
+        j += 1;
+    }
+    h
+}

@@ -1,4 +1,0 @@
--- Definitions that the contracts of this crate, and of those above it, cite.
-pub mod Stream
-pub mod Reading
-pub mod Steps

@@ -1,0 +1,2 @@
+-- The samples that theorems and cases are about.
+pub mod Samples

@@ -1,0 +1,69 @@
+-- Samples of what a tick is given (the types of 01-scope.md, Modules 1).
+-- The parameters are what the users of a sample differ in.
+use mathlib.Core.Bool.{Bool, false}
+use Prim.Native.Nat.{ℕ}
+use lib.Ieee.{Float}
+use Rattle.lictor_core.specs.declared.ack.MaybeAck.{MaybeAck}
+use Rattle.lictor_core.specs.declared.chunk.ChunkHead.{ChunkHead}
+use Rattle.lictor_core.specs.declared.chunk.MaybeChunk.{MaybeChunk}
+use Rattle.lictor_core.specs.declared.envelope.Hysteresis.{Hysteresis}
+use Rattle.lictor_core.specs.declared.envelope.Settings.{Settings}
+use Rattle.lictor_core.specs.declared.fuse.TickInput.{TickInput}
+use Rattle.lictor_core.specs.declared.outcome.Outcome.{Outcome}
+use Rattle.lictor_core.specs.declared.chunk.ActionKind.the-variants.{EePosition}
+use Rattle.lictor_core.specs.declared.envelope.ClampMode.the-variants.{Project}
+use Rattle.lictor_core.specs.declared.envelope.RearmPolicy.the-variants.{AckOnly}
+use Rattle.lictor_core.specs.declared.state.FuseMode.the-variants.{Enforce}
+use Rattle.lictor_core.specs.Codes.{modeCode, kindCode, clampCode, rearmCode}
+use Rattle.lictor_core.specs.Initial.{zeroFloat, zeros}
+
+-- Enforce, EePosition, clamping on, AckOnly, one component, chunks of one row, no calibration.
+-- The limits, the window's mask, the trips that are enabled, one float for dt, inv_dt and a_max.
+abbrev pub sampleSettings : Hysteresis → (windowMask tier0 : ℕ) → Float → Settings
+sampleSettings limits windowMask tier0 unit = record {
+  mode = modeCode Enforce;
+  kind = kindCode EePosition;
+  clamp = clampCode Project;
+  rearm = rearmCode AckOnly;
+  dim = 1;
+  «pos_dim» = 1;
+  horizon = 1;
+  exec = 1;
+  dt = unit;
+  «inv_dt» = unit;
+  «a_max» = unit;
+  «box_lo» = zeros 8;
+  «box_hi» = zeros 8;
+  hyst = limits;
+  «window_mask» = windowMask;
+  «tier0_enabled» = tier0;
+  calib = record { mask = 0; tau = zeroFloat };
+}
+
+-- an outcome with these trips, a brake that is feasible or not, this score s, and nothing else
+abbrev pub sampleOutcome : (trips : ℕ) (feasible : Bool) (s : Float) → Outcome
+sampleOutcome trips feasible s = record {
+  trips = trips;
+  «clamped_dims» = 0;
+  feasible = feasible;
+  margin = zeroFloat;
+  scores = record { z = zeros 12; s = s; valid = 0; fired = 0 };
+  policy = zeros 8;
+  clamped = zeros 8;
+}
+
+-- a tick at t, after `missed` ticks, with a velocity or none, with this chunk and acknowledgement
+abbrev pub sampleInput : (t missed : ℕ) (hasVel : Bool) → MaybeChunk → MaybeAck → TickInput
+sampleInput t missed hasVel chunk ack = record {
+  t = t;
+  idx = 0;
+  «missed_ticks» = missed;
+  «schema_fault» = false;
+  «has_vel» = hasVel;
+  chunk = chunk;
+  ack = ack;
+}
+
+-- the first chunk, of one row and one component, which begins at t
+abbrev pub sampleChunk : (t : ℕ) → ChunkHead
+sampleChunk t = record { seq = 0; «t_emit» = t; horizon = 1; dim = 1; «exec_steps» = 1 }

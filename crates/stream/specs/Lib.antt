@@ -1,0 +1,2 @@
+-- Definitions that the crates above cite.
+pub mod Stream

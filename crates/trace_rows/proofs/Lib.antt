@@ -1,3 +1,0 @@
--- Laws that belong to no one function.
-mod Words
-pub mod Rows

@@ -1,3 +1,0 @@
--- Definitions that the contracts cite.
-pub mod Words
-pub mod Row

@@ -1,0 +1,5 @@
+-- Laws that belong to no one function.
+mod Rest
+mod Parts
+mod Words
+pub mod RowsLaws

@@ -1,0 +1,70 @@
+// The lines of the run state.
+ghost use mathlib.Core.Path.{_≡_};
+ghost use mathlib.Core.List.{[]};
+ghost use Prim.Native.Nat.{_<_};
+ghost use lib.ListN.{getD};
+ghost use Rattle.text.specs.Line.{lineOf};
+ghost use Rattle.trace_text.specs.Row.{valueText, row};
+ghost use Rattle.trace_text.specs.Names.{runName};
+ghost use Rattle.trace_text.specs.Trace.{runLines};
+use crate::names::run::name_of;
+use crate::rows::Value;
+use lictor_core::fuse::Clock;
+use lictor_core::fuse::Control;
+use lictor_core::fuse::Motion;
+use text::Line;
+
+// The value of line k, which is no list.
+fn value_of(k: usize, control: Control, motion: Motion, clock: Clock) -> Value
+    requires { ⌜ (k < 24) × (k ≡ 6 → ⊥) × (k ≡ 7 → ⊥) × (k ≡ 8 → ⊥) × (k ≡ 10 → ⊥) × (k ≡ 11 → ⊥) ⌝ }
+    ensures { λ r. ⌜ row (runName k) (valueText r) ≡ getD (runLines control motion clock) k [] ⌝ }
+{
+    let window = control.window;
+    let state = control.state;
+    match k {
+        0 => crate::rows::flag(clock.filled),
+        1 => crate::rows::number(window.bits),
+        2 => crate::rows::state(state),
+        3 => crate::rows::number32(clock.seq),
+        4 => crate::rows::number32(clock.last_t),
+        5 => crate::rows::number32(clock.next_chunk_seq),
+        9 => crate::rows::flag(motion.have_prev_pos),
+        12 => crate::rows::number16(control.clean_run),
+        13 => crate::rows::number8(control.clamp_streak),
+        14 => crate::rows::number16(control.clamps),
+        15 => crate::rows::number16(control.brake_ticks),
+        16 => crate::rows::number8(control.stopped_ticks),
+        17 => crate::rows::number16(control.held_ticks),
+        18 => crate::rows::number16(control.held_clean),
+        19 => crate::rows::number32(control.escalated_ticks),
+        20 => crate::rows::number8(control.rearms),
+        21 => crate::rows::number32(control.handoff_seq),
+        22 => crate::rows::flag(control.handoff_pending),
+        _ => crate::rows::flag(clock.chunk_ok_this_tick),
+    }
+}
+
+// Line k of the run state.
+pub(crate) fn run_line(k: usize, control: Control, motion: Motion, clock: Clock) -> Line
+    requires { ⌜ k < 25 ⌝ }
+    ensures { λ r. ⌜ r ≡ lineOf (getD (runLines control motion clock) k []) ⌝ }
+{
+    let l = name_of(k);
+    if k == 24 {
+        let last_nonce = control.last_nonce;
+        return crate::rows::with_numbers(l, &last_nonce);
+    }
+    let pos = motion.pos;
+    let prev_pos = motion.prev_pos;
+    let vel = motion.vel;
+    let last_cmd = motion.last_cmd;
+    let hold = control.hold;
+    match k {
+        6 => crate::rows::with_floats(l, &pos),
+        7 => crate::rows::with_floats(l, &prev_pos),
+        8 => crate::rows::with_floats(l, &vel),
+        10 => crate::rows::with_floats(l, &last_cmd),
+        11 => crate::rows::with_floats(l, &hold),
+        _ => crate::rows::with_value(l, value_of(k, control, motion, clock)),
+    }
+}
