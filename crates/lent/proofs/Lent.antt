@@ -31,6 +31,7 @@ use denote.Struct.Steps.{spelt}
 use denote.Triple.Call.{calls-from}
 use Rattle.lent.proofs.Data.{Data, row, vals, Of, typed, had}
 use Rattle.lent.proofs.Thin.{resultTy, answerTy, has-ty}
+use Rattle.lent.proofs.Passed.{passed}
 
 -- ---- the function
 abbrev pub lending : (S : Data) (τ2 τ3 τ4 τ5 τ6 τ7 τ8 τ9 τc τv : Ty) (νR νZ : Sym) → Name → Fn
@@ -91,7 +92,7 @@ module _ (S : Data) {M : Type 1} (𝓤 : URA M) (H : Heap 𝓤) (A : Atoms 𝓤)
         lft-new ! tt (λ α. move ! (1 ∷ []) $ use1 W (later (some (λ (γ : GName). ‵ (MutRef (named 0) (α ∷ []) (row S) .own (lentAt l10 γ) (vptr l10 0 ∷ [])) ⊛ ‵ (flent (α ∷ []) (Body (mem (row S)) l10 0 γ))))) (lends-ref 𝓤 H A W (row S) (named 0) (α ∷ []) h l10 0) $ await ! tt $ pick ! (λ γ. split ! $
         move ! (0 ∷ 2 ∷ 30 ∷ []) $ use3 W (raw (sep 𝓤 (sem 𝓤 H A (MutRef (named 0) (α ∷ []) (row S) .own (lentAt l10 γ) (vptr l10 0 ∷ []))) (sep 𝓤 (A .lft (α ∷ []) fullShare) Asked))) (id⊢ 𝓤 _) $
         -- [what the core asks; the lender's part; _13 (2); _12 (4); _11 (6); what frees _10 (8); _9 (9); _8 (11); _7 (13); _6 (15); _5 (17); _4 (19); _3 (21); _2 (23); _1 (25); _0 (27)]
-        calls-from ! fm (raw (sep 𝓤 (sem 𝓤 H A (MutRef (named 0) (α ∷ []) (row S) .own (lentAt l10 γ) (vptr l10 0 ∷ []))) (sep 𝓤 (A .lft (α ∷ []) fullShare) Asked))) (vptr l10 0 ∷ v2 ∷ v3 ∷ v4 ∷ v5 ∷ v6 ∷ v7 ∷ v8 ∷ v9 ∷ []) (Result l10 α γ) (calls l10 α γ) (and-then ! (load ! (from ! (stop !)) (look ! 4 refl)) (and-then ! (load ! (from ! (stop !)) (look ! 25 refl)) (and-then ! (load ! (from ! (stop !)) (look ! 21 refl)) (and-then ! (load ! (from ! (stop !)) (look ! 19 refl)) (and-then ! (load ! (from ! (stop !)) (look ! 17 refl)) (and-then ! (load ! (from ! (stop !)) (look ! 15 refl)) (and-then ! (load ! (from ! (stop !)) (look ! 13 refl)) (and-then ! (load ! (from ! (stop !)) (look ! 11 refl)) (and-then ! (load ! (from ! (stop !)) (look ! 9 refl)) (no-more !)))))))))) (λ v.
+        calls-from ! fm (raw (sep 𝓤 (sem 𝓤 H A (MutRef (named 0) (α ∷ []) (row S) .own (lentAt l10 γ) (vptr l10 0 ∷ []))) (sep 𝓤 (A .lft (α ∷ []) fullShare) Asked))) (vptr l10 0 ∷ v2 ∷ v3 ∷ v4 ∷ v5 ∷ v6 ∷ v7 ∷ v8 ∷ v9 ∷ []) (Result l10 α γ) (calls l10 α γ) (passed ! 4 refl (passed ! 25 refl (passed ! 21 refl (passed ! 19 refl (passed ! 17 refl (passed ! 15 refl (passed ! 13 refl (passed ! 11 refl (passed ! 9 refl (no-more !)))))))))) (λ v.
         use1 W (later (some (λ (r : R). given (Told v r) (‵ (flft (α ∷ []) fullShare) ⊛ ‵ (fres γ (S .coded .code (st r))) ⊛ raw Back)))) (gives l10 α γ v) $ await ! tt $ pick ! (λ r. learn ! (λ p. split3 ! $
         -- [the lifetime's token; the last state's; what comes back; the lender's part; _13 (4); _12 (6); _11 (8); what frees _10 (10); _9 (11); _8 (13); _7 (15); _6 (17); _5 (19); _4 (21); _3 (23); _2 (25); _1 (27); _0 (29)]
         land ! (from ! (stop !)) (init ! 8 refl (has-ty (answerTy τc τv νZ) (p .0) (p .1))) $ rewrite ! 8 (λ (u : Val). ‵ (fat fullShare (answerTy τc τv νZ) l11 0 u)) (p .0) refl $
@@ -100,7 +101,8 @@ module _ (S : Data) {M : Type 1} (𝓤 : URA M) (H : Heap 𝓤) (A : Atoms 𝓤)
         use1 W (given (Of S (st r)) (‵ (cellAt fullShare (S .ty ∷ []) (vals S (st r)) l10 0))) (lies-out 𝓤 H A W S (st r) l10 0) $ learn ! (λ z-of. use1 W (‵ (fat fullShare (S .ty) l10 0 (S .val (st r)))) (W .laws .raw-at fullShare (S .ty) l10 0 (S .val (st r))) $
         -- [_10; what comes back; _13 (2); _12 (4); _11 (6); what frees _10 (8); _9 (9); _8 (11); _7 (13); _6 (15); _5 (17); _4 (19); _3 (21); _2 (23); _1 (25); _0 (27)]
         assigns ! (of-opd ! (load ! (from ! (stop !)) (look ! 0 refl))) (from ! (stop !)) (init ! 2 refl (typed W S (st r) z-of)) $
-        assigns ! (agg ! (and-then ! (load ! (from ! (fld ! refl (stop !))) (look-in ! 6 (sub ! 0 refl (whole !)))) (and-then ! (load ! (from ! (stop !)) (look ! 2 refl)) (and-then ! (load ! (from ! (fld ! refl (stop !))) (look-in ! 6 (sub ! 1 refl (whole !)))) (no-more !))))) (from ! (stop !)) (init ! 27 refl (p .2 z-of)) $
+        assigns ! (agg ! (and-then ! (load ! (from ! (fld ! refl (stop !))) (look-in ! 6 (sub ! 0 refl (whole !)))) (passed ! 2 refl (and-then ! (load ! (from ! (fld ! refl (stop !))) (look-in ! 6 (sub ! 1 refl (whole !)))) (no-more !))))) (from ! (stop !)) (init ! 27 refl (p .2 z-of)) $
         returns ! (look ! 27 refl) $ forget ! 0 refl $ forget ! 2 refl $ forget ! 4 refl $ forget ! 6 refl $ forget ! 9 refl $ forget ! 11 refl $ forget ! 13 refl $ forget ! 15 refl $ forget ! 17 refl $ forget ! 19 refl $ forget ! 21 refl $ forget ! 23 refl $ forget ! 25 refl $ forget ! 27 refl $
-        move ! (27 ∷ 28 ∷ []) $ free1 ! $ move ! (25 ∷ 26 ∷ []) $ free1 ! $ move ! (23 ∷ 24 ∷ []) $ free1 ! $ move ! (21 ∷ 22 ∷ []) $ free1 ! $ move ! (19 ∷ 20 ∷ []) $ free1 ! $ move ! (17 ∷ 18 ∷ []) $ free1 ! $ move ! (15 ∷ 16 ∷ []) $ free1 ! $ move ! (13 ∷ 14 ∷ []) $ free1 ! $ move ! (11 ∷ 12 ∷ []) $ free1 ! $ move ! (9 ∷ 10 ∷ []) $ free1 ! $ move ! (0 ∷ 8 ∷ []) $ free1 ! $ move ! (5 ∷ 6 ∷ []) $ free1 ! $ move ! (3 ∷ 4 ∷ []) $ free1 ! $ move ! (1 ∷ 2 ∷ []) $ free1 ! $ free0 ! $
+        move ! (27 ∷ 28 ∷ []) $ free1 ! $ move ! (25 ∷ 26 ∷ []) $ free1 ! $ move ! (23 ∷ 24 ∷ []) $ free1 ! $ move ! (21 ∷ 22 ∷ []) $ free1 ! $ move ! (19 ∷ 20 ∷ []) $ free1 ! $ move ! (17 ∷ 18 ∷ []) $ free1 ! $ move ! (15 ∷ 16 ∷ []) $ free1 ! $ move ! (13 ∷ 14 ∷ []) $
+        free1 ! $ move ! (11 ∷ 12 ∷ []) $ free1 ! $ move ! (9 ∷ 10 ∷ []) $ free1 ! $ move ! (0 ∷ 8 ∷ []) $ free1 ! $ move ! (5 ∷ 6 ∷ []) $ free1 ! $ move ! (3 ∷ 4 ∷ []) $ free1 ! $ move ! (1 ∷ 2 ∷ []) $ free1 ! $ free0 ! $
         by ! (ends r (p .3) z-of)))))))))))))))))))))

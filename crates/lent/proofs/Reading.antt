@@ -66,7 +66,31 @@ module _ (S G I O Z : Data) (G² : Copied G) (I² : Copied I) (O² : Copied O) (
   stayed = (gave-ref (0 ∷ []) tt (plain (λ _. row S)), (stay-dropped (shrRef 1 tt (λ _. row G)) yes, (stay-dropped (shrRef 2 tt (λ _. row I)) yes, (stay-dropped (shrRef 3 tt (λ _. row O)) yes, (stay-dropped (shrSlice 4 tt (λ _. f64)) yes, (stay-dropped (shrSlice 5 tt (λ _. f64)) yes, (stay-dropped (shrSlice 6 tt (λ _. f64)) yes, (stay-dropped (shrSlice 7 tt (λ _. f64)) yes, (stay-dropped (shrSlice 8 tt (λ _. f64)) yes, tt)))))))))
 
   abbrev goes : AllGo 𝓤 H A W 9 (T .signature .params) (T .kept) stayed
-  goes = (goes-gave-ref 𝓤 H A W 9 0 tt (plain (λ _. row S)), (goes-dropped 𝓤 H A W 9 (shrRef 1 tt (λ _. row G)) yes (λ κs x w. refl), (goes-dropped 𝓤 H A W 9 (shrRef 2 tt (λ _. row I)) yes (λ κs x w. refl), (goes-dropped 𝓤 H A W 9 (shrRef 3 tt (λ _. row O)) yes (λ κs x w. refl), (goes-dropped 𝓤 H A W 9 (shrSlice 4 tt (λ _. f64)) yes (λ κs x w. refl), (goes-dropped 𝓤 H A W 9 (shrSlice 5 tt (λ _. f64)) yes (λ κs x w. refl), (goes-dropped 𝓤 H A W 9 (shrSlice 6 tt (λ _. f64)) yes (λ κs x w. refl), (goes-dropped 𝓤 H A W 9 (shrSlice 7 tt (λ _. f64)) yes (λ κs x w. refl), (goes-dropped 𝓤 H A W 9 (shrSlice 8 tt (λ _. f64)) yes (λ κs x w. refl), tt)))))))))
+  goes = (
+    goes-gave-ref 𝓤 H A W 9 0 tt (plain (λ _. row S)),
+    (
+      goes-dropped 𝓤 H A W 9 (shrRef 1 tt (λ _. row G)) yes (λ κs x w. refl),
+      (
+        goes-dropped 𝓤 H A W 9 (shrRef 2 tt (λ _. row I)) yes (λ κs x w. refl),
+        (
+          goes-dropped 𝓤 H A W 9 (shrRef 3 tt (λ _. row O)) yes (λ κs x w. refl),
+          (
+            goes-dropped 𝓤 H A W 9 (shrSlice 4 tt (λ _. f64)) yes (λ κs x w. refl),
+            (
+              goes-dropped 𝓤 H A W 9 (shrSlice 5 tt (λ _. f64)) yes (λ κs x w. refl),
+              (
+                goes-dropped 𝓤 H A W 9 (shrSlice 6 tt (λ _. f64)) yes (λ κs x w. refl),
+                (
+                  goes-dropped 𝓤 H A W 9 (shrSlice 7 tt (λ _. f64)) yes (λ κs x w. refl),
+                  (goes-dropped 𝓤 H A W 9 (shrSlice 8 tt (λ _. f64)) yes (λ κs x w. refl), tt),
+                ),
+              ),
+            ),
+          ),
+        ),
+      ),
+    ),
+  )
 
   module _ (κ κG κI κO : Lft) (q qG qI qO : Share) (κs : Lfts 5) (qs : Shares 5) (b o bG oG bI oI bO oO : ℕ) (γ γG γI γO : GName) (h : S .D) (g : G .D) (i : I .D) (u : O .D) (l : Ls) where
     abbrev x : RefT (S .D) × (RefT (G .D) × (RefT (I .D) × (RefT (O .D) × Ls)))
