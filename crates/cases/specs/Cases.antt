@@ -1,6 +1,6 @@
 -- The case of 01-scope.md without a star, last t 4294967295:
 -- what the program's ticks are given, and the names of its lines.
-use Prim.Native.Nat.{ℕ}
+use Prim.Native.Nat.{ℕ, _+_}
 use mathlib.Core.Bool.{true, false}
 use mathlib.Core.List.{List, [], _∷_, _++_}
 use lib.Ieee.{Float}
@@ -13,6 +13,7 @@ use Rattle.lictor_core.specs.declared.envelope.Hysteresis.{Hysteresis}
 use Rattle.lictor_core.specs.declared.envelope.Settings.{Settings}
 use Rattle.lictor_core.specs.declared.fuse.FuseRt.{FuseRt}
 use Rattle.lictor_core.specs.Initial.{zeroFloat, newOf, resetOf}
+use Rattle.lictor_core.specs.Masks.{tier0Soft, brakeBit}
 use Rattle.lictor_fuse.specs.declared.Ticked.{Ticked}
 use Rattle.lictor_fuse.specs.Tick.{tickOf}
 use Rattle.samples.specs.Samples.{sampleSettings, sampleOutcome, sampleInput, sampleChunk}
@@ -36,7 +37,7 @@ wideLimits = record {
 }
 
 unfoldable pub clockSettings : Settings
-clockSettings = sampleSettings wideLimits 1 127 zeroFloat
+clockSettings = sampleSettings wideLimits 1 (tier0Soft + brakeBit) zeroFloat
 
 -- a tick after r, with or without a chunk and its values; nothing trips
 unfoldable pub clockTick : FuseRt → (t missed : ℕ) → MaybeChunk → List Float → Ticked

@@ -15,26 +15,37 @@ ghost use mathlib.Core.Bool.{true, false};
 ghost use Rattle.text.specs.Line.{lineOf};
 ghost use Rattle.lictor_core.specs.declared.ack.MaybeAck.the-variants.{NoAck};
 ghost use Rattle.lictor_core.specs.Initial.{zeroFloat, zeros};
+ghost use Rattle.lictor_core.specs.Sizes.{features};
 ghost use Rattle.samples.specs.Samples.{sampleOutcome, sampleInput};
 ghost use Rattle.cases.specs.Cases.{nameText, wideLimits, clockSettings, clockTick, clockAt, tickAfter};
 use libc::STDOUT_FILENO;
 use lictor_core::ack::MaybeAck;
 use lictor_core::chunk::ChunkHead;
+use lictor_core::chunk::EE_POSITION;
 use lictor_core::chunk::MaybeChunk;
+use lictor_core::envelope::ACK_ONLY;
 use lictor_core::envelope::Calibration;
 use lictor_core::envelope::Hysteresis;
+use lictor_core::envelope::PROJECT;
 use lictor_core::envelope::Settings;
 use lictor_core::fuse::FuseRt;
 use lictor_core::fuse::TickInput;
 use lictor_core::outcome::Outcome;
 use lictor_core::rows::no_row;
+use lictor_core::scores::NFEAT;
 use lictor_core::scores::Scores;
+use lictor_core::state::ENFORCE;
+use lictor_core::verdict::BRAKE;
+use lictor_core::verdict::TIER0_SOFT;
 use lictor_fuse::Ticked;
 use report::render::LINES;
 use report::render::tick_text;
 use text::Line;
 
 // ---- what a tick is given
+
+// The bits that a tier 0 check can find.
+const TIER0: u32 = TIER0_SOFT | BRAKE;
 
 // No limit is in the way; any number of ticks may be missed.
 fn limits() -> Hysteresis
@@ -66,10 +77,10 @@ fn settings() -> Settings
     let box_lo = no_row();
     let box_hi = no_row();
     Settings {
-        mode: 1,
-        kind: 0,
-        clamp: 1,
-        rearm: 1,
+        mode: ENFORCE,
+        kind: EE_POSITION,
+        clamp: PROJECT,
+        rearm: ACK_ONLY,
         dim: 1,
         pos_dim: 1,
         horizon: 1,
@@ -81,15 +92,15 @@ fn settings() -> Settings
         box_hi,
         hyst,
         window_mask: 1,
-        tier0_enabled: 127,
+        tier0_enabled: TIER0,
         calib,
     }
 }
 
-fn no_scores() -> [f64; 12]
-    ensures { λ r. ⌜ r ≡ zeros 12 ⌝ }
+fn no_scores() -> [f64; NFEAT]
+    ensures { λ r. ⌜ r ≡ zeros features ⌝ }
 {
-    [0.0; 12]
+    [0.0; NFEAT]
 }
 
 // Nothing trips.
@@ -165,17 +176,23 @@ fn first(last: u32) -> FuseRt
 }
 
 // The tick after it, which brings a chunk that fits its t.
-fn after(last: u32, missed: u8, t: u32) -> Ticked
-    ensures { λ r. ⌜ r ≡ tickAfter last missed t ⌝ }
+fn after(last: u32, missed: u8, time: u32) -> Ticked
+    ensures { λ r. ⌜ r ≡ tickAfter last missed time ⌝ }
 {
     let head = ChunkHead {
         seq: 0,
-        t_emit: t,
+        t_emit: time,
         horizon: 1,
         dim: 1,
         exec_steps: 1,
     };
-    clock_tick(first(last), t, missed, MaybeChunk::Delivered(head), &[0.0])
+    clock_tick(
+        first(last),
+        time,
+        missed,
+        MaybeChunk::Delivered(head),
+        &[0.0],
+    )
 }
 
 // ---- what is written

@@ -95,10 +95,11 @@ pub fn clamp(x: f64, lo: f64, hi: f64) -> f64
 
 // ---- norm
 
-fn least(n: usize, k: usize) -> usize
-    ensures { λ r. ⌜ r ≡ Nat·min n k ⌝ }
+// How many of the first n there are among `len`.
+fn available(n: usize, len: usize) -> usize
+    ensures { λ r. ⌜ r ≡ Nat·min n len ⌝ }
 {
-    if n < k { n } else { k }
+    if n < len { n } else { len }
 }
 
 // The Euclidean norm of the first n components, or of all where there are fewer, added up by rising
@@ -106,14 +107,14 @@ fn least(n: usize, k: usize) -> usize
 pub fn norm(v: &[f64], n: usize) -> f64
     ensures { λ r. ⌜ r ≡ normOf (now (v .entry)) n ⌝ }
 {
-    let m = least(n, v.len());
-    let mut s = 0.0;
+    let m = available(n, v.len());
+    let mut sum = 0.0;
     let mut i = 0;
     while i < m {
-        s += v[i] * v[i];
+        sum += v[i] * v[i];
         i += 1;
     }
-    sqrt(s)
+    sqrt(sum)
 }
 
 // ---- square root

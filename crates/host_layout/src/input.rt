@@ -4,14 +4,18 @@
 ghost use mathlib.Core.Path.{_≡_};
 ghost use Rattle.host_layout.specs.Flags.{flagOf, sureOf};
 ghost use Rattle.host_layout.specs.Input.{settingsIn, chunkIn, ackGiven, ackBy, ackIn, inputIn, outcomeIn};
+use lictor_core::ack::DECISIONS;
 use lictor_core::ack::MaybeAck;
 use lictor_core::ack::VerifiedAck;
 use lictor_core::ack::decision_of;
 use lictor_core::chunk::ChunkHead;
+use lictor_core::chunk::MAX_D;
+use lictor_core::chunk::MAX_POS;
 use lictor_core::chunk::MaybeChunk;
 use lictor_core::envelope::Calibration;
 use lictor_core::envelope::Hysteresis;
 use lictor_core::fuse::TickInput;
+use lictor_core::scores::NFEAT;
 use lictor_core::scores::Scores;
 use lictor_core::state::Time;
 
@@ -46,8 +50,8 @@ pub struct Settings {
     pub v_stop_eps: f64,
     pub warn_margin: f64,
     pub tau: f64,
-    pub box_lo: [f64; 8],
-    pub box_hi: [f64; 8],
+    pub box_lo: [f64; MAX_POS],
+    pub box_hi: [f64; MAX_POS],
 }
 
 #[repr(C)]
@@ -90,9 +94,9 @@ pub struct Outcome {
     pub s: f64,
     pub valid: u32,
     pub fired: u32,
-    pub z: [f64; 12],
-    pub policy: [f64; 8],
-    pub clamped: [f64; 8],
+    pub z: [f64; NFEAT],
+    pub policy: [f64; MAX_D],
+    pub clamped: [f64; MAX_D],
 }
 
 // Any value but 0 is a yes.
@@ -109,112 +113,112 @@ fn sure(n: u8) -> bool
     n == 1
 }
 
-pub fn settings_in(s: Settings) -> lictor_core::envelope::Settings
-    ensures { λ r. ⌜ r ≡ settingsIn s ⌝ }
+pub fn settings_in(given: Settings) -> lictor_core::envelope::Settings
+    ensures { λ r. ⌜ r ≡ settingsIn given ⌝ }
 {
-    let box_lo = s.box_lo;
-    let box_hi = s.box_hi;
+    let box_lo = given.box_lo;
+    let box_hi = given.box_hi;
     let hyst = Hysteresis {
-        k: s.k,
-        warn_margin: s.warn_margin,
-        clear_ticks: s.clear_ticks,
-        clamp_streak_to_brake: s.clamp_streak_to_brake,
-        max_clamps_per_episode: s.max_clamps_per_episode,
-        stop_confirm_ticks: s.stop_confirm_ticks,
-        v_stop_eps: s.v_stop_eps,
-        brake_timeout_ticks: s.brake_timeout_ticks,
-        rearm_hold: s.rearm_hold,
-        max_rearms: s.max_rearms,
-        escalate_after_hold_ticks: s.escalate_after_hold_ticks,
-        handoff_timeout_ticks: s.handoff_timeout_ticks,
-        watchdog_ticks: s.watchdog_ticks,
+        k: given.k,
+        warn_margin: given.warn_margin,
+        clear_ticks: given.clear_ticks,
+        clamp_streak_to_brake: given.clamp_streak_to_brake,
+        max_clamps_per_episode: given.max_clamps_per_episode,
+        stop_confirm_ticks: given.stop_confirm_ticks,
+        v_stop_eps: given.v_stop_eps,
+        brake_timeout_ticks: given.brake_timeout_ticks,
+        rearm_hold: given.rearm_hold,
+        max_rearms: given.max_rearms,
+        escalate_after_hold_ticks: given.escalate_after_hold_ticks,
+        handoff_timeout_ticks: given.handoff_timeout_ticks,
+        watchdog_ticks: given.watchdog_ticks,
     };
     let calib = Calibration {
-        mask: s.calib_mask,
-        tau: s.tau,
+        mask: given.calib_mask,
+        tau: given.tau,
     };
     lictor_core::envelope::Settings {
-        mode: s.mode,
-        kind: s.kind,
-        clamp: s.clamp,
-        rearm: s.rearm,
-        dim: s.dim,
-        pos_dim: s.pos_dim,
-        horizon: s.horizon,
-        exec: s.exec,
-        dt: s.dt,
-        inv_dt: s.inv_dt,
-        a_max: s.a_max,
+        mode: given.mode,
+        kind: given.kind,
+        clamp: given.clamp,
+        rearm: given.rearm,
+        dim: given.dim,
+        pos_dim: given.pos_dim,
+        horizon: given.horizon,
+        exec: given.exec,
+        dt: given.dt,
+        inv_dt: given.inv_dt,
+        a_max: given.a_max,
         box_lo,
         box_hi,
         hyst,
-        window_mask: s.window_mask,
-        tier0_enabled: s.tier0_enabled,
+        window_mask: given.window_mask,
+        tier0_enabled: given.tier0_enabled,
         calib,
     }
 }
 
-fn chunk_in(has: u8, c: Chunk) -> MaybeChunk
-    ensures { λ r. ⌜ r ≡ chunkIn has c ⌝ }
+fn chunk_in(has: u8, given: Chunk) -> MaybeChunk
+    ensures { λ r. ⌜ r ≡ chunkIn has given ⌝ }
 {
     if has == 0 {
         return MaybeChunk::NoChunk;
     }
     let head = ChunkHead {
-        seq: c.seq,
-        t_emit: c.t_emit,
-        horizon: c.horizon,
-        dim: c.dim,
-        exec_steps: c.exec_steps,
+        seq: given.seq,
+        t_emit: given.t_emit,
+        horizon: given.horizon,
+        dim: given.dim,
+        exec_steps: given.exec_steps,
     };
     MaybeChunk::Delivered(head)
 }
 
-fn ack_given(a: Ack) -> MaybeAck
-    ensures { λ r. ⌜ r ≡ ackGiven a ⌝ }
+fn ack_given(ack: Ack) -> MaybeAck
+    ensures { λ r. ⌜ r ≡ ackGiven ack ⌝ }
 {
-    let decision = decision_of(a.decision);
+    let decision = decision_of(ack.decision);
     let given = VerifiedAck {
         decision,
-        operator_slot: a.operator_slot,
-        nonce: a.nonce,
-        handoff_seq: a.handoff_seq,
+        operator_slot: ack.operator_slot,
+        nonce: ack.nonce,
+        handoff_seq: ack.handoff_seq,
     };
     MaybeAck::Given(given)
 }
 
-fn ack_by(a: Ack) -> MaybeAck
-    ensures { λ r. ⌜ r ≡ ackBy a ⌝ }
+fn ack_by(ack: Ack) -> MaybeAck
+    ensures { λ r. ⌜ r ≡ ackBy ack ⌝ }
 {
-    if 3 <= a.decision {
+    if DECISIONS <= ack.decision {
         return MaybeAck::NoAck;
     }
-    ack_given(a)
+    ack_given(ack)
 }
 
-fn ack_in(has: u8, a: Ack) -> MaybeAck
-    ensures { λ r. ⌜ r ≡ ackIn has a ⌝ }
+fn ack_in(has: u8, ack: Ack) -> MaybeAck
+    ensures { λ r. ⌜ r ≡ ackIn has ack ⌝ }
 {
     let given = sure(has);
     if given {
-        return ack_by(a);
+        return ack_by(ack);
     }
     MaybeAck::NoAck
 }
 
-pub fn input_in(i: Input) -> TickInput
-    ensures { λ r. ⌜ r ≡ inputIn i ⌝ }
+pub fn input_in(given: Input) -> TickInput
+    ensures { λ r. ⌜ r ≡ inputIn given ⌝ }
 {
-    let c = i.chunk;
-    let a = i.ack;
-    let schema_fault = flag(i.schema_fault);
-    let has_vel = flag(i.has_vel);
-    let chunk = chunk_in(i.has_chunk, c);
-    let ack = ack_in(i.has_ack, a);
+    let c = given.chunk;
+    let a = given.ack;
+    let schema_fault = flag(given.schema_fault);
+    let has_vel = flag(given.has_vel);
+    let chunk = chunk_in(given.has_chunk, c);
+    let ack = ack_in(given.has_ack, a);
     TickInput {
-        t: i.t,
-        idx: i.idx,
-        missed_ticks: i.missed_ticks,
+        t: given.t,
+        idx: given.idx,
+        missed_ticks: given.missed_ticks,
         schema_fault,
         has_vel,
         chunk,
@@ -222,24 +226,24 @@ pub fn input_in(i: Input) -> TickInput
     }
 }
 
-pub fn outcome_in(o: Outcome) -> lictor_core::outcome::Outcome
-    ensures { λ r. ⌜ r ≡ outcomeIn o ⌝ }
+pub fn outcome_in(given: Outcome) -> lictor_core::outcome::Outcome
+    ensures { λ r. ⌜ r ≡ outcomeIn given ⌝ }
 {
-    let z = o.z;
-    let policy = o.policy;
-    let clamped = o.clamped;
-    let feasible = sure(o.feasible);
+    let standardised = given.z;
+    let policy = given.policy;
+    let clamped = given.clamped;
+    let feasible = sure(given.feasible);
     let scores = Scores {
-        z,
-        s: o.s,
-        valid: o.valid,
-        fired: o.fired,
+        z: standardised,
+        s: given.s,
+        valid: given.valid,
+        fired: given.fired,
     };
     lictor_core::outcome::Outcome {
-        trips: o.trips,
-        clamped_dims: o.clamped_dims,
+        trips: given.trips,
+        clamped_dims: given.clamped_dims,
         feasible,
-        margin: o.margin,
+        margin: given.margin,
         scores,
         policy,
         clamped,

@@ -6,19 +6,24 @@ ghost use mathlib.Core.Path.{_≡_};
 ghost use Rattle.host_layout.specs.State.{stateOf, reasonOf, markIn, markOut, reasonMarkIn, reasonSet, reasonMarkOut, controlIn, controlOut, motionIn, motionOut, clockIn, clockOut, tallyIn, tallyOut, stateIn, stateOut};
 use crate::input::flag;
 use crate::verdict::code;
+use lictor_core::chunk::MAX_D;
+use lictor_core::chunk::MAX_POS;
+use lictor_core::envelope::MAX_OPERATORS;
 use lictor_core::fuse::FuseRt;
 use lictor_core::fuse::Window;
 use lictor_core::reason::ReasonCode;
 use lictor_core::reason::reason_code;
+use lictor_core::scores::NFEAT;
 use lictor_core::state::FuseState;
 use lictor_core::state::Time;
 use lictor_core::state::state_code;
+use lictor_core::verdict::TRIP_BITS;
 
 #[repr(C)]
 pub struct Control {
     pub window: u64,
     pub state: u8,
-    pub hold: [f64; 8],
+    pub hold: [f64; MAX_POS],
     pub clean_run: u16,
     pub clamp_streak: u8,
     pub clamps: u16,
@@ -30,16 +35,16 @@ pub struct Control {
     pub rearms: u8,
     pub handoff_seq: u32,
     pub handoff_pending: u8,
-    pub last_nonce: [u64; 8],
+    pub last_nonce: [u64; MAX_OPERATORS],
 }
 
 #[repr(C)]
 pub struct Motion {
-    pub pos: [f64; 8],
-    pub prev_pos: [f64; 8],
-    pub vel: [f64; 8],
+    pub pos: [f64; MAX_POS],
+    pub prev_pos: [f64; MAX_POS],
+    pub vel: [f64; MAX_POS],
     pub have_prev_pos: u8,
-    pub last_cmd: [f64; 8],
+    pub last_cmd: [f64; MAX_D],
 }
 
 #[repr(C)]
@@ -83,15 +88,15 @@ pub struct Tally {
     pub holds: u32,
     pub rearms: u32,
     pub escalations: u32,
-    pub trips_by_bit: [u32; 16],
-    pub fired_by_feat: [u32; 12],
+    pub trips_by_bit: [u32; TRIP_BITS],
+    pub fired_by_feat: [u32; NFEAT],
     pub first_trip_tick: Mark,
     pub first_trip_reason: ReasonMark,
     pub first_stop_tick: Mark,
     pub handoff_tick: Mark,
     pub violations_reached_env: u32,
     pub max_s: f64,
-    pub max_z: [f64; 12],
+    pub max_z: [f64; NFEAT],
     pub terminal_state: u8,
 }
 
@@ -200,41 +205,41 @@ fn reason_mark_out(m: lictor_core::tally::ReasonMark) -> ReasonMark
     }
 }
 
-fn control_in(c: Control) -> lictor_core::fuse::Control
-    ensures { λ r. ⌜ r ≡ controlIn c ⌝ }
+fn control_in(given: Control) -> lictor_core::fuse::Control
+    ensures { λ r. ⌜ r ≡ controlIn given ⌝ }
 {
-    let hold = c.hold;
-    let last_nonce = c.last_nonce;
-    let window = Window { bits: c.window };
-    let state = state_of(c.state);
-    let handoff_pending = flag(c.handoff_pending);
+    let hold = given.hold;
+    let last_nonce = given.last_nonce;
+    let window = Window { bits: given.window };
+    let state = state_of(given.state);
+    let handoff_pending = flag(given.handoff_pending);
     lictor_core::fuse::Control {
         window,
         state,
         hold,
-        clean_run: c.clean_run,
-        clamp_streak: c.clamp_streak,
-        clamps: c.clamps,
-        brake_ticks: c.brake_ticks,
-        stopped_ticks: c.stopped_ticks,
-        held_ticks: c.held_ticks,
-        held_clean: c.held_clean,
-        escalated_ticks: c.escalated_ticks,
-        rearms: c.rearms,
-        handoff_seq: c.handoff_seq,
+        clean_run: given.clean_run,
+        clamp_streak: given.clamp_streak,
+        clamps: given.clamps,
+        brake_ticks: given.brake_ticks,
+        stopped_ticks: given.stopped_ticks,
+        held_ticks: given.held_ticks,
+        held_clean: given.held_clean,
+        escalated_ticks: given.escalated_ticks,
+        rearms: given.rearms,
+        handoff_seq: given.handoff_seq,
         handoff_pending,
         last_nonce,
     }
 }
 
-fn motion_in(c: Motion) -> lictor_core::fuse::Motion
-    ensures { λ r. ⌜ r ≡ motionIn c ⌝ }
+fn motion_in(given: Motion) -> lictor_core::fuse::Motion
+    ensures { λ r. ⌜ r ≡ motionIn given ⌝ }
 {
-    let pos = c.pos;
-    let prev_pos = c.prev_pos;
-    let vel = c.vel;
-    let last_cmd = c.last_cmd;
-    let have_prev_pos = flag(c.have_prev_pos);
+    let pos = given.pos;
+    let prev_pos = given.prev_pos;
+    let vel = given.vel;
+    let last_cmd = given.last_cmd;
+    let have_prev_pos = flag(given.have_prev_pos);
     lictor_core::fuse::Motion {
         pos,
         prev_pos,
@@ -244,101 +249,101 @@ fn motion_in(c: Motion) -> lictor_core::fuse::Motion
     }
 }
 
-fn clock_in(c: Clock) -> lictor_core::fuse::Clock
-    ensures { λ r. ⌜ r ≡ clockIn c ⌝ }
+fn clock_in(given: Clock) -> lictor_core::fuse::Clock
+    ensures { λ r. ⌜ r ≡ clockIn given ⌝ }
 {
-    let filled = flag(c.filled);
-    let chunk_ok_this_tick = flag(c.chunk_ok_this_tick);
+    let filled = flag(given.filled);
+    let chunk_ok_this_tick = flag(given.chunk_ok_this_tick);
     lictor_core::fuse::Clock {
         filled,
-        seq: c.seq,
-        last_t: c.last_t,
-        next_chunk_seq: c.next_chunk_seq,
+        seq: given.seq,
+        last_t: given.last_t,
+        next_chunk_seq: given.next_chunk_seq,
         chunk_ok_this_tick,
     }
 }
 
-fn tally_in(c: Tally) -> lictor_core::tally::Tally
-    ensures { λ r. ⌜ r ≡ tallyIn c ⌝ }
+fn tally_in(given: Tally) -> lictor_core::tally::Tally
+    ensures { λ r. ⌜ r ≡ tallyIn given ⌝ }
 {
-    let trips_by_bit = c.trips_by_bit;
-    let fired_by_feat = c.fired_by_feat;
-    let trip_at = c.first_trip_tick;
-    let trip_why = c.first_trip_reason;
-    let stop_at = c.first_stop_tick;
-    let handoff_at = c.handoff_tick;
-    let max_z = c.max_z;
+    let trips_by_bit = given.trips_by_bit;
+    let fired_by_feat = given.fired_by_feat;
+    let trip_at = given.first_trip_tick;
+    let trip_why = given.first_trip_reason;
+    let stop_at = given.first_stop_tick;
+    let handoff_at = given.handoff_tick;
+    let max_z = given.max_z;
     let first_trip_tick = mark_in(trip_at);
     let first_trip_reason = reason_mark_in(trip_why);
     let first_stop_tick = mark_in(stop_at);
     let handoff_tick = mark_in(handoff_at);
-    let terminal_state = state_of(c.terminal_state);
+    let terminal_state = state_of(given.terminal_state);
     lictor_core::tally::Tally {
-        ticks: c.ticks,
-        nominal: c.nominal,
-        watching: c.watching,
-        clamped: c.clamped,
-        braking: c.braking,
-        held: c.held,
-        escalated: c.escalated,
-        fault: c.fault,
-        terminated: c.terminated,
-        substituted: c.substituted,
-        chunks_seen: c.chunks_seen,
-        chunks_rejected: c.chunks_rejected,
-        clamps: c.clamps,
-        holds: c.holds,
-        rearms: c.rearms,
-        escalations: c.escalations,
+        ticks: given.ticks,
+        nominal: given.nominal,
+        watching: given.watching,
+        clamped: given.clamped,
+        braking: given.braking,
+        held: given.held,
+        escalated: given.escalated,
+        fault: given.fault,
+        terminated: given.terminated,
+        substituted: given.substituted,
+        chunks_seen: given.chunks_seen,
+        chunks_rejected: given.chunks_rejected,
+        clamps: given.clamps,
+        holds: given.holds,
+        rearms: given.rearms,
+        escalations: given.escalations,
         trips_by_bit,
         fired_by_feat,
         first_trip_tick,
         first_trip_reason,
         first_stop_tick,
         handoff_tick,
-        violations_reached_env: c.violations_reached_env,
-        max_s: c.max_s,
+        violations_reached_env: given.violations_reached_env,
+        max_s: given.max_s,
         max_z,
         terminal_state,
     }
 }
 
-fn control_out(c: lictor_core::fuse::Control) -> Control
-    ensures { λ r. ⌜ r ≡ controlOut c ⌝ }
+fn control_out(control: lictor_core::fuse::Control) -> Control
+    ensures { λ r. ⌜ r ≡ controlOut control ⌝ }
 {
-    let window = c.window;
-    let now = c.state;
-    let hold = c.hold;
-    let last_nonce = c.last_nonce;
+    let window = control.window;
+    let now = control.state;
+    let hold = control.hold;
+    let last_nonce = control.last_nonce;
     let state = state_code(now);
-    let handoff_pending = code(c.handoff_pending);
+    let handoff_pending = code(control.handoff_pending);
     Control {
         window: window.bits,
         state,
         hold,
-        clean_run: c.clean_run,
-        clamp_streak: c.clamp_streak,
-        clamps: c.clamps,
-        brake_ticks: c.brake_ticks,
-        stopped_ticks: c.stopped_ticks,
-        held_ticks: c.held_ticks,
-        held_clean: c.held_clean,
-        escalated_ticks: c.escalated_ticks,
-        rearms: c.rearms,
-        handoff_seq: c.handoff_seq,
+        clean_run: control.clean_run,
+        clamp_streak: control.clamp_streak,
+        clamps: control.clamps,
+        brake_ticks: control.brake_ticks,
+        stopped_ticks: control.stopped_ticks,
+        held_ticks: control.held_ticks,
+        held_clean: control.held_clean,
+        escalated_ticks: control.escalated_ticks,
+        rearms: control.rearms,
+        handoff_seq: control.handoff_seq,
         handoff_pending,
         last_nonce,
     }
 }
 
-fn motion_out(c: lictor_core::fuse::Motion) -> Motion
-    ensures { λ r. ⌜ r ≡ motionOut c ⌝ }
+fn motion_out(motion: lictor_core::fuse::Motion) -> Motion
+    ensures { λ r. ⌜ r ≡ motionOut motion ⌝ }
 {
-    let pos = c.pos;
-    let prev_pos = c.prev_pos;
-    let vel = c.vel;
-    let last_cmd = c.last_cmd;
-    let have_prev_pos = code(c.have_prev_pos);
+    let pos = motion.pos;
+    let prev_pos = motion.prev_pos;
+    let vel = motion.vel;
+    let last_cmd = motion.last_cmd;
+    let have_prev_pos = code(motion.have_prev_pos);
     Motion {
         pos,
         prev_pos,
@@ -348,61 +353,61 @@ fn motion_out(c: lictor_core::fuse::Motion) -> Motion
     }
 }
 
-fn clock_out(c: lictor_core::fuse::Clock) -> Clock
-    ensures { λ r. ⌜ r ≡ clockOut c ⌝ }
+fn clock_out(clock: lictor_core::fuse::Clock) -> Clock
+    ensures { λ r. ⌜ r ≡ clockOut clock ⌝ }
 {
-    let filled = code(c.filled);
-    let chunk_ok_this_tick = code(c.chunk_ok_this_tick);
+    let filled = code(clock.filled);
+    let chunk_ok_this_tick = code(clock.chunk_ok_this_tick);
     Clock {
         filled,
-        seq: c.seq,
-        last_t: c.last_t,
-        next_chunk_seq: c.next_chunk_seq,
+        seq: clock.seq,
+        last_t: clock.last_t,
+        next_chunk_seq: clock.next_chunk_seq,
         chunk_ok_this_tick,
     }
 }
 
-fn tally_out(c: lictor_core::tally::Tally) -> Tally
-    ensures { λ r. ⌜ r ≡ tallyOut c ⌝ }
+fn tally_out(tally: lictor_core::tally::Tally) -> Tally
+    ensures { λ r. ⌜ r ≡ tallyOut tally ⌝ }
 {
-    let trips_by_bit = c.trips_by_bit;
-    let fired_by_feat = c.fired_by_feat;
-    let trip_at = c.first_trip_tick;
-    let trip_why = c.first_trip_reason;
-    let stop_at = c.first_stop_tick;
-    let handoff_at = c.handoff_tick;
-    let max_z = c.max_z;
-    let ended = c.terminal_state;
+    let trips_by_bit = tally.trips_by_bit;
+    let fired_by_feat = tally.fired_by_feat;
+    let trip_at = tally.first_trip_tick;
+    let trip_why = tally.first_trip_reason;
+    let stop_at = tally.first_stop_tick;
+    let handoff_at = tally.handoff_tick;
+    let max_z = tally.max_z;
+    let ended = tally.terminal_state;
     let first_trip_tick = mark_out(trip_at);
     let first_trip_reason = reason_mark_out(trip_why);
     let first_stop_tick = mark_out(stop_at);
     let handoff_tick = mark_out(handoff_at);
     let terminal_state = state_code(ended);
     Tally {
-        ticks: c.ticks,
-        nominal: c.nominal,
-        watching: c.watching,
-        clamped: c.clamped,
-        braking: c.braking,
-        held: c.held,
-        escalated: c.escalated,
-        fault: c.fault,
-        terminated: c.terminated,
-        substituted: c.substituted,
-        chunks_seen: c.chunks_seen,
-        chunks_rejected: c.chunks_rejected,
-        clamps: c.clamps,
-        holds: c.holds,
-        rearms: c.rearms,
-        escalations: c.escalations,
+        ticks: tally.ticks,
+        nominal: tally.nominal,
+        watching: tally.watching,
+        clamped: tally.clamped,
+        braking: tally.braking,
+        held: tally.held,
+        escalated: tally.escalated,
+        fault: tally.fault,
+        terminated: tally.terminated,
+        substituted: tally.substituted,
+        chunks_seen: tally.chunks_seen,
+        chunks_rejected: tally.chunks_rejected,
+        clamps: tally.clamps,
+        holds: tally.holds,
+        rearms: tally.rearms,
+        escalations: tally.escalations,
         trips_by_bit,
         fired_by_feat,
         first_trip_tick,
         first_trip_reason,
         first_stop_tick,
         handoff_tick,
-        violations_reached_env: c.violations_reached_env,
-        max_s: c.max_s,
+        violations_reached_env: tally.violations_reached_env,
+        max_s: tally.max_s,
         max_z,
         terminal_state,
     }

@@ -3,7 +3,9 @@
 ghost use mathlib.Core.Path.{_≡_};
 ghost use Rattle.host_layout.specs.Flags.{flagCode};
 ghost use Rattle.host_layout.specs.Verdict.{handoffSet, handoffNumber, verdictOut};
+use lictor_core::chunk::MAX_D;
 use lictor_core::reason::reason_code;
+use lictor_core::scores::NFEAT;
 use lictor_core::state::Time;
 use lictor_core::state::state_code;
 use lictor_core::verdict::MaybeHandoff;
@@ -19,12 +21,12 @@ pub struct Verdict {
     pub state: u8,
     pub prev_state: u8,
     pub trips: u32,
-    pub action: [f64; 8],
+    pub action: [f64; MAX_D],
     pub action_dim: u16,
     pub action_src: u8,
     pub substituted: u8,
     pub clamped_dims: u32,
-    pub z: [f64; 12],
+    pub z: [f64; NFEAT],
     pub s: f64,
     pub valid: u32,
     pub fired: u32,
@@ -66,18 +68,18 @@ fn handoff_number(h: MaybeHandoff) -> u32
     }
 }
 
-pub fn verdict_out(v: SafetyVerdict) -> Verdict
-    ensures { λ r. ⌜ r ≡ verdictOut v ⌝ }
+pub fn verdict_out(verdict: SafetyVerdict) -> Verdict
+    ensures { λ r. ⌜ r ≡ verdictOut verdict ⌝ }
 {
-    let st = v.status;
-    let to = v.state;
-    let from = v.prev_state;
-    let src = v.action_src;
-    let why = v.reason;
-    let handoff = v.handoff_seq;
-    let scores = v.scores;
-    let action = v.action;
-    let z = scores.z;
+    let st = verdict.status;
+    let to = verdict.state;
+    let from = verdict.prev_state;
+    let src = verdict.action_src;
+    let why = verdict.reason;
+    let handoff = verdict.handoff_seq;
+    let scores = verdict.scores;
+    let action = verdict.action;
+    let standardised = scores.z;
     let status = status_code(st);
     let state = state_code(to);
     let prev_state = state_code(from);
@@ -85,29 +87,29 @@ pub fn verdict_out(v: SafetyVerdict) -> Verdict
     let reason = reason_code(why);
     let handoff_set = handoff_set(handoff);
     let handoff_seq = handoff_number(handoff);
-    let substituted = code(v.substituted);
-    let ack_consumed = code(v.ack_consumed);
-    let violation_reached_env = code(v.violation_reached_env);
+    let substituted = code(verdict.substituted);
+    let ack_consumed = code(verdict.ack_consumed);
+    let violation_reached_env = code(verdict.violation_reached_env);
     Verdict {
-        seq: v.seq,
-        t: v.t,
+        seq: verdict.seq,
+        t: verdict.t,
         status,
         state,
         prev_state,
-        trips: v.trips,
+        trips: verdict.trips,
         action,
-        action_dim: v.action_dim,
+        action_dim: verdict.action_dim,
         action_src,
         substituted,
-        clamped_dims: v.clamped_dims,
-        z,
+        clamped_dims: verdict.clamped_dims,
+        z: standardised,
         s: scores.s,
         valid: scores.valid,
         fired: scores.fired,
-        tau: v.tau,
-        window: v.window,
-        window_hits: v.window_hits,
-        brake_margin: v.brake_margin,
+        tau: verdict.tau,
+        window: verdict.window,
+        window_hits: verdict.window_hits,
+        brake_margin: verdict.brake_margin,
         reason,
         handoff_set,
         handoff_seq,

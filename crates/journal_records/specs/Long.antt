@@ -7,6 +7,7 @@ use Rattle.lictor_core.specs.declared.envelope.Calibration.{Calibration}
 use Rattle.lictor_core.specs.declared.envelope.Settings.{Settings}
 use Rattle.lictor_core.specs.declared.scores.Scores.{Scores}
 use Rattle.lictor_core.specs.declared.outcome.Outcome.{Outcome}
+use Rattle.lictor_core.specs.Sizes.{maxD, maxPos, features}
 
 -- settings have their limits in several places of their 220 bytes
 unfoldable pub limitsOf : List ℕ → Hysteresis
@@ -44,8 +45,8 @@ settingsOf b = record {
   dt = floatAt b 44;
   «inv_dt» = floatAt b 52;
   «a_max» = floatAt b 60;
-  «box_lo» = floatsAt b 92 8;
-  «box_hi» = floatsAt b 156 8;
+  «box_lo» = floatsAt b 92 maxPos;
+  «box_hi» = floatsAt b 156 maxPos;
   hyst = limitsOf b;
   «window_mask» = leAt b 36 8;
   «tier0_enabled» = leAt b 28 4;
@@ -53,7 +54,7 @@ settingsOf b = record {
 }
 
 unfoldable pub scoresIn : List ℕ → Scores
-scoresIn b = record { z = floatsAt b 33 12; s = floatAt b 17; valid = leAt b 25 4; fired = leAt b 29 4 }
+scoresIn b = record { z = floatsAt b 33 features; s = floatAt b 17; valid = leAt b 25 4; fired = leAt b 29 4 }
 
 -- outcome: trips, clamped_dims, feasible flag, margin, s, valid, fired, z (12), policy row (8),
 -- clamped row (8)
@@ -64,6 +65,6 @@ outcomeOf b = record {
   feasible = flag (byteAt b 8);
   margin = floatAt b 9;
   scores = scoresIn b;
-  policy = floatsAt b 129 8;
-  clamped = floatsAt b 193 8;
+  policy = floatsAt b 129 maxD;
+  clamped = floatsAt b 193 maxD;
 }

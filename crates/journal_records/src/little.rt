@@ -5,7 +5,7 @@ ghost use Prim.Native.Nat.{_+_, _<_, _≤_};
 ghost use lib.ListN.{length};
 ghost use Rattle.journal_records.specs.Little.{byteAt, leAt, floatAt, flag};
 
-fn wide(x: u8) -> u64
+fn of_byte(x: u8) -> u64
     ensures { λ r. ⌜ (r ≡ x) × (r < 256) ⌝ }
 {
     x as u64
@@ -30,13 +30,13 @@ fn present(s: &[u8], at: usize, n: usize) -> u64
     requires { ⌜ (n ≤ 8) × (at + n ≤ length (now s)) ⌝ }
     ensures { λ r. ⌜ r ≡ leAt (now (s .entry)) at n ⌝ }
 {
-    let mut v: u64 = 0;
+    let mut value: u64 = 0;
     let mut i = n;
     while i > 0 {
         i -= 1;
-        v = v * 256 + wide(s[at + i]);
+        value = value * 256 + of_byte(s[at + i]);
     }
-    v
+    value
 }
 
 // The same of 8 bytes, as one sum: it is compiled to one load.
@@ -44,14 +44,14 @@ fn le_eight(s: &[u8], at: usize) -> u64
     requires { ⌜ at + 8 ≤ length (now s) ⌝ }
     ensures { λ r. ⌜ r ≡ leAt (now (s .entry)) at 8 ⌝ }
 {
-    wide(s[at])
-        + wide(s[at + 1]) * 0x100
-        + wide(s[at + 2]) * 0x1_0000
-        + wide(s[at + 3]) * 0x100_0000
-        + wide(s[at + 4]) * 0x1_0000_0000
-        + wide(s[at + 5]) * 0x100_0000_0000
-        + wide(s[at + 6]) * 0x1_0000_0000_0000
-        + wide(s[at + 7]) * 0x100_0000_0000_0000
+    of_byte(s[at])
+        + of_byte(s[at + 1]) * 0x100
+        + of_byte(s[at + 2]) * 0x1_0000
+        + of_byte(s[at + 3]) * 0x100_0000
+        + of_byte(s[at + 4]) * 0x1_0000_0000
+        + of_byte(s[at + 5]) * 0x100_0000_0000
+        + of_byte(s[at + 6]) * 0x1_0000_0000_0000
+        + of_byte(s[at + 7]) * 0x100_0000_0000_0000
 }
 
 // The n bytes from place at on.

@@ -2,6 +2,7 @@
 ghost use mathlib.Core.Path.{_≡_};
 ghost use Prim.Native.Nat.{_≤_};
 ghost use lib.ListN.{length};
+ghost use Rattle.lictor_core.specs.Sizes.{maxD, features};
 ghost use Rattle.journal_records.specs.Little.{floatsAt};
 ghost use Rattle.journal_records.specs.Long.{limitsOf, calibrationOf, settingsOf, scoresIn, outcomeOf};
 use crate::little::byte;
@@ -10,13 +11,15 @@ use crate::little::flag_set;
 use crate::little::le16;
 use crate::little::le32;
 use crate::little::le64;
+use lictor_core::chunk::MAX_D;
 use lictor_core::envelope::Calibration;
 use lictor_core::envelope::Hysteresis;
+use lictor_core::scores::NFEAT;
 use lictor_core::scores::Scores;
 
 // Floats from a place on, as many as there is room for.
 fn fill(b: &[u8], at: usize, out: &mut [f64])
-    requires { ⌜ (at ≤ 1024) × (length (now out) ≤ 12) ⌝ }
+    requires { ⌜ (at ≤ 1024) × (length (now out) ≤ features) ⌝ }
     ensures { λ _. ⌜ now (out .exit) ≡ floatsAt (now (b .entry)) at (length (now (out .entry))) ⌝ }
 {
     let mut i: usize = 0;
@@ -26,11 +29,12 @@ fn fill(b: &[u8], at: usize, out: &mut [f64])
     }
 }
 
-fn eight_floats(b: &[u8], at: usize) -> [f64; 8]
+// A row, of an action or of a position.
+fn row_at(b: &[u8], at: usize) -> [f64; MAX_D]
     requires { ⌜ at ≤ 1024 ⌝ }
-    ensures { λ r. ⌜ r ≡ floatsAt (now (b .entry)) at 8 ⌝ }
+    ensures { λ r. ⌜ r ≡ floatsAt (now (b .entry)) at maxD ⌝ }
 {
-    let mut out = [0.0; 8];
+    let mut out = [0.0; MAX_D];
     fill(b, at, &mut out);
     out
 }
@@ -68,8 +72,8 @@ fn read_calibration(b: &[u8]) -> Calibration
 pub fn read_settings(b: &[u8]) -> lictor_core::envelope::Settings
     ensures { λ r. ⌜ r ≡ settingsOf (now (b .entry)) ⌝ }
 {
-    let box_lo = eight_floats(b, 92);
-    let box_hi = eight_floats(b, 156);
+    let box_lo = row_at(b, 92);
+    let box_hi = row_at(b, 156);
     let hyst = read_limits(b);
     let calib = read_calibration(b);
     lictor_core::envelope::Settings {
@@ -96,7 +100,7 @@ pub fn read_settings(b: &[u8]) -> lictor_core::envelope::Settings
 fn read_scores(b: &[u8]) -> Scores
     ensures { λ r. ⌜ r ≡ scoresIn (now (b .entry)) ⌝ }
 {
-    let mut z = [0.0; 12];
+    let mut z = [0.0; NFEAT];
     fill(b, 33, &mut z);
     Scores {
         z,
@@ -111,8 +115,8 @@ pub fn read_outcome(b: &[u8]) -> lictor_core::outcome::Outcome
     ensures { λ r. ⌜ r ≡ outcomeOf (now (b .entry)) ⌝ }
 {
     let scores = read_scores(b);
-    let policy = eight_floats(b, 129);
-    let clamped = eight_floats(b, 193);
+    let policy = row_at(b, 129);
+    let clamped = row_at(b, 193);
     lictor_core::outcome::Outcome {
         trips: le32(b, 0),
         clamped_dims: le32(b, 4),

@@ -15,6 +15,7 @@ use Rattle.lictor_core.specs.declared.fuse.Control.{Control}
 use Rattle.lictor_core.specs.declared.fuse.Motion.{Motion}
 use Rattle.lictor_core.specs.declared.fuse.Clock.{Clock}
 use Rattle.lictor_core.specs.declared.fuse.FuseRt.{FuseRt}
+use Rattle.lictor_core.specs.Sizes.{maxD, maxPos, operators, features, tripBits}
 
 -- +0.0
 abbrev pub zeroFloat : Float
@@ -47,15 +48,15 @@ emptyTally = record {
   holds = 0;
   rearms = 0;
   escalations = 0;
-  «trips_by_bit» = replicate 16 0;
-  «fired_by_feat» = replicate 12 0;
+  «trips_by_bit» = replicate tripBits 0;
+  «fired_by_feat» = replicate features 0;
   «first_trip_tick» = Never;
   «first_trip_reason» = NoReason;
   «first_stop_tick» = Never;
   «handoff_tick» = Never;
   «violations_reached_env» = 0;
   «max_s» = inf true;
-  «max_z» = replicate 12 (inf true);
+  «max_z» = replicate features (inf true);
   «terminal_state» = Idle;
 }
 
@@ -64,7 +65,7 @@ unfoldable pub freshControl : FuseState → Control
 freshControl s = record {
   window = record { bits = 0 };
   state = s;
-  hold = zeros 8;
+  hold = zeros maxPos;
   «clean_run» = 0;
   «clamp_streak» = 0;
   clamps = 0;
@@ -76,11 +77,11 @@ freshControl s = record {
   rearms = 0;
   «handoff_seq» = 0;
   «handoff_pending» = false;
-  «last_nonce» = replicate 8 0;
+  «last_nonce» = replicate operators 0;
 }
 
 unfoldable pub freshMotion : Motion
-freshMotion = record { pos = zeros 8; «prev_pos» = zeros 8; vel = zeros 8; «have_prev_pos» = false; «last_cmd» = zeros 8 }
+freshMotion = record { pos = zeros maxPos; «prev_pos» = zeros maxPos; vel = zeros maxPos; «have_prev_pos» = false; «last_cmd» = zeros maxD }
 
 unfoldable pub freshClock : Clock
 freshClock = record { filled = false; seq = 0; «last_t» = 0; «next_chunk_seq» = 0; «chunk_ok_this_tick» = false }

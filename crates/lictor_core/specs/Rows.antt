@@ -6,6 +6,7 @@ use mathlib.Core.List.{List}
 use Prim.Native.Nat.{ℕ, zero, suc, min}
 use lib.ListN.{set, getD, length}
 use lib.Ieee.{Float, nan}
+use Rattle.lictor_core.specs.Sizes.{maxPos}
 
 -- `old` with its first n places f 0, f 1, .. f (n - 1)
 unfoldable pub rowTo : (ℕ → Float) → List Float → ℕ → List Float
@@ -17,4 +18,4 @@ placeOf s c = getD s c nan
 
 -- copy_row: `old` with its first n places from s, as far as s goes and there is room
 unfoldable pub takenRow : List Float → List Float → ℕ → List Float
-takenRow s old n = rowTo (placeOf s) old (min (min n 8) (length s))
+takenRow s old n = rowTo (placeOf s) old (min (min n maxPos) (length s))

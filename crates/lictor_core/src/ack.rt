@@ -21,14 +21,21 @@ pub enum MaybeAck {
     Given(VerifiedAck),
 }
 
+const RESUME: u8 = 0;
+
+const ABORT: u8 = 1;
+
+// How many decisions there are.
+pub const DECISIONS: u8 = 3;
+
 // The decision of a code; the journal's reader refuses a code that is not listed.
 pub fn decision_of(n: u8) -> AckDecision
     ensures { λ r. ⌜ r ≡ decisionOf n ⌝ }
 {
-    if n == 0 {
+    if n == RESUME {
         return AckDecision::Resume;
     }
-    if n == 1 {
+    if n == ABORT {
         return AckDecision::Abort;
     }
     AckDecision::Retune

@@ -5,8 +5,10 @@ use crate::state::Time;
 
 // Most components of an action.
 pub const MAX_D: usize = 8;
-// Most components of a position.
-pub const MAX_POS: usize = 8;
+// Most components of a position: as many, so that a row of either has one type.
+pub const MAX_POS: usize = MAX_D;
+// Most rows of a chunk.
+pub const MAX_H: usize = 64;
 // Most auxiliary values.
 pub const MAX_AUX: usize = 8;
 // Most external values.
@@ -19,6 +21,15 @@ pub enum ActionKind {
     JointVelocity,
     Other,
 }
+
+// The codes of the kinds, in the order of the source.
+pub const EE_POSITION: u8 = 0;
+
+const EE_DELTA: u8 = 1;
+
+const JOINT_POSITION: u8 = 2;
+
+const JOINT_VELOCITY: u8 = 3;
 
 // How many action kinds there are.
 pub const ACTION_KINDS: u8 = 5;
@@ -42,16 +53,16 @@ pub enum MaybeChunk {
 pub fn kind_of(n: u8) -> ActionKind
     ensures { λ r. ⌜ r ≡ kindOf n ⌝ }
 {
-    if n == 0 {
+    if n == EE_POSITION {
         return ActionKind::EePosition;
     }
-    if n == 1 {
+    if n == EE_DELTA {
         return ActionKind::EeDelta;
     }
-    if n == 2 {
+    if n == JOINT_POSITION {
         return ActionKind::JointPosition;
     }
-    if n == 3 {
+    if n == JOINT_VELOCITY {
         return ActionKind::JointVelocity;
     }
     ActionKind::Other

@@ -3,6 +3,7 @@
 ghost use mathlib.Core.Path.{_≡_};
 ghost use Rattle.lictor_core.specs.Codes.{clampCode, rearmCode, isProject, isAuto, clampModeOf, rearmOf};
 use crate::chunk::ActionKind;
+use crate::chunk::MAX_POS;
 use crate::state::FuseMode;
 
 // Operator slots.
@@ -20,14 +21,14 @@ pub enum RearmPolicy {
 
 const OFF: u8 = 0;
 
-const PROJECT: u8 = 1;
+pub const PROJECT: u8 = 1;
 
 // How many clamp modes there are.
 pub const CLAMP_MODES: u8 = 2;
 
 const AUTO: u8 = 0;
 
-const ACK_ONLY: u8 = 1;
+pub const ACK_ONLY: u8 = 1;
 
 // How many rearm policies there are.
 pub const REARM_POLICIES: u8 = 2;
@@ -121,8 +122,8 @@ pub struct Settings {
     pub dt: f64,
     pub inv_dt: f64,
     pub a_max: f64,
-    pub box_lo: [f64; 8],
-    pub box_hi: [f64; 8],
+    pub box_lo: [f64; MAX_POS],
+    pub box_hi: [f64; MAX_POS],
     pub hyst: Hysteresis,
     pub window_mask: u64,
     pub tier0_enabled: u32,
@@ -142,8 +143,8 @@ pub struct FuseConfig {
     pub dt: f64,
     pub inv_dt: f64,
     pub a_max: f64,
-    pub box_lo: [f64; 8],
-    pub box_hi: [f64; 8],
+    pub box_lo: [f64; MAX_POS],
+    pub box_hi: [f64; MAX_POS],
     pub hyst: Hysteresis,
     pub window_mask: u64,
     pub tier0_enabled: u32,

@@ -1,7 +1,10 @@
 // The run state of the fuse and the numbers of a tick (fuse.rs). Field names are the Rust's; the
 // fields are in groups, so that a function takes the group it works on.
 use crate::ack::MaybeAck;
+use crate::chunk::MAX_D;
+use crate::chunk::MAX_POS;
 use crate::chunk::MaybeChunk;
+use crate::envelope::MAX_OPERATORS;
 use crate::state::FuseState;
 use crate::state::Time;
 use crate::tally::Tally;
@@ -16,9 +19,9 @@ pub struct Window {
 pub struct Control {
     pub window: Window,
     // the highest nonce consumed from each operator slot
-    pub last_nonce: [u64; 8],
+    pub last_nonce: [u64; MAX_OPERATORS],
     // the latched hold setpoint
-    pub hold: [f64; 8],
+    pub hold: [f64; MAX_POS],
     pub state: FuseState,
     pub clean_run: u16,
     pub clamp_streak: u8,
@@ -35,11 +38,11 @@ pub struct Control {
 
 // Where the arm is and how it moves.
 pub struct Motion {
-    pub pos: [f64; 8],
-    pub prev_pos: [f64; 8],
-    pub vel: [f64; 8],
+    pub pos: [f64; MAX_POS],
+    pub prev_pos: [f64; MAX_POS],
+    pub vel: [f64; MAX_POS],
     // the last action that was given out
-    pub last_cmd: [f64; 8],
+    pub last_cmd: [f64; MAX_D],
     pub have_prev_pos: bool,
 }
 

@@ -1,7 +1,12 @@
-// Detector scores (scores.rs), without the raw features `f`.
+// Detector scores (scores.rs).
+
+// How many features are scored.
+pub const NFEAT: usize = 12;
+
+// The scores of a tick, without the raw features `f`.
 pub struct Scores {
     // standardised, one for each feature
-    pub z: [f64; 12],
+    pub z: [f64; NFEAT],
     // aggregate score
     pub s: f64,
     // bit j: feature j could be computed

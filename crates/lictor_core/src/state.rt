@@ -58,7 +58,7 @@ pub fn is_stop(s: FuseState) -> bool
 
 const OBSERVE: u8 = 0;
 
-const ENFORCE: u8 = 1;
+pub const ENFORCE: u8 = 1;
 
 // How many modes there are.
 pub const MODES: u8 = 2;

@@ -1,7 +1,9 @@
 // The counts of an episode (tally.rs). Its functions are in the crate lictor_tally.
 use crate::reason::ReasonCode;
+use crate::scores::NFEAT;
 use crate::state::FuseState;
 use crate::state::Time;
+use crate::verdict::TRIP_BITS;
 
 // The Rust's Option<u32> of a tick: when something first happened.
 pub enum Mark {
@@ -32,14 +34,14 @@ pub struct Tally {
     pub holds: u32,
     pub rearms: u32,
     pub escalations: u32,
-    pub trips_by_bit: [u32; 16],
-    pub fired_by_feat: [u32; 12],
+    pub trips_by_bit: [u32; TRIP_BITS],
+    pub fired_by_feat: [u32; NFEAT],
     pub first_trip_tick: Mark,
     pub first_trip_reason: ReasonMark,
     pub first_stop_tick: Mark,
     pub handoff_tick: Mark,
     pub violations_reached_env: u32,
     pub max_s: f64,
-    pub max_z: [f64; 12],
+    pub max_z: [f64; NFEAT],
     pub terminal_state: FuseState,
 }

@@ -2,6 +2,7 @@
 ghost use mathlib.Core.Path.{_≡_};
 ghost use Rattle.lictor_core.specs.Codes.{statusCode, sourceCode, isPolicy};
 ghost use Rattle.lictor_core.specs.Masks.{anyOf};
+use crate::chunk::MAX_D;
 use crate::reason::ReasonCode;
 use crate::scores::Scores;
 use crate::state::FuseState;
@@ -51,6 +52,9 @@ pub const BRAKE_TIMEOUT: u32 = 1 << 14;
 
 pub const REARM_BUDGET: u32 = 1 << 15;
 
+// How many trip bits there are.
+pub const TRIP_BITS: usize = 16;
+
 pub const TIER0_SOFT: u32 = WORKSPACE | SPEED | ACCEL | JERK | REACH | CONTACT;
 
 pub const TIER0_HARD: u32 = BRAKE | NONFINITE | SCHEMA | WATCHDOG;
@@ -77,7 +81,7 @@ pub struct SafetyVerdict {
     pub state: FuseState,
     pub prev_state: FuseState,
     pub trips: u32,
-    pub action: [f64; 8],
+    pub action: [f64; MAX_D],
     pub action_dim: u16,
     pub action_src: ActionSource,
     pub substituted: bool,

@@ -1,4 +1,4 @@
--- The brake and the hold action (01-scope.md, Modules 5; brake.rs). A row has 8 places; the
+-- The brake and the hold action (01-scope.md, Modules 5; brake.rs). A row has maxD places; the
 -- action's components are the first dim, the position's and the velocity's the first pos_dim, and
 -- the two numbers need not agree.
 use mathlib.Core.Bool.{false, cond}
@@ -12,6 +12,7 @@ use Rattle.lictor_core.specs.declared.envelope.FuseConfig.{FuseConfig}
 use Rattle.lictor_core.specs.Cases.{byKind}
 use Rattle.lictor_core.specs.Initial.{zeroFloat, oneFloat, zeros}
 use Rattle.lictor_core.specs.Rows.{rowTo}
+use Rattle.lictor_core.specs.Sizes.{maxD}
 
 -- component c of a row of which the first `live` count; 0 past them
 unfoldable pub component : List Float → ℕ → ℕ → Float
@@ -23,7 +24,7 @@ boxedComponent row lo hi live c = clampOf (component row live c) (getD lo c nan)
 
 -- the first n components, each clamped to its side of the box; 0 past them
 unfoldable pub boxedRow : List Float → List Float → List Float → ℕ → ℕ → List Float
-boxedRow row lo hi live n = rowTo (boxedComponent row lo hi live) (zeros 8) n
+boxedRow row lo hi live n = rowTo (boxedComponent row lo hi live) (zeros maxD) n
 
 -- component c times k, for the components that count
 unfoldable pub scaledComponent : List Float → Float → ℕ → ℕ → Float
@@ -31,15 +32,15 @@ scaledComponent row k live c = cond (ltb c live) (mul binary64 (getD row c nan) 
 
 -- the first n components times k; 0 past them
 unfoldable pub scaledRow : List Float → Float → ℕ → ℕ → List Float
-scaledRow row k live n = rowTo (scaledComponent row k live) (zeros 8) n
+scaledRow row k live n = rowTo (scaledComponent row k live) (zeros maxD) n
 
 -- a row clamped to the box, over the live components (brake.rs)
 unfoldable pub boxedAction : FuseConfig → List Float → List Float
-boxedAction cfg row = boxedRow row (cfg .«box_lo») (cfg .«box_hi») (cfg .«pos_dim») (min (cfg .dim) 8)
+boxedAction cfg row = boxedRow row (cfg .«box_lo») (cfg .«box_hi») (cfg .«pos_dim») (min (cfg .dim) maxD)
 
 -- the velocity times a factor, over the live components (brake.rs)
 unfoldable pub scaledAction : FuseConfig → List Float → Float → List Float
-scaledAction cfg vel k = scaledRow vel k (cfg .«pos_dim») (min (cfg .dim) 8)
+scaledAction cfg vel k = scaledRow vel k (cfg .«pos_dim») (min (cfg .dim) maxD)
 
 -- 1e-9, rounded to the nearest double
 unfoldable pub eps : Float
@@ -50,7 +51,7 @@ eps = round binary64 false 1 (10 ^ 9)
 unfoldable pub brakeFactor : FuseConfig → List Float → Float
 brakeFactor cfg vel =
     maxOf zeroFloat
-    (sub binary64 oneFloat (div binary64 (mul binary64 (cfg .«a_max») (cfg .dt)) (add binary64 (normOf vel (min (min (cfg .dim) 8) (cfg .«pos_dim»))) eps)))
+    (sub binary64 oneFloat (div binary64 (mul binary64 (cfg .«a_max») (cfg .dt)) (add binary64 (normOf vel (min (min (cfg .dim) maxD) (cfg .«pos_dim»))) eps)))
 
 -- brake_action: EePosition, JointPosition and Other stay at the position; JointVelocity ramps the
 -- velocity down; EeDelta too, as a step of dt
@@ -61,4 +62,4 @@ brakeAction cfg p vel =
 
 -- hold_action: position kinds hold the latched point, clamped again; velocity kinds command zero
 unfoldable pub holdAction : FuseConfig → List Float → List Float
-holdAction cfg hold = byKind (cfg .kind) (boxedAction cfg hold) (zeros 8) (boxedAction cfg hold) (zeros 8) (boxedAction cfg hold)
+holdAction cfg hold = byKind (cfg .kind) (boxedAction cfg hold) (zeros maxD) (boxedAction cfg hold) (zeros maxD) (boxedAction cfg hold)

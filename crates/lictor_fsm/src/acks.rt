@@ -29,7 +29,7 @@ pub fn accepted_ack(rt: Control, ack: MaybeAck) -> MaybeAck
 }
 
 // The three checks of an acknowledgement.
-fn accepted_by(handoff: u32, nonces: [u64; 8], ack: VerifiedAck) -> bool
+fn accepted_by(handoff: u32, nonces: [u64; MAX_OPERATORS], ack: VerifiedAck) -> bool
     ensures { λ r. ⌜ r ≡ acceptedBy handoff nonces ack ⌝ }
 {
     let slot = ack.operator_slot as usize;

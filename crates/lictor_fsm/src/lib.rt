@@ -26,6 +26,7 @@ use crate::held::held;
 use crate::hold::latch_hold;
 use crate::running::running;
 use lictor_core::ack::MaybeAck;
+use lictor_core::chunk::MAX_POS;
 use lictor_core::envelope::FuseConfig;
 use lictor_core::fuse::Control;
 use lictor_core::num::sat_u16;
@@ -39,7 +40,7 @@ use lictor_table::Turn;
 
 // One tick of the machine: the new run state, the state, the extra bits and the reason. `pos` is
 // the last finite position.
-pub fn next(cfg: FuseConfig, rt: Control, pos: [f64; 8], inp: FsmInput) -> Turn
+pub fn next(cfg: FuseConfig, rt: Control, pos: [f64; MAX_POS], inp: FsmInput) -> Turn
     ensures { λ r. ⌜ r ≡ nextOf cfg rt pos inp ⌝ }
 {
     let clean = is_clean(inp.trips, inp.warn, inp.predictive);
@@ -73,32 +74,32 @@ fn count_run(rt: Control, clean: bool) -> Control
 }
 
 // The state that the tick ends in is stored.
-fn settled(t: Turn) -> Turn
-    ensures { λ r. ⌜ r ≡ settledOf t ⌝ }
+fn settled(turn: Turn) -> Turn
+    ensures { λ r. ⌜ r ≡ settledOf turn ⌝ }
 {
-    let old = t.rt;
-    let state = t.state;
-    let reason = t.reason;
+    let old = turn.rt;
+    let state = turn.state;
+    let reason = turn.reason;
     let rt = with_state(old, state);
     Turn {
         rt,
         state,
-        extra: t.extra,
+        extra: turn.extra,
         reason,
     }
 }
 
 // The run state made anew, field by field: a store to a field that is an enum is not covered by the
 // checker.
-fn with_state(rt: Control, s: FuseState) -> Control
-    ensures { λ r. ⌜ r ≡ withState s rt ⌝ }
+fn with_state(rt: Control, state: FuseState) -> Control
+    ensures { λ r. ⌜ r ≡ withState state rt ⌝ }
 {
     let window = rt.window;
     let hold = rt.hold;
     let last_nonce = rt.last_nonce;
     Control {
         window,
-        state: s,
+        state,
         hold,
         clean_run: rt.clean_run,
         clamp_streak: rt.clamp_streak,
@@ -118,7 +119,7 @@ fn with_state(rt: Control, s: FuseState) -> Control
 fn transition(
     cfg: FuseConfig,
     rt: Control,
-    pos: [f64; 8],
+    pos: [f64; MAX_POS],
     clean: bool,
     ack: MaybeAck,
     inp: FsmInput,
@@ -134,7 +135,7 @@ fn transition(
 fn by_from(
     cfg: FuseConfig,
     rt: Control,
-    pos: [f64; 8],
+    pos: [f64; MAX_POS],
     clean: bool,
     ack: MaybeAck,
     inp: FsmInput,
@@ -171,7 +172,7 @@ fn by_from(
 // ---- Fault
 
 // Fault with the hold latched: row 14, the Idle arm, and row 1 on entry.
-fn fault(cfg: FuseConfig, rt: Control, pos: [f64; 8], extra: u32, reason: ReasonCode) -> Turn
+fn fault(cfg: FuseConfig, rt: Control, pos: [f64; MAX_POS], extra: u32, reason: ReasonCode) -> Turn
     ensures { λ r. ⌜ r ≡ to Fault extra reason (latchHold cfg pos rt) ⌝ }
 {
     let after = latch_hold(cfg, rt, pos);
@@ -196,7 +197,7 @@ fn fault_reason(trips: u32) -> ReasonCode
 }
 
 // Row 1: a Fault that keeps faulting does not chase a drifting position.
-fn fault_row(cfg: FuseConfig, rt: Control, pos: [f64; 8], trips: u32) -> Turn
+fn fault_row(cfg: FuseConfig, rt: Control, pos: [f64; MAX_POS], trips: u32) -> Turn
     ensures { λ r. ⌜ r ≡ faultRow cfg rt pos (rt .state) trips ⌝ }
 {
     let from = rt.state;
@@ -218,7 +219,7 @@ fn fault_again(rt: Control, trips: u32) -> Turn
     }
 }
 
-fn fault_first(cfg: FuseConfig, rt: Control, pos: [f64; 8], trips: u32) -> Turn
+fn fault_first(cfg: FuseConfig, rt: Control, pos: [f64; MAX_POS], trips: u32) -> Turn
     ensures { λ r. ⌜ r ≡ to Fault 0 (faultReason trips) (latchHold cfg pos rt) ⌝ }
 {
     let reason = fault_reason(trips);
@@ -227,7 +228,7 @@ fn fault_first(cfg: FuseConfig, rt: Control, pos: [f64; 8], trips: u32) -> Turn
 
 // ---- Braking
 
-fn braking(cfg: FuseConfig, rt: Control, pos: [f64; 8], inp: FsmInput) -> Turn
+fn braking(cfg: FuseConfig, rt: Control, pos: [f64; MAX_POS], inp: FsmInput) -> Turn
     ensures { λ r. ⌜ r ≡ brakingOf cfg rt pos inp ⌝ }
 {
     // Row 14: a stop that never confirms.
@@ -257,7 +258,7 @@ fn confirmed(stopped: bool, ticks: u8, need: u8) -> bool
 }
 
 // Row 15.
-fn standstill_row(cfg: FuseConfig, rt: Control, pos: [f64; 8]) -> Turn
+fn standstill_row(cfg: FuseConfig, rt: Control, pos: [f64; MAX_POS]) -> Turn
     ensures { λ r. ⌜ r ≡ standstillRow cfg rt pos ⌝ }
 {
     let mut after = latch_hold(cfg, rt, pos);

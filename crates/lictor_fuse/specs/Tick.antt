@@ -17,6 +17,7 @@ use Rattle.lictor_core.specs.declared.verdict.MaybeHandoff.the-variants.{NoHand
 use Rattle.lictor_core.specs.declared.verdict.SafetyVerdict.{SafetyVerdict}
 use Rattle.lictor_core.specs.declared.verdict.Status.the-variants.{Nominal}
 use Rattle.lictor_core.specs.Initial.{zeros}
+use Rattle.lictor_core.specs.Sizes.{maxD}
 use Rattle.lictor_settings.specs.Settings.{checkOf, checkNumber, configOf}
 use Rattle.lictor_stages.specs.Verdict.{disarmedScores}
 use Rattle.lictor_fuse.specs.declared.decide.Decided.{Decided}
@@ -37,7 +38,7 @@ noVerdict = record {
   state = Idle;
   «prev_state» = Idle;
   trips = 0;
-  action = zeros 8;
+  action = zeros maxD;
   «action_dim» = 0;
   «action_src» = Hold;
   substituted = false;

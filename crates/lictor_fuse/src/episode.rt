@@ -1,6 +1,7 @@
 // The run state before and at the start of an episode (fuse.rs, FuseRt::new and reset).
 ghost use mathlib.Core.Path.{_≡_};
 ghost use Rattle.lictor_core.specs.Initial.{emptyTally, freshControl, freshMotion, freshClock, newOf, resetOf};
+use lictor_core::envelope::MAX_OPERATORS;
 use lictor_core::fuse::Clock;
 use lictor_core::fuse::Control;
 use lictor_core::fuse::FuseRt;
@@ -9,15 +10,15 @@ use lictor_core::fuse::Window;
 use lictor_core::rows::no_row;
 use lictor_core::state::FuseState;
 
-fn fresh_control(s: FuseState) -> Control
-    ensures { λ r. ⌜ r ≡ freshControl s ⌝ }
+fn fresh_control(state: FuseState) -> Control
+    ensures { λ r. ⌜ r ≡ freshControl state ⌝ }
 {
     let hold = no_row();
-    let last_nonce = [0; 8];
+    let last_nonce = [0; MAX_OPERATORS];
     let window = Window { bits: 0 };
     Control {
         window,
-        state: s,
+        state,
         hold,
         clean_run: 0,
         clamp_streak: 0,

@@ -6,6 +6,7 @@ ghost use Rattle.lictor_fuse.specs.OneWay.{faultFindings, faultAsked, fa
 use crate::decide::Asked;
 use crate::decide::Closing;
 use lictor_core::ack::MaybeAck;
+use lictor_core::chunk::MAX_D;
 use lictor_core::envelope::FuseConfig;
 use lictor_core::envelope::is_project;
 use lictor_core::fuse::Clock;
@@ -132,7 +133,7 @@ fn fault_verdict(
     inp: TickInput,
     bits: u32,
     turn: Turn,
-    action: [f64; 8],
+    action: [f64; MAX_D],
 ) -> SafetyVerdict
     ensures { λ r. ⌜ r ≡ faultVerdict cfg (rt .clock .seq) (rt .control .state) inp bits turn action ⌝ }
 {

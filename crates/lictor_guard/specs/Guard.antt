@@ -13,6 +13,7 @@ use Rattle.lictor_core.specs.declared.envelope.FuseConfig.{FuseConfig}
 use Rattle.lictor_core.specs.declared.fuse.Clock.{Clock}
 use Rattle.lictor_core.specs.declared.fuse.TickInput.{TickInput}
 use Rattle.lictor_core.specs.Masks as M
+use Rattle.lictor_core.specs.Sizes.{maxAux, maxExt}
 use Rattle.lictor_guard.specs.Delivery.{deliveredOf, deliveryBad}
 use Rattle.lictor_guard.specs.declared.Lengths.{Lengths}
 
@@ -37,8 +38,8 @@ shapeBad cfg inp l =
     inp .«schema_fault»
     || (leb (cfg .horizon) (inp .idx)
     || (not (eqb (l .pos) (cfg .«pos_dim»))
-    || (ltb 8 (l .aux)
-    || (ltb 4 (l .ext)
+    || (ltb maxAux (l .aux)
+    || (ltb maxExt (l .ext)
     || (inp .«has_vel» && not (eqb (l .vel) (cfg .«pos_dim»)))))))
 
 -- SCHEMA: the first tick is not at 0; a later one not at last_t + 1 + missed. The sum is a plain

@@ -35,58 +35,65 @@ fn area(h: u16, d: u16) -> usize
     h as usize * d as usize
 }
 
-fn not_filled(n: usize, h: u16, d: u16) -> bool
-    ensures { λ r. ⌜ r ≡ not (eqb n (h * d)) ⌝ }
+fn not_filled(values: usize, h: u16, d: u16) -> bool
+    ensures { λ r. ⌜ r ≡ not (eqb values (h * d)) ⌝ }
 {
     let a = area(h, d);
-    n != a
+    values != a
 }
 
 // What a chunk's head says of its sizes.
-fn sizes_bad(cfg: FuseConfig, h: ChunkHead, n: usize) -> bool
-    ensures { λ r. ⌜ r ≡ sizesBad cfg h n ⌝ }
+fn sizes_bad(cfg: FuseConfig, head: ChunkHead, values: usize) -> bool
+    ensures { λ r. ⌜ r ≡ sizesBad cfg head values ⌝ }
 {
-    if other(h.dim, cfg.dim) {
+    if other(head.dim, cfg.dim) {
         return true;
     }
-    if other(h.horizon, cfg.horizon) {
+    if other(head.horizon, cfg.horizon) {
         return true;
     }
-    if other(h.exec_steps, cfg.exec) {
+    if other(head.exec_steps, cfg.exec) {
         return true;
     }
-    not_filled(n, h.horizon, h.dim)
+    not_filled(values, head.horizon, head.dim)
 }
 
 // Its place in the sequence and in time.
-fn place_bad(h: ChunkHead, next: u32, t: Time, idx: u16) -> bool
-    ensures { λ r. ⌜ r ≡ placeBad h next t idx ⌝ }
+fn place_bad(head: ChunkHead, next: u32, t: Time, idx: u16) -> bool
+    ensures { λ r. ⌜ r ≡ placeBad head next t idx ⌝ }
 {
-    if h.seq != next {
+    if head.seq != next {
         return true;
     }
-    if t < h.t_emit {
+    if t < head.t_emit {
         return true;
     }
-    idx as u32 != t - h.t_emit
+    idx as u32 != t - head.t_emit
 }
 
-fn head_bad(cfg: FuseConfig, next: u32, t: Time, idx: u16, n: usize, h: ChunkHead) -> bool
-    ensures { λ r. ⌜ r ≡ headBad cfg next t idx n h ⌝ }
+fn head_bad(cfg: FuseConfig, next: u32, t: Time, idx: u16, values: usize, head: ChunkHead) -> bool
+    ensures { λ r. ⌜ r ≡ headBad cfg next t idx values head ⌝ }
 {
-    if sizes_bad(cfg, h, n) {
+    if sizes_bad(cfg, head, values) {
         return true;
     }
-    place_bad(h, next, t, idx)
+    place_bad(head, next, t, idx)
 }
 
 // A bad head; without a chunk, that none was taken before.
-pub fn delivery_bad(cfg: FuseConfig, k: Clock, inp: TickInput, n: usize) -> bool
-    ensures { λ r. ⌜ r ≡ deliveryBad cfg k inp n ⌝ }
+pub fn delivery_bad(cfg: FuseConfig, clock: Clock, inp: TickInput, values: usize) -> bool
+    ensures { λ r. ⌜ r ≡ deliveryBad cfg clock inp values ⌝ }
 {
     let c = inp.chunk;
     match c {
-        MaybeChunk::NoChunk => !k.filled,
-        MaybeChunk::Delivered(h) => head_bad(cfg, k.next_chunk_seq, inp.t, inp.idx, n, h),
+        MaybeChunk::NoChunk => !clock.filled,
+        MaybeChunk::Delivered(head) => head_bad(
+            cfg,
+            clock.next_chunk_seq,
+            inp.t,
+            inp.idx,
+            values,
+            head,
+        ),
     }
 }

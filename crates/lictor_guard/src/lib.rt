@@ -86,8 +86,8 @@ fn differs_if(supplied: bool, a: usize, b: usize) -> bool
 }
 
 // The host's flag, the index and the lengths.
-fn shape_bad(cfg: FuseConfig, inp: TickInput, l: Lengths) -> bool
-    ensures { λ r. ⌜ r ≡ shapeBad cfg inp l ⌝ }
+fn shape_bad(cfg: FuseConfig, inp: TickInput, lengths: Lengths) -> bool
+    ensures { λ r. ⌜ r ≡ shapeBad cfg inp lengths ⌝ }
 {
     if inp.schema_fault {
         return true;
@@ -95,16 +95,16 @@ fn shape_bad(cfg: FuseConfig, inp: TickInput, l: Lengths) -> bool
     if cfg.horizon <= inp.idx as usize {
         return true;
     }
-    if l.pos != cfg.pos_dim {
+    if lengths.pos != cfg.pos_dim {
         return true;
     }
-    if MAX_AUX < l.aux {
+    if MAX_AUX < lengths.aux {
         return true;
     }
-    if MAX_EXT < l.ext {
+    if MAX_EXT < lengths.ext {
         return true;
     }
-    differs_if(inp.has_vel, l.vel, cfg.pos_dim)
+    differs_if(inp.has_vel, lengths.vel, cfg.pos_dim)
 }
 
 // The clock: its sum is wide enough never to wrap.
@@ -117,16 +117,16 @@ fn clock_bad(seq: u32, last_t: Time, t: Time, missed: u8) -> bool
     last_t as u64 + 1 + missed as u64 != t as u64
 }
 
-fn schema_bad(cfg: FuseConfig, k: Clock, inp: TickInput, l: Lengths) -> bool
-    ensures { λ r. ⌜ r ≡ schemaBad cfg k inp l ⌝ }
+fn schema_bad(cfg: FuseConfig, clock: Clock, inp: TickInput, lengths: Lengths) -> bool
+    ensures { λ r. ⌜ r ≡ schemaBad cfg clock inp lengths ⌝ }
 {
-    if shape_bad(cfg, inp, l) {
+    if shape_bad(cfg, inp, lengths) {
         return true;
     }
-    if delivery_bad(cfg, k, inp, l.chunk) {
+    if delivery_bad(cfg, clock, inp, lengths.chunk) {
         return true;
     }
-    clock_bad(k.seq, k.last_t, inp.t, inp.missed_ticks)
+    clock_bad(clock.seq, clock.last_t, inp.t, inp.missed_ticks)
 }
 
 fn bit_if(t: bool, bit: u32) -> u32
@@ -138,7 +138,7 @@ fn bit_if(t: bool, bit: u32) -> u32
 // All bits that apply.
 pub fn guard(
     cfg: FuseConfig,
-    k: Clock,
+    clock: Clock,
     inp: TickInput,
     pos: &[f64],
     vel: &[f64],
@@ -146,13 +146,13 @@ pub fn guard(
     ext: &[f64],
     chunk: &[f64],
 ) -> u32
-    ensures { λ r. ⌜ r ≡ guardOf cfg k inp (now (pos .entry)) (now (vel .entry)) (now (aux .entry)) (now (ext .entry)) (now (chunk .entry)) ⌝ }
+    ensures { λ r. ⌜ r ≡ guardOf cfg clock inp (now (pos .entry)) (now (vel .entry)) (now (aux .entry)) (now (ext .entry)) (now (chunk .entry)) ⌝ }
 {
     let c = inp.chunk;
     let has_chunk = delivered(c);
     let odd = nonfinite(inp.has_vel, has_chunk, pos, vel, aux, ext, chunk);
-    let l = measure(pos, vel, aux, ext, chunk);
-    let wrong = schema_bad(cfg, k, inp, l);
+    let lengths = measure(pos, vel, aux, ext, chunk);
+    let wrong = schema_bad(cfg, clock, inp, lengths);
     let x = bit_if(odd, NONFINITE);
     let y = bit_if(wrong, SCHEMA);
     let z = bit_if(cfg.hyst.watchdog_ticks < inp.missed_ticks, WATCHDOG);

@@ -12,6 +12,7 @@ use Rattle.lictor_core.specs.declared.envelope.FuseConfig.{FuseConfig}
 use Rattle.lictor_settings.specs.declared.SettingsCheck.{SettingsCheck}
 use Rattle.lictor_settings.specs.declared.SettingsCheck.the-variants.{Accepted, BadCode, BadSize, NotFinite, BoxCrossed}
 use Rattle.lictor_core.specs.FirstThat.{Row, refuse_when_, firstThat}
+use Rattle.lictor_core.specs.Sizes.{maxD, maxPos, maxHorizon}
 use Rattle.lictor_core.specs.Codes.{modes, kinds, clampModes, rearmPolicies, modeOf, kindOf, clampModeOf, rearmOf}
 
 -- n lies outside of low to high, both included
@@ -24,7 +25,7 @@ badCode s = leb modes (s .mode) || (leb kinds (s .kind) || (leb clampModes (s .c
 
 -- cause 2: a size outside its range, both ends included
 unfoldable pub badSize : Settings → Bool
-badSize s = outside 1 8 (s .dim) || (outside 1 8 (s .«pos_dim») || (outside 1 64 (s .horizon) || outside 1 (s .horizon) (s .exec)))
+badSize s = outside 1 maxD (s .dim) || (outside 1 maxPos (s .«pos_dim») || (outside 1 maxHorizon (s .horizon) || outside 1 (s .horizon) (s .exec)))
 
 -- cause 3: a float not finite; of tau only a NaN is refused
 unfoldable pub badFloat : Settings → Bool
@@ -37,9 +38,9 @@ unfoldable pub anyBelow : ℕ → (ℕ → Bool) → Bool
 anyBelow zero p = false
 anyBelow (suc n) p = anyBelow n p || p n
 
--- a low end above its high end, among the 8 pairs
+-- a low end above its high end, among all pairs
 unfoldable pub crossedOf : List Float → List Float → Bool
-crossedOf lo hi = anyBelow 8 (λ i. lt (getD hi i nan) (getD lo i nan))
+crossedOf lo hi = anyBelow maxPos (λ i. lt (getD hi i nan) (getD lo i nan))
 
 -- cause 4: a box_lo above its box_hi, whatever pos_dim is
 unfoldable pub badBox : Settings → Bool

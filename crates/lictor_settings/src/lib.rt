@@ -3,6 +3,9 @@ ghost use mathlib.Core.Path.{_≡_};
 ghost use lib.Ieee.{isNan};
 ghost use Rattle.lictor_settings.specs.Settings.{outside as Spec·outside, badCode, badSize, badFloat, crossedOf, badBox, checkOf, checkNumber, configOf};
 use lictor_core::chunk::ACTION_KINDS;
+use lictor_core::chunk::MAX_D;
+use lictor_core::chunk::MAX_H;
+use lictor_core::chunk::MAX_POS;
 use lictor_core::chunk::kind_of;
 use lictor_core::envelope::CLAMP_MODES;
 use lictor_core::envelope::FuseConfig;
@@ -35,22 +38,22 @@ pub fn check_number(c: SettingsCheck) -> u8
     }
 }
 
-fn bad_code(s: Settings) -> bool
-    ensures { λ r. ⌜ r ≡ badCode s ⌝ }
+fn bad_code(settings: Settings) -> bool
+    ensures { λ r. ⌜ r ≡ badCode settings ⌝ }
 {
-    if MODES <= s.mode {
+    if MODES <= settings.mode {
         return true;
     }
-    if ACTION_KINDS <= s.kind {
+    if ACTION_KINDS <= settings.kind {
         return true;
     }
-    if CLAMP_MODES <= s.clamp {
+    if CLAMP_MODES <= settings.clamp {
         return true;
     }
-    REARM_POLICIES <= s.rearm
+    REARM_POLICIES <= settings.rearm
 }
 
-fn outside(low: u16, high: u16, n: u16) -> bool
+fn outside(low: usize, high: usize, n: usize) -> bool
     ensures { λ r. ⌜ r ≡ Spec·outside low high n ⌝ }
 {
     if n < low {
@@ -59,19 +62,19 @@ fn outside(low: u16, high: u16, n: u16) -> bool
     high < n
 }
 
-fn bad_size(s: Settings) -> bool
-    ensures { λ r. ⌜ r ≡ badSize s ⌝ }
+fn bad_size(settings: Settings) -> bool
+    ensures { λ r. ⌜ r ≡ badSize settings ⌝ }
 {
-    if outside(1, 8, s.dim as u16) {
+    if outside(1, MAX_D, settings.dim as usize) {
         return true;
     }
-    if outside(1, 8, s.pos_dim as u16) {
+    if outside(1, MAX_POS, settings.pos_dim as usize) {
         return true;
     }
-    if outside(1, 64, s.horizon) {
+    if outside(1, MAX_H, settings.horizon as usize) {
         return true;
     }
-    outside(1, s.horizon, s.exec)
+    outside(1, settings.horizon as usize, settings.exec as usize)
 }
 
 fn is_nan(x: f64) -> bool
@@ -80,62 +83,68 @@ fn is_nan(x: f64) -> bool
     x != x
 }
 
-fn bad_float(s: Settings) -> bool
-    ensures { λ r. ⌜ r ≡ badFloat s ⌝ }
+fn bad_float(settings: Settings) -> bool
+    ensures { λ r. ⌜ r ≡ badFloat settings ⌝ }
 {
-    let h = s.hyst;
-    let own = [s.dt, s.inv_dt, s.a_max, h.v_stop_eps, h.warn_margin];
+    let h = settings.hyst;
+    let own = [
+        settings.dt,
+        settings.inv_dt,
+        settings.a_max,
+        h.v_stop_eps,
+        h.warn_margin,
+    ];
     if fmath::some_bad(&own) {
         return true;
     }
-    let c = s.calib;
+    let c = settings.calib;
     if is_nan(c.tau) {
         return true;
     }
-    let lo = s.box_lo;
+    let lo = settings.box_lo;
     if fmath::some_bad(&lo) {
         return true;
     }
-    let hi = s.box_hi;
+    let hi = settings.box_hi;
     fmath::some_bad(&hi)
 }
 
-// Whether a low end lies above its high end, among the 8 pairs.
-fn crossed(lo: [f64; 8], hi: [f64; 8]) -> bool
+// Whether a low end lies above its high end, among all pairs.
+fn crossed(lo: [f64; MAX_POS], hi: [f64; MAX_POS]) -> bool
     ensures { λ r. ⌜ r ≡ crossedOf lo hi ⌝ }
 {
-    let mut i: usize = 0;
-    while i < 8 {
-        if lo[i] > hi[i] {
+    let mut pair: usize = 0;
+    while pair < MAX_POS {
+        if lo[pair] > hi[pair] {
             return true;
         }
-        i += 1;
+        pair += 1;
     }
     false
 }
 
-fn bad_box(s: Settings) -> bool
-    ensures { λ r. ⌜ r ≡ badBox s ⌝ }
+fn bad_box(settings: Settings) -> bool
+    ensures { λ r. ⌜ r ≡ badBox settings ⌝ }
 {
-    let lo = s.box_lo;
-    let hi = s.box_hi;
+    let lo = settings.box_lo;
+    let hi = settings.box_hi;
     crossed(lo, hi)
 }
 
 // Causes 1 to 4, the first that is there.
-pub fn check(s: Settings) -> SettingsCheck
-    ensures { λ r. ⌜ r ≡ checkOf s ⌝ }
+pub fn check(settings: Settings) -> SettingsCheck
+    ensures { λ r. ⌜ r ≡ checkOf settings ⌝ }
 {
-    if bad_code(s) {
+    if bad_code(settings) {
         return SettingsCheck::BadCode;
     }
-    if bad_size(s) {
+    if bad_size(settings) {
         return SettingsCheck::BadSize;
     }
-    if bad_float(s) {
+    if bad_float(settings) {
         return SettingsCheck::NotFinite;
     }
-    if bad_box(s) {
+    if bad_box(settings) {
         return SettingsCheck::BoxCrossed;
     }
     SettingsCheck::Accepted
@@ -143,34 +152,34 @@ pub fn check(s: Settings) -> SettingsCheck
 
 // The configuration that settings mean. A code that is not listed is taken as the last case;
 // `check` refuses them.
-pub fn config(s: Settings) -> FuseConfig
-    ensures { λ r. ⌜ r ≡ configOf s ⌝ }
+pub fn config(settings: Settings) -> FuseConfig
+    ensures { λ r. ⌜ r ≡ configOf settings ⌝ }
 {
-    let mode = mode_of(s.mode);
-    let kind = kind_of(s.kind);
-    let clamp = clamp_mode_of(s.clamp);
-    let rearm = rearm_of(s.rearm);
-    let box_lo = s.box_lo;
-    let box_hi = s.box_hi;
-    let hyst = s.hyst;
-    let calib = s.calib;
+    let mode = mode_of(settings.mode);
+    let kind = kind_of(settings.kind);
+    let clamp = clamp_mode_of(settings.clamp);
+    let rearm = rearm_of(settings.rearm);
+    let box_lo = settings.box_lo;
+    let box_hi = settings.box_hi;
+    let hyst = settings.hyst;
+    let calib = settings.calib;
     FuseConfig {
         mode,
         kind,
         clamp,
         rearm,
-        dim: s.dim as usize,
-        pos_dim: s.pos_dim as usize,
-        horizon: s.horizon as usize,
-        exec: s.exec as usize,
-        dt: s.dt,
-        inv_dt: s.inv_dt,
-        a_max: s.a_max,
+        dim: settings.dim as usize,
+        pos_dim: settings.pos_dim as usize,
+        horizon: settings.horizon as usize,
+        exec: settings.exec as usize,
+        dt: settings.dt,
+        inv_dt: settings.inv_dt,
+        a_max: settings.a_max,
         box_lo,
         box_hi,
         hyst,
-        window_mask: s.window_mask,
-        tier0_enabled: s.tier0_enabled,
+        window_mask: settings.window_mask,
+        tier0_enabled: settings.tier0_enabled,
         calib,
     }
 }

@@ -14,6 +14,7 @@ use Rattle.lictor_core.specs.Cases.{byState, bySource}
 use Rattle.lictor_core.specs.Codes.{isObserve, isPolicy}
 use Rattle.lictor_core.specs.Initial.{zeros}
 use Rattle.lictor_core.specs.Rows.{takenRow}
+use Rattle.lictor_core.specs.Sizes.{maxD}
 use Rattle.lictor_detect.specs.Brake.{brakeAction, holdAction}
 use Rattle.lictor_stages.specs.declared.act.Acted.{Acted}
 
@@ -28,7 +29,7 @@ sourceOf s = byState s A.Hold A.Policy A.Policy A.Clamped A.Brake A.Hold A.Hold 
 
 -- an outcome's row, with zeros from place dim on
 unfoldable pub cutRow : FuseConfig → List Float → List Float
-cutRow cfg row = takenRow row (zeros 8) (cfg .dim)
+cutRow cfg row = takenRow row (zeros maxD) (cfg .dim)
 
 -- the policy's row as it is; a violation where the source would have been another
 unfoldable pub passedOf : FuseConfig → ActionSource → List Float → Acted

@@ -9,6 +9,7 @@ use Rattle.lictor_core.specs.declared.envelope.FuseConfig.{FuseConfig}
 use Rattle.lictor_core.specs.declared.fuse.Motion.{Motion}
 use Rattle.lictor_core.specs.Initial.{zeroFloat}
 use Rattle.lictor_core.specs.Rows.{rowTo, takenRow}
+use Rattle.lictor_core.specs.Sizes.{maxPos}
 
 -- (position - position taken last) * inv_dt, a rounding each
 unfoldable pub stepRate : List Float → List Float → Float → ℕ → Float
@@ -16,14 +17,14 @@ stepRate p q inv c = mul binary64 (sub binary64 (getD p c nan) (getD q c nan)) i
 
 -- the live components by their steps, the others as they were (fuse.rs, ingest)
 unfoldable pub ratesRow : FuseConfig → List Float → List Float → List Float → List Float
-ratesRow cfg p q old = rowTo (stepRate p q (cfg .«inv_dt»)) old (min (cfg .«pos_dim») 8)
+ratesRow cfg p q old = rowTo (stepRate p q (cfg .«inv_dt»)) old (min (cfg .«pos_dim») maxPos)
 
 abbrev pub atRest : ℕ → Float
 atRest c = zeroFloat
 
 -- the live components zero, the others as they were
 unfoldable pub stillRow : FuseConfig → List Float → List Float
-stillRow cfg old = rowTo atRest old (min (cfg .«pos_dim») 8)
+stillRow cfg old = rowTo atRest old (min (cfg .«pos_dim») maxPos)
 
 -- the velocity: as supplied; else from the position p and the one taken last, q; else, on the first
 -- clean tick, zero

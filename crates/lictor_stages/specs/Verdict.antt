@@ -22,6 +22,7 @@ use Rattle.lictor_core.specs.Cases.{byAck}
 use Rattle.lictor_core.specs.Codes.{isState, isReason}
 use Rattle.lictor_core.specs.Initial.{zeros}
 use Rattle.lictor_core.specs.Masks as M
+use Rattle.lictor_core.specs.Sizes.{maxD, features}
 use Rattle.lictor_table.specs.declared.Turn.{Turn}
 use Rattle.lictor_tally.specs.declared.TickEvents.{TickEvents}
 use Rattle.lictor_stages.specs.Act.{statusOf}
@@ -39,11 +40,11 @@ scoresOf cal sc = record { z = sc .z; s = sc .s; valid = liveValid (cal .mask) (
 
 -- disarmed_scores: s minus infinity, the others zero
 unfoldable pub disarmedScores : Scores
-disarmedScores = record { z = zeros 12; s = inf true; valid = 0; fired = 0 }
+disarmedScores = record { z = zeros features; s = inf true; valid = 0; fired = 0 }
 
 -- the components that an action can have
 unfoldable pub actionDim : FuseConfig → ℕ
-actionDim cfg = min (cfg .dim) 8
+actionDim cfg = min (cfg .dim) maxD
 
 -- state q, which the tick did not start from
 unfoldable pub enteredOf : FuseState → FuseState → FuseState → Bool

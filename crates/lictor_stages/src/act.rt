@@ -2,6 +2,8 @@
 ghost use mathlib.Core.Path.{_≡_};
 ghost use Rattle.lictor_detect.specs.Brake.{brakeAction, holdAction};
 ghost use Rattle.lictor_stages.specs.Act.{statusOf, sourceOf, cutRow, passedOf, insteadOf, enforcedOf, byMode, actOf};
+use lictor_core::chunk::MAX_D;
+use lictor_core::chunk::MAX_POS;
 use lictor_core::envelope::FuseConfig;
 use lictor_core::fuse::Motion;
 use lictor_core::outcome::Outcome;
@@ -17,7 +19,7 @@ use lictor_detect::brake::hold_action;
 
 // The action, where it comes from, and whether it is another than the policy's.
 pub struct Acted {
-    pub action: [f64; 8],
+    pub action: [f64; MAX_D],
     pub src: ActionSource,
     pub substituted: bool,
     pub violation: bool,
@@ -56,7 +58,7 @@ pub fn source_of(s: FuseState) -> ActionSource
 }
 
 // The first dim components of an outcome's row.
-fn cut(cfg: FuseConfig, row: [f64; 8]) -> [f64; 8]
+fn cut(cfg: FuseConfig, row: [f64; MAX_D]) -> [f64; MAX_D]
     ensures { λ r. ⌜ r ≡ cutRow cfg row ⌝ }
 {
     let z = no_row();
@@ -65,7 +67,7 @@ fn cut(cfg: FuseConfig, row: [f64; 8]) -> [f64; 8]
 }
 
 // The policy's row is passed on, whatever the source would be.
-fn passed(cfg: FuseConfig, would: ActionSource, policy: [f64; 8]) -> Acted
+fn passed(cfg: FuseConfig, would: ActionSource, policy: [f64; MAX_D]) -> Acted
     ensures { λ r. ⌜ r ≡ passedOf cfg would policy ⌝ }
 {
     let row = cut(cfg, policy);
@@ -78,7 +80,7 @@ fn passed(cfg: FuseConfig, would: ActionSource, policy: [f64; 8]) -> Acted
     }
 }
 
-fn instead(src: ActionSource, row: [f64; 8]) -> Acted
+fn instead(src: ActionSource, row: [f64; MAX_D]) -> Acted
     ensures { λ r. ⌜ r ≡ insteadOf src row ⌝ }
 {
     Acted {
@@ -89,7 +91,7 @@ fn instead(src: ActionSource, row: [f64; 8]) -> Acted
     }
 }
 
-fn clamped_row(cfg: FuseConfig, row: [f64; 8]) -> Acted
+fn clamped_row(cfg: FuseConfig, row: [f64; MAX_D]) -> Acted
     ensures { λ r. ⌜ r ≡ insteadOf ActionSource.Clamped (cutRow cfg row) ⌝ }
 {
     let x = cut(cfg, row);
@@ -105,7 +107,7 @@ fn braked(cfg: FuseConfig, m: Motion) -> Acted
     instead(ActionSource::Brake, x)
 }
 
-fn held_still(cfg: FuseConfig, hold: [f64; 8]) -> Acted
+fn held_still(cfg: FuseConfig, hold: [f64; MAX_POS]) -> Acted
     ensures { λ r. ⌜ r ≡ insteadOf ActionSource.Hold (holdAction cfg hold) ⌝ }
 {
     let x = hold_action(cfg, hold);
@@ -116,9 +118,9 @@ fn enforced(
     cfg: FuseConfig,
     would: ActionSource,
     motion: Motion,
-    hold: [f64; 8],
-    policy: [f64; 8],
-    clamped: [f64; 8],
+    hold: [f64; MAX_POS],
+    policy: [f64; MAX_D],
+    clamped: [f64; MAX_D],
 ) -> Acted
     ensures { λ r. ⌜ r ≡ enforcedOf cfg would motion hold policy clamped ⌝ }
 {
@@ -134,9 +136,9 @@ fn by_mode(
     cfg: FuseConfig,
     would: ActionSource,
     motion: Motion,
-    hold: [f64; 8],
-    policy: [f64; 8],
-    clamped: [f64; 8],
+    hold: [f64; MAX_POS],
+    policy: [f64; MAX_D],
+    clamped: [f64; MAX_D],
 ) -> Acted
     ensures { λ r. ⌜ r ≡ byMode cfg would motion hold policy clamped ⌝ }
 {
@@ -148,7 +150,13 @@ fn by_mode(
 }
 
 // The action of a clean tick that ends in state s.
-pub fn act(cfg: FuseConfig, s: FuseState, motion: Motion, hold: [f64; 8], out: Outcome) -> Acted
+pub fn act(
+    cfg: FuseConfig,
+    s: FuseState,
+    motion: Motion,
+    hold: [f64; MAX_POS],
+    out: Outcome,
+) -> Acted
     ensures { λ r. ⌜ r ≡ actOf cfg s motion hold out ⌝ }
 {
     let would = source_of(s);

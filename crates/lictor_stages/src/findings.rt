@@ -1,6 +1,7 @@
 // Stages 2 to 6, up to the state machine: what the outcome and the motion mean under the settings.
 ghost use mathlib.Core.Path.{_≡_};
 ghost use Rattle.lictor_stages.specs.Findings.{withBrake, maskedOf, warnOf, slowOf, standstillOf, chunkPasses, scoredOf, findingsOf, machineInput};
+use lictor_core::chunk::MAX_POS;
 use lictor_core::envelope::FuseConfig;
 use lictor_core::envelope::is_project;
 use lictor_core::fuse::TickInput;
@@ -57,7 +58,7 @@ fn is_warn(hit: bool, s: f64, tau: f64, warn_margin: f64) -> bool
 }
 
 // Whether the norm of the velocity is at most v_stop_eps.
-fn is_slow(cfg: FuseConfig, vel: [f64; 8]) -> bool
+fn is_slow(cfg: FuseConfig, vel: [f64; MAX_POS]) -> bool
     ensures { λ r. ⌜ r ≡ slowOf cfg vel ⌝ }
 {
     let v = vel;
@@ -66,7 +67,7 @@ fn is_slow(cfg: FuseConfig, vel: [f64; 8]) -> bool
 }
 
 // Standing still: always in Observe, else by the norm.
-fn standstill(cfg: FuseConfig, vel: [f64; 8]) -> bool
+fn standstill(cfg: FuseConfig, vel: [f64; MAX_POS]) -> bool
     ensures { λ r. ⌜ r ≡ standstillOf cfg vel ⌝ }
 {
     let mode = cfg.mode;
@@ -103,7 +104,13 @@ fn score(cfg: FuseConfig, sc: Scores, before: Window) -> Scored
 }
 
 // All that is found before the state machine runs.
-pub fn find(cfg: FuseConfig, boundary: bool, out: Outcome, w: Window, vel: [f64; 8]) -> Findings
+pub fn find(
+    cfg: FuseConfig,
+    boundary: bool,
+    out: Outcome,
+    w: Window,
+    vel: [f64; MAX_POS],
+) -> Findings
     ensures { λ r. ⌜ r ≡ findingsOf cfg boundary out w vel ⌝ }
 {
     let sc = out.scores;

@@ -1,7 +1,8 @@
 // Stage 1: what a tick takes from the lists that it is lent.
 ghost use mathlib.Core.Path.{_≡_};
-ghost use Prim.Native.Nat.{_≤_};
+ghost use Prim.Native.Nat.{_<_, _≤_};
 ghost use Rattle.lictor_core.specs.Initial.{zeroFloat};
+ghost use Rattle.lictor_core.specs.Sizes.{maxPos};
 ghost use Rattle.lictor_core.specs.Rows.{rowTo};
 ghost use Rattle.lictor_stages.specs.Ingest.{stepRate, ratesRow, stillRow, velocityOf, ingestOf, atRest};
 use lictor_core::chunk::MAX_POS;
@@ -11,20 +12,26 @@ use lictor_core::num::least;
 use lictor_core::rows::taken;
 
 // How fast component c moved from `last` to `here`.
-fn step_rate(here: [f64; 8], last: [f64; 8], inv_dt: f64, c: usize) -> f64
-    requires { ⌜ c ≤ 7 ⌝ }
+fn step_rate(here: [f64; MAX_POS], last: [f64; MAX_POS], inv_dt: f64, c: usize) -> f64
+    requires { ⌜ c < maxPos ⌝ }
     ensures { λ r. ⌜ r ≡ stepRate here last «inv_dt» c ⌝ }
 {
     (here[c] - last[c]) * inv_dt
 }
 
-fn rates(here: [f64; 8], last: [f64; 8], inv_dt: f64, old: [f64; 8], n: usize) -> [f64; 8]
-    requires { ⌜ n ≤ 8 ⌝ }
+fn rates(
+    here: [f64; MAX_POS],
+    last: [f64; MAX_POS],
+    inv_dt: f64,
+    old: [f64; MAX_POS],
+    n: usize,
+) -> [f64; MAX_POS]
+    requires { ⌜ n ≤ maxPos ⌝ }
     ensures { λ r. ⌜ r ≡ rowTo (stepRate here last «inv_dt») old n ⌝ }
 {
     let mut out = old;
     let mut at: usize = 0;
-    while at < 8 {
+    while at < MAX_POS {
         if at < n {
             out[at] = step_rate(here, last, inv_dt, at);
         }
@@ -39,13 +46,13 @@ fn zero() -> f64
     0.0
 }
 
-fn zeroed(old: [f64; 8], n: usize) -> [f64; 8]
-    requires { ⌜ n ≤ 8 ⌝ }
+fn zeroed(old: [f64; MAX_POS], n: usize) -> [f64; MAX_POS]
+    requires { ⌜ n ≤ maxPos ⌝ }
     ensures { λ r. ⌜ r ≡ rowTo atRest old n ⌝ }
 {
     let mut out = old;
     let mut at: usize = 0;
-    while at < 8 {
+    while at < MAX_POS {
         if at < n {
             out[at] = zero();
         }
@@ -54,14 +61,19 @@ fn zeroed(old: [f64; 8], n: usize) -> [f64; 8]
     out
 }
 
-fn moving(cfg: FuseConfig, here: [f64; 8], last: [f64; 8], old: [f64; 8]) -> [f64; 8]
+fn moving(
+    cfg: FuseConfig,
+    here: [f64; MAX_POS],
+    last: [f64; MAX_POS],
+    old: [f64; MAX_POS],
+) -> [f64; MAX_POS]
     ensures { λ r. ⌜ r ≡ ratesRow cfg here last old ⌝ }
 {
     let n = least(cfg.pos_dim, MAX_POS);
     rates(here, last, cfg.inv_dt, old, n)
 }
 
-fn still(cfg: FuseConfig, old: [f64; 8]) -> [f64; 8]
+fn still(cfg: FuseConfig, old: [f64; MAX_POS]) -> [f64; MAX_POS]
     ensures { λ r. ⌜ r ≡ stillRow cfg old ⌝ }
 {
     let n = least(cfg.pos_dim, MAX_POS);
@@ -72,11 +84,11 @@ fn velocity(
     cfg: FuseConfig,
     has_vel: bool,
     have: bool,
-    here: [f64; 8],
-    last: [f64; 8],
-    old: [f64; 8],
+    here: [f64; MAX_POS],
+    last: [f64; MAX_POS],
+    old: [f64; MAX_POS],
     vel: &[f64],
-) -> [f64; 8]
+) -> [f64; MAX_POS]
     ensures { λ r. ⌜ r ≡ velocityOf cfg «has_vel» have here last old (now (vel .entry)) ⌝ }
 {
     if has_vel {

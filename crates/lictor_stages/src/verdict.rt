@@ -1,6 +1,7 @@
 // The verdict of a clean tick, and what the tally is told beside it.
 ghost use mathlib.Core.Path.{_≡_};
 ghost use Rattle.lictor_core.specs.Initial.{zeros};
+ghost use Rattle.lictor_core.specs.Sizes.{features};
 ghost use Rattle.lictor_stages.specs.Verdict.{liveValid, scoresOf, disarmedScores, actionDim, enteredOf, handoffOf, hasAck, consumedFlag, verdictOf, eventsOf, rejectedOf};
 use crate::act::Acted;
 use crate::act::status_of;
@@ -17,6 +18,7 @@ use lictor_core::num::least;
 use lictor_core::outcome::Outcome;
 use lictor_core::reason::ReasonCode;
 use lictor_core::reason::is_reason;
+use lictor_core::scores::NFEAT;
 use lictor_core::scores::Scores;
 use lictor_core::state::FuseState;
 use lictor_core::state::is_state;
@@ -54,10 +56,10 @@ fn scores_of(cal: Calibration, sc: Scores) -> Scores
     }
 }
 
-fn no_z() -> [f64; 12]
-    ensures { λ r. ⌜ r ≡ zeros 12 ⌝ }
+fn no_z() -> [f64; NFEAT]
+    ensures { λ r. ⌜ r ≡ zeros features ⌝ }
 {
-    [0.0; 12]
+    [0.0; NFEAT]
 }
 
 // Scores where none was made.

@@ -21,6 +21,7 @@ use Rattle.lictor_core.specs.Codes.{isObserve}
 use Rattle.lictor_core.specs.Masks.{anyOf, workspace, speed, accel, jerk, reach, nonfinite, schema}
 use Rattle.lictor_core.specs.Num.{satUp}
 use Rattle.lictor_core.specs.Rows.{rowTo}
+use Rattle.lictor_core.specs.Sizes.{maxPos, operators}
 use Rattle.lictor_table.specs.declared.FsmInput.{FsmInput}
 use Rattle.lictor_table.specs.declared.Turn.{Turn}
 use Rattle.lictor_table.specs.Fields.{withState, withHold, withCleanRun, withNonces}
@@ -50,7 +51,7 @@ armedReason mode = cond (isObserve mode) R.ObserveOnly R.Ok
 -- (01-scope.md, Transitions, the line on acceptance)
 unfoldable pub acceptedBy : ℕ → List ℕ → VerifiedAck → Bool
 acceptedBy handoff nonces a =
-    ltb (a .«operator_slot») 8 && (eqb (a .«handoff_seq») handoff && ltb (getD nonces (a .«operator_slot») 0) (a .nonce))
+    ltb (a .«operator_slot») operators && (eqb (a .«handoff_seq») handoff && ltb (getD nonces (a .«operator_slot») 0) (a .nonce))
 
 -- the acknowledgement that came, if it is accepted (fsm.rs, accepted_ack)
 unfoldable pub acceptedAck : ℕ → List ℕ → MaybeAck → MaybeAck
@@ -69,7 +70,7 @@ latchedOf pos lo hi hold n = rowTo (λ k. clampOf (getD pos k nan) (getD lo k na
 
 -- the hold latched at the position, in the live components (fsm.rs, latch_hold)
 unfoldable pub latchHold : FuseConfig → List Float → Control → Control
-latchHold cfg pos r = withHold (latchedOf pos (cfg .«box_lo») (cfg .«box_hi») (r .hold) (min (cfg .«pos_dim») 8)) r
+latchHold cfg pos r = withHold (latchedOf pos (cfg .«box_lo») (cfg .«box_hi») (r .hold) (min (cfg .«pos_dim») maxPos)) r
 
 -- ---- counts
 

@@ -10,6 +10,7 @@ use lib.Ieee.{Float, inf, nan}
 use Rattle.fmath.specs.Float.{maxOf}
 use Rattle.lictor_core.specs.Codes.{isState, isStop}
 use Rattle.lictor_core.specs.Initial.{emptyTally}
+use Rattle.lictor_core.specs.Sizes.{features, tripBits}
 use Rattle.lictor_core.specs.declared.state.FuseState.{FuseState}
 use Rattle.lictor_core.specs.declared.state.FuseState.the-variants as S
 use Rattle.lictor_core.specs.declared.verdict.SafetyVerdict.{SafetyVerdict}
@@ -88,8 +89,8 @@ counts clamps x = x .events .clamped
 counts holds x = x .events .«entered_hold»
 counts rearms x = x .events .rearmed
 counts escalations x = x .events .«entered_escalated»
-counts (tripsByBit b) x = ltb b 16 && bitOf (x .verdict .trips) b
-counts (firedByFeat j) x = ltb j 12 && bitOf (x .verdict .scores .fired) j
+counts (tripsByBit b) x = ltb b tripBits && bitOf (x .verdict .trips) b
+counts (firedByFeat j) x = ltb j features && bitOf (x .verdict .scores .fired) j
 
 -- how many ticks of a list have a property
 abbrev pub number : (Item → Bool) → List Item → ℕ
@@ -157,5 +158,5 @@ pub record OfHistory (h : List Item) : Type 0 where
   pub firstStop : tallyOf h .«first_stop_tick» ≡ firstIn stops h
   pub firstHandoff : tallyOf h .«handoff_tick» ≡ firstIn handsOver h
   pub maxS : tallyOf h .«max_s» ≡ mostOf (counts ticks) sOf (inf true) h
-  pub maxZ : (j : ℕ) → j < 12 → getD (tallyOf h .«max_z») j nan ≡ mostOf (live j) (zOf j) (inf true) h
+  pub maxZ : (j : ℕ) → j < features → getD (tallyOf h .«max_z») j nan ≡ mostOf (live j) (zOf j) (inf true) h
   pub last : tallyOf h .«terminal_state» ≡ lastIn S.Idle h

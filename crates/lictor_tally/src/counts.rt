@@ -9,6 +9,7 @@ ghost use Rattle.lictor_core.specs.Codes.{isState, isStop};
 ghost use Rattle.lictor_tally.specs.Counts.{count, isNominal, bitOf, countBit, countBits, isNever, first, firstReason, mostLive};
 use lictor_core::num::sat_u32;
 use lictor_core::reason::ReasonCode;
+use lictor_core::scores::NFEAT;
 use lictor_core::state::FuseState;
 use lictor_core::state::Time;
 use lictor_core::state::is_state;
@@ -16,6 +17,7 @@ use lictor_core::state::is_stop;
 use lictor_core::tally::Mark;
 use lictor_core::tally::ReasonMark;
 use lictor_core::tally::Tally;
+use lictor_core::verdict::TRIP_BITS;
 
 // ---- counts
 
@@ -62,34 +64,34 @@ fn count_bit(mask: u32, b: usize, n: u32) -> u32
 }
 
 // Most masks are empty, and then no place is looked at.
-fn count_bits(mask: u32, l: &mut [u32])
-    requires { ⌜ length (now l) ≤ 32 ⌝ }
-    ensures { λ r. ⌜ now (l .exit) ≡ countBits mask (now (l .entry)) ⌝ }
+fn count_bits(mask: u32, counts: &mut [u32])
+    requires { ⌜ length (now counts) ≤ 32 ⌝ }
+    ensures { λ r. ⌜ now (counts .exit) ≡ countBits mask (now (counts .entry)) ⌝ }
 {
     if mask == 0 {
         return;
     }
     let mut b: usize = 0;
-    while b < l.len() {
-        l[b] = count_bit(mask, b, l[b]);
+    while b < counts.len() {
+        counts[b] = count_bit(mask, b, counts[b]);
         b += 1;
     }
 }
 
-pub fn count_trips(tally: Tally, trips: u32) -> [u32; 16]
+pub fn count_trips(tally: Tally, trips: u32) -> [u32; TRIP_BITS]
     ensures { λ r. ⌜ r ≡ countBits trips (tally .«trips_by_bit») ⌝ }
 {
-    let mut l = tally.trips_by_bit;
-    count_bits(trips, &mut l);
-    l
+    let mut counts = tally.trips_by_bit;
+    count_bits(trips, &mut counts);
+    counts
 }
 
-pub fn count_fired(tally: Tally, fired: u32) -> [u32; 12]
+pub fn count_fired(tally: Tally, fired: u32) -> [u32; NFEAT]
     ensures { λ r. ⌜ r ≡ countBits fired (tally .«fired_by_feat») ⌝ }
 {
-    let mut l = tally.fired_by_feat;
-    count_bits(fired, &mut l);
-    l
+    let mut counts = tally.fired_by_feat;
+    count_bits(fired, &mut counts);
+    counts
 }
 
 // ---- marks
@@ -143,17 +145,17 @@ fn most_at(live: u32, j: usize, x: f64, m: f64) -> f64
     if bit_of(live, j) { fmath::max(m, x) } else { m }
 }
 
-pub fn most_live(tally: Tally, z: [f64; 12], live: u32) -> [f64; 12]
-    ensures { λ r. ⌜ r ≡ mostLive live z (tally .«max_z») ⌝ }
+pub fn most_live(tally: Tally, standardised: [f64; NFEAT], live: u32) -> [f64; NFEAT]
+    ensures { λ r. ⌜ r ≡ mostLive live standardised (tally .«max_z») ⌝ }
 {
-    let mut h = tally.max_z;
+    let mut most = tally.max_z;
     if live == 0 {
-        return h;
+        return most;
     }
     let mut j: usize = 0;
-    while j < 12 {
-        h[j] = most_at(live, j, z[j], h[j]);
+    while j < NFEAT {
+        most[j] = most_at(live, j, standardised[j], most[j]);
         j += 1;
     }
-    h
+    most
 }

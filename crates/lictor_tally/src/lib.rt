@@ -15,11 +15,13 @@ use crate::counts::first_reason;
 use crate::counts::first_stop;
 use crate::counts::most_live;
 use lictor_core::num::sat_u32;
+use lictor_core::scores::NFEAT;
 use lictor_core::state::FuseState;
 use lictor_core::tally::Mark;
 use lictor_core::tally::ReasonMark;
 use lictor_core::tally::Tally;
 use lictor_core::verdict::SafetyVerdict;
+use lictor_core::verdict::TRIP_BITS;
 
 // What the state machine did in a tick beyond what its verdict shows.
 pub struct TickEvents {
@@ -40,9 +42,9 @@ pub fn empty() -> Tally
     ensures { λ r. ⌜ r ≡ emptyTally ⌝ }
 {
     let lowest = fmath::minus_infinity();
-    let trips_by_bit = [0; 16];
-    let fired_by_feat = [0; 12];
-    let max_z = [lowest; 12];
+    let trips_by_bit = [0; TRIP_BITS];
+    let fired_by_feat = [0; NFEAT];
+    let max_z = [lowest; NFEAT];
     Tally {
         ticks: 0,
         nominal: 0,
@@ -78,16 +80,16 @@ pub fn empty() -> Tally
 // Tally::record: the verdict of a tick, once it is final, and its events.
 // All NaNs are one value in this promise: which pattern a NaN has is left open, and nothing else
 // depends on it.
-pub fn record(tally: Tally, v: SafetyVerdict, ev: TickEvents) -> Tally
-    ensures { λ r. ⌜ r ≡ recordOf tally v ev ⌝ }
+pub fn record(tally: Tally, verdict: SafetyVerdict, ev: TickEvents) -> Tally
+    ensures { λ r. ⌜ r ≡ recordOf tally verdict ev ⌝ }
 {
-    let state = v.state;
-    let reason = v.reason;
+    let state = verdict.state;
+    let reason = verdict.reason;
     let trip = tally.first_trip_tick;
     let trip_reason = tally.first_trip_reason;
     let stop = tally.first_stop_tick;
     let handoff = tally.handoff_tick;
-    let z = v.scores.z;
+    let standardised = verdict.scores.z;
     Tally {
         ticks: sat_u32(tally.ticks),
         nominal: count_nominal(state, tally.nominal),
@@ -98,22 +100,25 @@ pub fn record(tally: Tally, v: SafetyVerdict, ev: TickEvents) -> Tally
         escalated: count_in(state, FuseState::Escalated, tally.escalated),
         fault: count_in(state, FuseState::Fault, tally.fault),
         terminated: count_in(state, FuseState::Terminated, tally.terminated),
-        substituted: count_if(v.substituted, tally.substituted),
+        substituted: count_if(verdict.substituted, tally.substituted),
         chunks_seen: tally.chunks_seen,
         chunks_rejected: tally.chunks_rejected,
         clamps: count_if(ev.clamped, tally.clamps),
         holds: count_if(ev.entered_hold, tally.holds),
         rearms: count_if(ev.rearmed, tally.rearms),
         escalations: count_if(ev.entered_escalated, tally.escalations),
-        trips_by_bit: count_trips(tally, v.trips),
-        fired_by_feat: count_fired(tally, v.scores.fired),
-        first_trip_tick: first_at(v.trips != 0, v.t, trip),
-        first_trip_reason: first_reason(v.trips != 0, trip, reason, trip_reason),
-        first_stop_tick: first_stop(state, v.t, stop),
-        handoff_tick: first_at(ev.entered_escalated, v.t, handoff),
-        violations_reached_env: count_if(v.violation_reached_env, tally.violations_reached_env),
-        max_s: fmath::max(tally.max_s, v.scores.s),
-        max_z: most_live(tally, z, ev.live_z),
+        trips_by_bit: count_trips(tally, verdict.trips),
+        fired_by_feat: count_fired(tally, verdict.scores.fired),
+        first_trip_tick: first_at(verdict.trips != 0, verdict.t, trip),
+        first_trip_reason: first_reason(verdict.trips != 0, trip, reason, trip_reason),
+        first_stop_tick: first_stop(state, verdict.t, stop),
+        handoff_tick: first_at(ev.entered_escalated, verdict.t, handoff),
+        violations_reached_env: count_if(
+            verdict.violation_reached_env,
+            tally.violations_reached_env,
+        ),
+        max_s: fmath::max(tally.max_s, verdict.scores.s),
+        max_z: most_live(tally, standardised, ev.live_z),
         terminal_state: state,
     }
 }

@@ -27,13 +27,13 @@ fn normed(t: u64) -> Moved
     requires { ⌜ (0 < t) × (t < 2 ^ 52) ⌝ }
     ensures { λ r. ⌜ Normed t (r .m) (r .up) ⌝ }
 {
-    let mut m = t;
+    let mut digits = t;
     let mut up: u64 = 0;
-    while m < PLACE {
-        m = m * 2;
+    while digits < PLACE {
+        digits = digits * 2;
         up += 1;
     }
-    Moved { m, up }
+    Moved { m: digits, up }
 }
 
 // x * y / 2 ^ 52, cut to a whole number, from the halves of x and y: the product itself may have
@@ -66,7 +66,7 @@ fn too_small(g: u64, a: u64) -> bool
     high(g, g + 1) < a
 }
 
-// A guess at the root of m * 2 ^ (52 + odd), for an m whose top bit is bit 52. x is that number
+// A guess at the root of m * 2 ^ (52 + odd), for an m whose top bit is bit 52. `number` is that
 // times 2 ^ -104, from 1 up to 4. To take half its pattern from a constant halves the exponent and
 // turns its sign, which is 1 / root but for some hundredths; three steps of Newton's method, and a
 // last one for the root itself, bring it to the last digit or next to it. The promise says only how
@@ -76,14 +76,14 @@ fn guess(m: u64, odd: u64) -> u64
     ensures { λ r. ⌜ (0 < r) × (r ≤ 2 ^ 53) ⌝ }
 {
     let b = ONE + odd * PLACE + m % PLACE;
-    let x = f64::from_bits(b);
-    let half = 0.5 * x;
+    let number = f64::from_bits(b);
+    let half = 0.5 * number;
     let r0 = f64::from_bits(0x5fe6_eb50_c7b5_37a9 - b / 2);
     let r1 = r0 * (1.5 - half * r0 * r0);
     let r2 = r1 * (1.5 - half * r1 * r1);
     let r3 = r2 * (1.5 - half * r2 * r2);
-    let s = x * r3;
-    let y = s + 0.5 * r3 * (x - s * s);
+    let s = number * r3;
+    let y = s + 0.5 * r3 * (number - s * s);
     if y != y {
         return PLACE;
     }
@@ -133,25 +133,25 @@ pub fn sqrt(x: f64) -> f64
     if x != x {
         return x;
     }
-    let b = f64::to_bits(x);
-    if b == MINUS_ZERO {
+    let bits = f64::to_bits(x);
+    if bits == MINUS_ZERO {
         return x;
     }
-    if MINUS_ZERO < b {
+    if MINUS_ZERO < bits {
         return 0.0 / 0.0;
     }
-    if b == 0 {
+    if bits == 0 {
         return x;
     }
-    if b == INF {
+    if bits == INF {
         return x;
     }
-    let field = b / PLACE;
-    let t = b % PLACE;
+    let field = bits / PLACE;
+    let digits = bits % PLACE;
     if field == 0 {
-        let n = normed(t);
+        let n = normed(digits);
         f64::from_bits(pattern(n.m, 1074 - n.up))
     } else {
-        f64::from_bits(pattern(PLACE + t, field + 1073))
+        f64::from_bits(pattern(PLACE + digits, field + 1073))
     }
 }

@@ -30,43 +30,43 @@ enum Read {
 }
 
 // The value of a hexadecimal digit, and 16 for any other byte.
-fn digit(c: u8) -> u8
-    ensures { λ r. ⌜ r ≡ digitOf c ⌝ }
+fn digit(byte: u8) -> u8
+    ensures { λ r. ⌜ r ≡ digitOf byte ⌝ }
 {
-    if c < b'0' {
+    if byte < b'0' {
         return 16;
     }
-    if c <= b'9' {
-        return c - b'0';
+    if byte <= b'9' {
+        return byte - b'0';
     }
-    if c < b'a' {
+    if byte < b'a' {
         return 16;
     }
-    if c <= b'f' {
-        return c - b'a' + 10;
+    if byte <= b'f' {
+        return byte - b'a' + 10;
     }
     16
 }
 
 // What a line says, its newline included.
-fn read_line(s: &[u8]) -> Read
-    ensures { λ r. ⌜ r ≡ patternOf (now (s .entry)) ⌝ }
+fn read_line(line: &[u8]) -> Read
+    ensures { λ r. ⌜ r ≡ patternOf (now (line .entry)) ⌝ }
 {
-    if s.len() != LINE_BYTES {
+    if line.len() != LINE_BYTES {
         return Read::Bad;
     }
-    if s[16] != b'\n' {
+    if line[16] != b'\n' {
         return Read::Bad;
     }
     let mut pattern: u64 = 0;
-    let mut i: usize = 0;
-    while i < 16 {
-        let d = digit(s[i]);
+    let mut at: usize = 0;
+    while at < 16 {
+        let d = digit(line[at]);
         if d > 15 {
             return Read::Bad;
         }
         pattern = pattern * 16 + d as u64;
-        i += 1;
+        at += 1;
     }
     Read::Pattern(pattern)
 }

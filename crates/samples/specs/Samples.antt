@@ -16,6 +16,7 @@ use Rattle.lictor_core.specs.declared.envelope.RearmPolicy.the-variants.{AckOnl
 use Rattle.lictor_core.specs.declared.state.FuseMode.the-variants.{Enforce}
 use Rattle.lictor_core.specs.Codes.{modeCode, kindCode, clampCode, rearmCode}
 use Rattle.lictor_core.specs.Initial.{zeroFloat, zeros}
+use Rattle.lictor_core.specs.Sizes.{maxD, maxPos, features}
 
 -- Enforce, EePosition, clamping on, AckOnly, one component, chunks of one row, no calibration.
 -- The limits, the window's mask, the trips that are enabled, one float for dt, inv_dt and a_max.
@@ -32,8 +33,8 @@ sampleSettings limits windowMask tier0 unit = record {
   dt = unit;
   «inv_dt» = unit;
   «a_max» = unit;
-  «box_lo» = zeros 8;
-  «box_hi» = zeros 8;
+  «box_lo» = zeros maxPos;
+  «box_hi» = zeros maxPos;
   hyst = limits;
   «window_mask» = windowMask;
   «tier0_enabled» = tier0;
@@ -47,9 +48,9 @@ sampleOutcome trips feasible s = record {
   «clamped_dims» = 0;
   feasible = feasible;
   margin = zeroFloat;
-  scores = record { z = zeros 12; s = s; valid = 0; fired = 0 };
-  policy = zeros 8;
-  clamped = zeros 8;
+  scores = record { z = zeros features; s = s; valid = 0; fired = 0 };
+  policy = zeros maxD;
+  clamped = zeros maxD;
 }
 
 -- a tick at t, after `missed` ticks, with a velocity or none, with this chunk and acknowledgement

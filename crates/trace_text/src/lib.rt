@@ -19,22 +19,22 @@ use text::empty;
 // How many lines there are: 23 of the verdict, 25 of the run state, 26 of the tally.
 pub const TRACE_LINES: usize = 74;
 
-// Line k of the trace after a tick; from TRACE_LINES on it is empty.
-pub fn trace_line(k: usize, v: SafetyVerdict, rt: FuseRt) -> Line
-    ensures { λ r. ⌜ r ≡ lineOf (traceText k v rt) ⌝ }
+// Line `at` of the trace after a tick; from TRACE_LINES on it is empty.
+pub fn trace_line(at: usize, verdict: SafetyVerdict, rt: FuseRt) -> Line
+    ensures { λ r. ⌜ r ≡ lineOf (traceText at verdict rt) ⌝ }
 {
-    if k < 23 {
-        return verdict_line(k, v);
+    if at < 23 {
+        return verdict_line(at, verdict);
     }
-    if k < 48 {
+    if at < 48 {
         let control = rt.control;
         let motion = rt.motion;
         let clock = rt.clock;
-        return run_line(k - 23, control, motion, clock);
+        return run_line(at - 23, control, motion, clock);
     }
-    if k < TRACE_LINES {
+    if at < TRACE_LINES {
         let tally = rt.tally;
-        return tally_line(k - 48, tally);
+        return tally_line(at - 48, tally);
     }
     empty()
 }

@@ -14,14 +14,14 @@ use lictor_core::fuse::Control;
 use lictor_core::fuse::Motion;
 use text::Line;
 
-// The value of line k, which is no list.
-fn value_of(k: usize, control: Control, motion: Motion, clock: Clock) -> Value
-    requires { ⌜ (k < 24) × (k ≡ 6 → ⊥) × (k ≡ 7 → ⊥) × (k ≡ 8 → ⊥) × (k ≡ 10 → ⊥) × (k ≡ 11 → ⊥) ⌝ }
-    ensures { λ r. ⌜ row (runName k) (valueText r) ≡ getD (runLines control motion clock) k [] ⌝ }
+// The value of line `at`, which is no list.
+fn value_of(at: usize, control: Control, motion: Motion, clock: Clock) -> Value
+    requires { ⌜ (at < 24) × (at ≡ 6 → ⊥) × (at ≡ 7 → ⊥) × (at ≡ 8 → ⊥) × (at ≡ 10 → ⊥) × (at ≡ 11 → ⊥) ⌝ }
+    ensures { λ r. ⌜ row (runName at) (valueText r) ≡ getD (runLines control motion clock) at [] ⌝ }
 {
     let window = control.window;
     let state = control.state;
-    match k {
+    match at {
         0 => crate::rows::flag(clock.filled),
         1 => crate::rows::number(window.bits),
         2 => crate::rows::state(state),
@@ -44,13 +44,13 @@ fn value_of(k: usize, control: Control, motion: Motion, clock: Clock) -> Value
     }
 }
 
-// Line k of the run state.
-pub(crate) fn run_line(k: usize, control: Control, motion: Motion, clock: Clock) -> Line
-    requires { ⌜ k < 25 ⌝ }
-    ensures { λ r. ⌜ r ≡ lineOf (getD (runLines control motion clock) k []) ⌝ }
+// Line `at` of the run state.
+pub(crate) fn run_line(at: usize, control: Control, motion: Motion, clock: Clock) -> Line
+    requires { ⌜ at < 25 ⌝ }
+    ensures { λ r. ⌜ r ≡ lineOf (getD (runLines control motion clock) at []) ⌝ }
 {
-    let l = name_of(k);
-    if k == 24 {
+    let l = name_of(at);
+    if at == 24 {
         let last_nonce = control.last_nonce;
         return crate::rows::with_numbers(l, &last_nonce);
     }
@@ -59,12 +59,12 @@ pub(crate) fn run_line(k: usize, control: Control, motion: Motion, clock: Clock)
     let vel = motion.vel;
     let last_cmd = motion.last_cmd;
     let hold = control.hold;
-    match k {
+    match at {
         6 => crate::rows::with_floats(l, &pos),
         7 => crate::rows::with_floats(l, &prev_pos),
         8 => crate::rows::with_floats(l, &vel),
         10 => crate::rows::with_floats(l, &last_cmd),
         11 => crate::rows::with_floats(l, &hold),
-        _ => crate::rows::with_value(l, value_of(k, control, motion, clock)),
+        _ => crate::rows::with_value(l, value_of(at, control, motion, clock)),
     }
 }

@@ -12,78 +12,78 @@ use crate::rows::Value;
 use lictor_core::tally::Tally;
 use text::Line;
 
-// ---- values: that of line k, which is no list
+// ---- values: that of line `at`, which is no list
 
-fn count_value(k: usize, t: Tally) -> Value
-    requires { ⌜ k < 16 ⌝ }
-    ensures { λ r. ⌜ row (tallyName k) (valueText r) ≡ getD (tallyLines t) k [] ⌝ }
+fn count_value(at: usize, tally: Tally) -> Value
+    requires { ⌜ at < 16 ⌝ }
+    ensures { λ r. ⌜ row (tallyName at) (valueText r) ≡ getD (tallyLines tally) at [] ⌝ }
 {
-    match k {
-        0 => crate::rows::number32(t.ticks),
-        1 => crate::rows::number32(t.nominal),
-        2 => crate::rows::number32(t.watching),
-        3 => crate::rows::number32(t.clamped),
-        4 => crate::rows::number32(t.braking),
-        5 => crate::rows::number32(t.held),
-        6 => crate::rows::number32(t.escalated),
-        7 => crate::rows::number32(t.fault),
-        8 => crate::rows::number32(t.terminated),
-        9 => crate::rows::number32(t.substituted),
-        10 => crate::rows::number32(t.chunks_seen),
-        11 => crate::rows::number32(t.chunks_rejected),
-        12 => crate::rows::number32(t.clamps),
-        13 => crate::rows::number32(t.holds),
-        14 => crate::rows::number32(t.rearms),
-        _ => crate::rows::number32(t.escalations),
+    match at {
+        0 => crate::rows::number32(tally.ticks),
+        1 => crate::rows::number32(tally.nominal),
+        2 => crate::rows::number32(tally.watching),
+        3 => crate::rows::number32(tally.clamped),
+        4 => crate::rows::number32(tally.braking),
+        5 => crate::rows::number32(tally.held),
+        6 => crate::rows::number32(tally.escalated),
+        7 => crate::rows::number32(tally.fault),
+        8 => crate::rows::number32(tally.terminated),
+        9 => crate::rows::number32(tally.substituted),
+        10 => crate::rows::number32(tally.chunks_seen),
+        11 => crate::rows::number32(tally.chunks_rejected),
+        12 => crate::rows::number32(tally.clamps),
+        13 => crate::rows::number32(tally.holds),
+        14 => crate::rows::number32(tally.rearms),
+        _ => crate::rows::number32(tally.escalations),
     }
 }
 
-fn mark_value(k: usize, t: Tally) -> Value
-    requires { ⌜ (18 ≤ k) × (k < 26) × (k ≡ 24 → ⊥) ⌝ }
-    ensures { λ r. ⌜ row (tallyName k) (valueText r) ≡ getD (tallyLines t) k [] ⌝ }
+fn mark_value(at: usize, tally: Tally) -> Value
+    requires { ⌜ (18 ≤ at) × (at < 26) × (at ≡ 24 → ⊥) ⌝ }
+    ensures { λ r. ⌜ row (tallyName at) (valueText r) ≡ getD (tallyLines tally) at [] ⌝ }
 {
-    let trip_tick = t.first_trip_tick;
-    let trip_reason = t.first_trip_reason;
-    let stop_tick = t.first_stop_tick;
-    let handoff_tick = t.handoff_tick;
-    let terminal_state = t.terminal_state;
-    match k {
+    let trip_tick = tally.first_trip_tick;
+    let trip_reason = tally.first_trip_reason;
+    let stop_tick = tally.first_stop_tick;
+    let handoff_tick = tally.handoff_tick;
+    let terminal_state = tally.terminal_state;
+    match at {
         18 => crate::rows::mark(trip_tick),
         19 => crate::rows::reason_mark(trip_reason),
         20 => crate::rows::mark(stop_tick),
         21 => crate::rows::mark(handoff_tick),
-        22 => crate::rows::number32(t.violations_reached_env),
-        23 => crate::rows::float(t.max_s),
+        22 => crate::rows::number32(tally.violations_reached_env),
+        23 => crate::rows::float(tally.max_s),
         _ => crate::rows::state(terminal_state),
     }
 }
 
-fn value_of(k: usize, t: Tally) -> Value
-    requires { ⌜ (k < 26) × (k ≡ 16 → ⊥) × (k ≡ 17 → ⊥) × (k ≡ 24 → ⊥) ⌝ }
-    ensures { λ r. ⌜ row (tallyName k) (valueText r) ≡ getD (tallyLines t) k [] ⌝ }
+fn value_of(at: usize, tally: Tally) -> Value
+    requires { ⌜ (at < 26) × (at ≡ 16 → ⊥) × (at ≡ 17 → ⊥) × (at ≡ 24 → ⊥) ⌝ }
+    ensures { λ r. ⌜ row (tallyName at) (valueText r) ≡ getD (tallyLines tally) at [] ⌝ }
 {
-    if k < 16 {
-        count_value(k, t)
+    if at < 16 {
+        count_value(at, tally)
     } else {
-        mark_value(k, t)
+        mark_value(at, tally)
     }
 }
 
 // ---- the line
 
-// Line k of the tally.
-pub(crate) fn tally_line(k: usize, t: Tally) -> Line
-    requires { ⌜ k < 26 ⌝ }
-    ensures { λ r. ⌜ r ≡ lineOf (getD (tallyLines t) k []) ⌝ }
+// Line `at` of the tally.
+pub(crate) fn tally_line(at: usize, tally: Tally) -> Line
+    requires { ⌜ at < 26 ⌝ }
+    ensures { λ r. ⌜ r ≡ lineOf (getD (tallyLines tally) at []) ⌝ }
 {
-    let l = name_of(k);
-    let trips = t.trips_by_bit;
-    let fired = t.fired_by_feat;
-    let max_z = t.max_z;
-    match k {
+    let l = name_of(at);
+    let trips = tally.trips_by_bit;
+    let fired = tally.fired_by_feat;
+    let max_z = tally.max_z;
+    match at {
         16 => crate::rows::with_counts(l, &trips),
         17 => crate::rows::with_counts(l, &fired),
         24 => crate::rows::with_floats(l, &max_z),
-        _ => crate::rows::with_value(l, value_of(k, t)),
+        _ => crate::rows::with_value(l, value_of(at, tally)),
     }
 }

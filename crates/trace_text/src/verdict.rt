@@ -12,98 +12,98 @@ use crate::rows::Value;
 use lictor_core::verdict::SafetyVerdict;
 use text::Line;
 
-// ---- values: that of line k, which is no list
+// ---- values: that of line `at`, which is no list
 
-fn head_value(k: usize, v: SafetyVerdict) -> Value
-    requires { ⌜ k < 6 ⌝ }
-    ensures { λ r. ⌜ row (verdictName k) (valueText r) ≡ getD (verdictLines v) k [] ⌝ }
+fn head_value(at: usize, verdict: SafetyVerdict) -> Value
+    requires { ⌜ at < 6 ⌝ }
+    ensures { λ r. ⌜ row (verdictName at) (valueText r) ≡ getD (verdictLines verdict) at [] ⌝ }
 {
-    let status = v.status;
-    let state = v.state;
-    let prev_state = v.prev_state;
-    match k {
-        0 => crate::rows::number32(v.seq),
-        1 => crate::rows::number32(v.t),
+    let status = verdict.status;
+    let state = verdict.state;
+    let prev_state = verdict.prev_state;
+    match at {
+        0 => crate::rows::number32(verdict.seq),
+        1 => crate::rows::number32(verdict.t),
         2 => crate::rows::status(status),
         3 => crate::rows::state(state),
         4 => crate::rows::state(prev_state),
-        _ => crate::rows::number32(v.trips),
+        _ => crate::rows::number32(verdict.trips),
     }
 }
 
-fn action_value(k: usize, v: SafetyVerdict) -> Value
-    requires { ⌜ (7 ≤ k) × (k < 11) ⌝ }
-    ensures { λ r. ⌜ row (verdictName k) (valueText r) ≡ getD (verdictLines v) k [] ⌝ }
+fn action_value(at: usize, verdict: SafetyVerdict) -> Value
+    requires { ⌜ (7 ≤ at) × (at < 11) ⌝ }
+    ensures { λ r. ⌜ row (verdictName at) (valueText r) ≡ getD (verdictLines verdict) at [] ⌝ }
 {
-    let action_src = v.action_src;
-    match k {
-        7 => crate::rows::number16(v.action_dim),
+    let action_src = verdict.action_src;
+    match at {
+        7 => crate::rows::number16(verdict.action_dim),
         8 => crate::rows::source(action_src),
-        9 => crate::rows::flag(v.substituted),
-        _ => crate::rows::number32(v.clamped_dims),
+        9 => crate::rows::flag(verdict.substituted),
+        _ => crate::rows::number32(verdict.clamped_dims),
     }
 }
 
-fn score_value(k: usize, v: SafetyVerdict) -> Value
-    requires { ⌜ (12 ≤ k) × (k < 15) ⌝ }
-    ensures { λ r. ⌜ row (verdictName k) (valueText r) ≡ getD (verdictLines v) k [] ⌝ }
+fn score_value(at: usize, verdict: SafetyVerdict) -> Value
+    requires { ⌜ (12 ≤ at) × (at < 15) ⌝ }
+    ensures { λ r. ⌜ row (verdictName at) (valueText r) ≡ getD (verdictLines verdict) at [] ⌝ }
 {
-    let scores = v.scores;
-    match k {
+    let scores = verdict.scores;
+    match at {
         12 => crate::rows::float(scores.s),
         13 => crate::rows::number32(scores.valid),
         _ => crate::rows::number32(scores.fired),
     }
 }
 
-fn reason_value(k: usize, v: SafetyVerdict) -> Value
-    requires { ⌜ (15 ≤ k) × (k < 23) ⌝ }
-    ensures { λ r. ⌜ row (verdictName k) (valueText r) ≡ getD (verdictLines v) k [] ⌝ }
+fn reason_value(at: usize, verdict: SafetyVerdict) -> Value
+    requires { ⌜ (15 ≤ at) × (at < 23) ⌝ }
+    ensures { λ r. ⌜ row (verdictName at) (valueText r) ≡ getD (verdictLines verdict) at [] ⌝ }
 {
-    let reason = v.reason;
-    let handoff_seq = v.handoff_seq;
-    match k {
-        15 => crate::rows::float(v.tau),
-        16 => crate::rows::number(v.window),
-        17 => crate::rows::number8(v.window_hits),
-        18 => crate::rows::float(v.brake_margin),
+    let reason = verdict.reason;
+    let handoff_seq = verdict.handoff_seq;
+    match at {
+        15 => crate::rows::float(verdict.tau),
+        16 => crate::rows::number(verdict.window),
+        17 => crate::rows::number8(verdict.window_hits),
+        18 => crate::rows::float(verdict.brake_margin),
         19 => crate::rows::reason(reason),
         20 => crate::rows::handoff(handoff_seq),
-        21 => crate::rows::flag(v.ack_consumed),
-        _ => crate::rows::flag(v.violation_reached_env),
+        21 => crate::rows::flag(verdict.ack_consumed),
+        _ => crate::rows::flag(verdict.violation_reached_env),
     }
 }
 
-fn value_of(k: usize, v: SafetyVerdict) -> Value
-    requires { ⌜ (k < 23) × (k ≡ 6 → ⊥) × (k ≡ 11 → ⊥) ⌝ }
-    ensures { λ r. ⌜ row (verdictName k) (valueText r) ≡ getD (verdictLines v) k [] ⌝ }
+fn value_of(at: usize, verdict: SafetyVerdict) -> Value
+    requires { ⌜ (at < 23) × (at ≡ 6 → ⊥) × (at ≡ 11 → ⊥) ⌝ }
+    ensures { λ r. ⌜ row (verdictName at) (valueText r) ≡ getD (verdictLines verdict) at [] ⌝ }
 {
-    if k < 6 {
-        return head_value(k, v);
+    if at < 6 {
+        return head_value(at, verdict);
     }
-    if k < 11 {
-        return action_value(k, v);
+    if at < 11 {
+        return action_value(at, verdict);
     }
-    if k < 15 {
-        return score_value(k, v);
+    if at < 15 {
+        return score_value(at, verdict);
     }
-    reason_value(k, v)
+    reason_value(at, verdict)
 }
 
 // ---- the line
 
-// Line k of the verdict.
-pub(crate) fn verdict_line(k: usize, v: SafetyVerdict) -> Line
-    requires { ⌜ k < 23 ⌝ }
-    ensures { λ r. ⌜ r ≡ lineOf (getD (verdictLines v) k []) ⌝ }
+// Line `at` of the verdict.
+pub(crate) fn verdict_line(at: usize, verdict: SafetyVerdict) -> Line
+    requires { ⌜ at < 23 ⌝ }
+    ensures { λ r. ⌜ r ≡ lineOf (getD (verdictLines verdict) at []) ⌝ }
 {
-    let l = name_of(k);
-    let action = v.action;
-    let scores = v.scores;
+    let l = name_of(at);
+    let action = verdict.action;
+    let scores = verdict.scores;
     let z = scores.z;
-    match k {
+    match at {
         6 => crate::rows::with_floats(l, &action),
         11 => crate::rows::with_floats(l, &z),
-        _ => crate::rows::with_value(l, value_of(k, v)),
+        _ => crate::rows::with_value(l, value_of(at, verdict)),
     }
 }

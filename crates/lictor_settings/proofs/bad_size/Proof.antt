@@ -24,12 +24,21 @@ returns-2 : tie.Need-returns-2
 unfolding badSize
 returns-2 c = search branches depth 12
 
+cast-outside-3 : tie.Need-cast-outside-3
+cast-outside-3 c = search needs
+
 outside-requires-3 : tie.Need-outside-requires-3
 outside-requires-3 c κs = search needs
 
 returns-3 : tie.Need-returns-3
 unfolding badSize
 returns-3 c = search branches depth 12
+
+cast-outside-4 : tie.Need-cast-outside-4
+cast-outside-4 c = search needs
+
+cast-outside-5 : tie.Need-cast-outside-5
+cast-outside-5 c = search needs
 
 outside-requires-4 : tie.Need-outside-requires-4
 outside-requires-4 c κs = search needs
@@ -48,7 +57,10 @@ bad-size-spec =
     cast-outside-2
     outside-requires-2
     returns-2
+    cast-outside-3
     outside-requires-3
     returns-3
+    cast-outside-4
+    cast-outside-5
     outside-requires-4
     returns-4)

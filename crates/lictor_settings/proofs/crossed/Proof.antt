@@ -35,10 +35,10 @@ returns : tie.Need-returns Inv-loop μ-loop
 unfolding crossedOf
 returns c =
     let a = c .before .before .before .args in
-    sym (some-below 8 (λ (k : ℕ). lt (getD (a .t2) k nan) (getD (a .t1) k nan)) (c .before .before .loop .i) (omega arith) (c .if1 .taken))
+    sym (some-below 8 (λ (k : ℕ). lt (getD (a .t2) k nan) (getD (a .t1) k nan)) (c .before .before .loop .pair) (omega arith) (c .if1 .taken))
 
-add-i : tie.Need-add-i Inv-loop μ-loop
-add-i c = search needs
+add-pair : tie.Need-add-pair Inv-loop μ-loop
+add-pair c = search needs
 
 loop-less : tie.Need-loop-less Inv-loop μ-loop
 loop-less c = search needs
@@ -48,7 +48,7 @@ loop-again c = (omega arith, none-more _ _ (c .before .before .loop .inv .1) (c 
 
 returns-2 : tie.Need-returns-2 Inv-loop μ-loop
 unfolding crossedOf
-returns-2 c = let e : c .before .loop .i ≡ 8 = omega arith in sym (rw e at (c .before .loop .inv .1))
+returns-2 c = let e : c .before .loop .pair ≡ 8 = omega arith in sym (rw e at (c .before .loop .inv .1))
 
 pub crossed-spec : {M : Type 1} → statement M
 crossed-spec =
@@ -62,7 +62,7 @@ crossed-spec =
     mul-if1-2
     array-read-if1-2
     returns
-    add-i
+    add-pair
     loop-less
     loop-again
     returns-2)

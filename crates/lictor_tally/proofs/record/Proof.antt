@@ -107,7 +107,7 @@ returns c =
       «violations_reached_env» = c .before .before .count-if6 .ensures i;
       «max_s» = c .before .max .ensures i;
       «max_z» = c .most-live .ensures i;
-      «terminal_state» = args .v .state;
+      «terminal_state» = args .verdict .state;
     }
 
 pub record-spec : {M : Type 1} → statement M

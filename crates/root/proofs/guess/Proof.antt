@@ -15,8 +15,8 @@ add-b c = search needs
 add-b-2 : tie.Need-add-b-2
 add-b-2 c = search needs
 
-float-from-bits-x : tie.Need-float-from-bits-x
-float-from-bits-x c = no-nan-bits _ (omega arith)
+float-from-bits-number : tie.Need-float-from-bits-number
+float-from-bits-number c = no-nan-bits _ (omega arith)
 
 sub-r0 : tie.Need-sub-r0
 sub-r0 c = search needs
@@ -43,7 +43,7 @@ guess-spec =
     mul-b
     add-b
     add-b-2
-    float-from-bits-x
+    float-from-bits-number
     sub-r0
     float-from-bits-r0
     returns

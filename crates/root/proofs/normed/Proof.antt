@@ -15,8 +15,8 @@ abbrev μ-loop : tie.MeasureT-loop
 loop-holds : tie.Need-loop-holds Inv-loop μ-loop
 loop-holds c = unmoved (c .args .t) (c .pre .0) (c .pre .1)
 
-mul-m : tie.Need-mul-m Inv-loop μ-loop
-mul-m c = omega arith
+mul-digits : tie.Need-mul-digits Inv-loop μ-loop
+mul-digits c = omega arith
 
 add-up : tie.Need-add-up Inv-loop μ-loop
 add-up c = omega (arith, few-moves (c .before .loop .inv))
@@ -27,12 +27,12 @@ loop-less c = omega (arith, pow-pos (c .before .loop .up), c .before .loop .inv 
 loop-again : tie.Need-loop-again Inv-loop μ-loop
 loop-again c =
     let l = c .before .loop in
-    up-one (c .before .before .args .t) (l .m) (l .up) (l .inv) (c .loop-test .taken)
+    up-one (c .before .before .args .t) (l .digits) (l .up) (l .inv) (c .loop-test .taken)
 
 returns : tie.Need-returns Inv-loop μ-loop
 returns c =
     let l = c .before .loop in
-    moved-up (c .before .before .args .t) (l .m) (l .up) (l .inv) (c .loop-test .left)
+    moved-up (c .before .before .args .t) (l .digits) (l .up) (l .inv) (c .loop-test .left)
 
 pub normed-spec : {M : Type 1} → statement M
-normed-spec = tie.close (tie.spec Inv-loop μ-loop loop-holds mul-m add-up loop-less loop-again returns)
+normed-spec = tie.close (tie.spec Inv-loop μ-loop loop-holds mul-digits add-up loop-less loop-again returns)

@@ -17,8 +17,8 @@ held c = subst T (sym (c .good .0 .1)) tt
 returns : tie.Need-returns
 returns c = at-nan (c .before .args .x) (c .if1 .taken)
 
-float-to-bits-b : tie.Need-float-to-bits-b
-float-to-bits-b c = not-nan (c .before .args .x) (c .if1 .left)
+float-to-bits-bits : tie.Need-float-to-bits-bits
+float-to-bits-bits c = not-nan (c .before .args .x) (c .if1 .left)
 
 returns-2 : tie.Need-returns-2
 returns-2 c = let s = c .before .before in at-minus-zero (s .args .x) (held s) (c .if2 .taken)
@@ -82,7 +82,7 @@ sqrt-spec =
     tie.close
     (tie.spec
     returns
-    float-to-bits-b
+    float-to-bits-bits
     returns-2
     returns-3
     returns-4

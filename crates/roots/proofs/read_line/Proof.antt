@@ -41,7 +41,7 @@ returns-3 c =
     let at = c .before .before .before .before in
     let e = at .before in
     let s = e .before .before .before .before in
-    simp (eq-eqb _ _ (e .before .before .if1 .left), eq-eqb _ _ (e .if2 .left), at .loop .inv .1, digits-stop (s .args .s .now) (at .loop .i) (at .loop .pattern) (e .before .before .if1 .left) (c .before .before .before .loop-test .taken) (rw (c .before .digit .ensures) at (c .if3 .taken)))
+    simp (eq-eqb _ _ (e .before .before .if1 .left), eq-eqb _ _ (e .if2 .left), at .loop .inv .1, digits-stop (s .args .line .now) (at .loop .at) (at .loop .pattern) (e .before .before .if1 .left) (c .before .before .before .loop-test .taken) (rw (c .before .digit .ensures) at (c .if3 .taken)))
 
 mul-pattern : tie.Need-mul-pattern Inv-loop μ-loop
 mul-pattern c = omega (arith, value-small _ _ (c .before .before .before .before .loop .inv .0) (c .before .before .before .loop-test .taken))
@@ -52,8 +52,8 @@ cast-pattern c = omega arith
 add-pattern : tie.Need-add-pattern Inv-loop μ-loop
 add-pattern c = omega (arith, value-small _ _ (c .before .before .before .before .loop .inv .0) (c .before .before .before .loop-test .taken))
 
-add-i : tie.Need-add-i Inv-loop μ-loop
-add-i c = omega arith
+add-at : tie.Need-add-at Inv-loop μ-loop
+add-at c = omega arith
 
 loop-less : tie.Need-loop-less Inv-loop μ-loop
 loop-less c = omega arith
@@ -64,9 +64,9 @@ loop-again c =
     let e = at .before in
     let s = e .before .before .before .before in
     let r : c .before .digit .result < 16 = omega arith in
-    let d : digitOf (getD (s .args .s .now) (at .loop .i) 0) < 16 = rw (c .before .digit .ensures) at r in (
-      value-lt (at .loop .pattern) (c .before .digit .result) (at .loop .i) (at .loop .inv .0) (omega arith),
-      rw (c .before .digit .ensures) (at .loop .inv .1 ∙ digits-on (s .args .s .now) (at .loop .i) (at .loop .pattern) (e .before .before .if1 .left) (c .before .before .before .loop-test .taken) d),
+    let d : digitOf (getD (s .args .line .now) (at .loop .at) 0) < 16 = rw (c .before .digit .ensures) at r in (
+      value-lt (at .loop .pattern) (c .before .digit .result) (at .loop .at) (at .loop .inv .0) (omega arith),
+      rw (c .before .digit .ensures) (at .loop .inv .1 ∙ digits-on (s .args .line .now) (at .loop .at) (at .loop .pattern) (e .before .before .if1 .left) (c .before .before .before .loop-test .taken) d),
     )
 
 returns-4 : tie.Need-returns-4 Inv-loop μ-loop
@@ -75,7 +75,7 @@ returns-4 c =
     let at = c .before in
     let e = at .before in
     let s = e .before .before .before .before in
-    simp (eq-eqb _ _ (e .before .before .if1 .left), eq-eqb _ _ (e .if2 .left), at .loop .inv .1, digits-end (s .args .s .now) (at .loop .i) (at .loop .pattern) (c .loop-test .left))
+    simp (eq-eqb _ _ (e .before .before .if1 .left), eq-eqb _ _ (e .if2 .left), at .loop .inv .1, digits-end (s .args .line .now) (at .loop .at) (at .loop .pattern) (c .loop-test .left))
 
 pub read-line-spec : {M : Type 1} → statement M
 read-line-spec =
@@ -93,7 +93,7 @@ read-line-spec =
     mul-pattern
     cast-pattern
     add-pattern
-    add-i
+    add-at
     loop-less
     loop-again
     returns-4)

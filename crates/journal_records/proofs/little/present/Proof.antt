@@ -23,24 +23,24 @@ loop-holds c =
 sub-i : tie.Need-sub-i Inv-loop μ-loop
 sub-i c = omega arith
 
-mul-v : tie.Need-mul-v Inv-loop μ-loop
-mul-v c =
+mul-value : tie.Need-mul-value Inv-loop μ-loop
+mul-value c =
     let a = c .before .before .before .args in
     let i = c .before .loop .i in
     let h : leAt (a .s .now) (a .at + i) (a .n - i) < 2 ^ 56 = leAt-under (a .s .now) (a .at + i) (a .n - i) 7 (λ k. omega (arith, c .before .before .shared-slice-known .given k)) (omega arith) in
     omega arith
 
-add-wide : tie.Need-add-wide Inv-loop μ-loop
-add-wide c = omega arith
+add-of-byte : tie.Need-add-of-byte Inv-loop μ-loop
+add-of-byte c = omega arith
 
-shared-slice-read-wide : tie.Need-shared-slice-read-wide Inv-loop μ-loop
-shared-slice-read-wide c = omega arith
+shared-slice-read-of-byte : tie.Need-shared-slice-read-of-byte Inv-loop μ-loop
+shared-slice-read-of-byte c = omega arith
 
-wide-requires : tie.Need-wide-requires Inv-loop μ-loop
-wide-requires c κs = tt
+of-byte-requires : tie.Need-of-byte-requires Inv-loop μ-loop
+of-byte-requires c κs = tt
 
-add-v : tie.Need-add-v Inv-loop μ-loop
-add-v c =
+add-value : tie.Need-add-value Inv-loop μ-loop
+add-value c =
     let a = c .before .before .before .before .before .args in
     let i = c .before .before .before .loop .i in
     let h : leAt (a .s .now) (a .at + i) (a .n - i) < 2 ^ 56 = leAt-under (a .s .now) (a .at + i) (a .n - i) 7 (λ k. omega (arith, c .before .before .before .before .shared-slice-known .given k)) (omega arith) in
@@ -63,7 +63,7 @@ returns c =
     let a = c .before .before .before .args in
     let i = c .before .loop .i in
     let z : i ≡ 0 = omega arith in
-    let v : c .before .loop .v ≡ leAt (a .s .now) (a .at + i) (a .n - i) = c .before .loop .inv .1 in
+    let v : c .before .loop .value ≡ leAt (a .s .now) (a .at + i) (a .n - i) = c .before .loop .inv .1 in
     let x : a .at + i ≡ a .at = omega arith in
     let y : a .n - i ≡ a .n = omega arith in
     v ∙ ap₂ (λ (p q : ℕ). leAt (a .s .now) p q) x y
@@ -76,11 +76,11 @@ present-spec =
     μ-loop
     loop-holds
     sub-i
-    mul-v
-    add-wide
-    shared-slice-read-wide
-    wide-requires
-    add-v
+    mul-value
+    add-of-byte
+    shared-slice-read-of-byte
+    of-byte-requires
+    add-value
     loop-less
     loop-again
     returns)

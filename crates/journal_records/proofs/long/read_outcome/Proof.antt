@@ -6,11 +6,11 @@ use Rattle.journal_records.proofs.long.read_outcome.Tie as tie
 read-scores-requires : tie.Need-read-scores-requires
 read-scores-requires c κs = search needs
 
-eight-floats-requires : tie.Need-eight-floats-requires
-eight-floats-requires c κs = search needs
+row-at-requires : tie.Need-row-at-requires
+row-at-requires c κs = search needs
 
-eight-floats-requires-2 : tie.Need-eight-floats-requires-2
-eight-floats-requires-2 c κs = search needs
+row-at-requires-2 : tie.Need-row-at-requires-2
+row-at-requires-2 c κs = search needs
 
 le32-requires : tie.Need-le32-requires
 le32-requires c κs = search needs
@@ -29,15 +29,15 @@ f64-at-requires c κs = search needs
 
 returns : tie.Need-returns
 unfolding outcomeOf
-returns c = rw (c .f64-at .ensures, c .before .flag-set .ensures, c .before .before .byte .ensures, c .before .before .before .le322 .ensures, c .before .before .before .before .le32 .ensures, c .before .before .before .before .before .eight-floats2 .ensures, c .before .before .before .before .before .before .eight-floats .ensures, c .before .before .before .before .before .before .before .read-scores .ensures)
+returns c = rw (c .f64-at .ensures, c .before .flag-set .ensures, c .before .before .byte .ensures, c .before .before .before .le322 .ensures, c .before .before .before .before .le32 .ensures, c .before .before .before .before .before .row-at2 .ensures, c .before .before .before .before .before .before .row-at .ensures, c .before .before .before .before .before .before .before .read-scores .ensures)
 
 pub read-outcome-spec : {M : Type 1} → statement M
 read-outcome-spec =
     tie.close
     (tie.spec
     read-scores-requires
-    eight-floats-requires
-    eight-floats-requires-2
+    row-at-requires
+    row-at-requires-2
     le32-requires
     le32-requires-2
     byte-requires

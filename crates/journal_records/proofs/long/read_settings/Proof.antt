@@ -4,11 +4,11 @@ use borrow.Author.Needs.{needs}
 use Rattle.journal_records.proofs.long.read_settings.Statement.{statement}
 use Rattle.journal_records.proofs.long.read_settings.Tie as tie
 
-eight-floats-requires : tie.Need-eight-floats-requires
-eight-floats-requires c κs = search needs
+row-at-requires : tie.Need-row-at-requires
+row-at-requires c κs = search needs
 
-eight-floats-requires-2 : tie.Need-eight-floats-requires-2
-eight-floats-requires-2 c κs = search needs
+row-at-requires-2 : tie.Need-row-at-requires-2
+row-at-requires-2 c κs = search needs
 
 read-limits-requires : tie.Need-read-limits-requires
 read-limits-requires c κs = search needs
@@ -70,8 +70,8 @@ returns c =
       dt = c .before .before .before .before .f64-at .ensures i;
       «inv_dt» = c .before .before .before .f64-at2 .ensures i;
       «a_max» = c .before .before .f64-at3 .ensures i;
-      «box_lo» = c .before .before .before .before .before .before .before .before .before .before .before .before .before .before .before .before .eight-floats .ensures i;
-      «box_hi» = c .before .before .before .before .before .before .before .before .before .before .before .before .before .before .before .eight-floats2 .ensures i;
+      «box_lo» = c .before .before .before .before .before .before .before .before .before .before .before .before .before .before .before .before .row-at .ensures i;
+      «box_hi» = c .before .before .before .before .before .before .before .before .before .before .before .before .before .before .before .row-at2 .ensures i;
       hyst = c .before .before .before .before .before .before .before .before .before .before .before .before .before .before .read-limits .ensures i;
       «window_mask» = c .before .le64 .ensures i;
       «tier0_enabled» = c .le32 .ensures i;
@@ -82,8 +82,8 @@ pub read-settings-spec : {M : Type 1} → statement M
 read-settings-spec =
     tie.close
     (tie.spec
-    eight-floats-requires
-    eight-floats-requires-2
+    row-at-requires
+    row-at-requires-2
     read-limits-requires
     read-calibration-requires
     byte-requires

@@ -30,11 +30,11 @@ slice-read-count-bit c = search needs
 count-bit-requires : tie.Need-count-bit-requires Inv-loop μ-loop
 count-bit-requires c κs = search needs
 
-mul-l : tie.Need-mul-l Inv-loop μ-loop
-mul-l c = search needs
+mul-counts : tie.Need-mul-counts Inv-loop μ-loop
+mul-counts c = search needs
 
-slice-write-l : tie.Need-slice-write-l Inv-loop μ-loop
-slice-write-l c = search needs
+slice-write-counts : tie.Need-slice-write-counts Inv-loop μ-loop
+slice-write-counts c = search needs
 
 add-b : tie.Need-add-b Inv-loop μ-loop
 add-b c = search needs
@@ -50,7 +50,7 @@ same-length c = search needs
 
 returns-2 : tie.Need-returns-2 Inv-loop μ-loop
 unfolding countBits
-returns-2 c = let q = c .before .loop in let e : length (c .before .before .before .before .args .l .now) ≡ q .b = omega arith in each-done (countBit _) _ _ _ (q .inv .2) e
+returns-2 c = let q = c .before .loop in let e : length (c .before .before .before .before .args .counts .now) ≡ q .b = omega arith in each-done (countBit _) _ _ _ (q .inv .2) e
 
 pub count-bits-spec : {M : Type 1} → statement M
 count-bits-spec =
@@ -63,8 +63,8 @@ count-bits-spec =
     mul-count-bit
     slice-read-count-bit
     count-bit-requires
-    mul-l
-    slice-write-l
+    mul-counts
+    slice-write-counts
     add-b
     loop-less
     loop-again

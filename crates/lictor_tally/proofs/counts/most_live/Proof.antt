@@ -36,11 +36,11 @@ array-read-most-at-2 c = search needs
 most-at-requires : tie.Need-most-at-requires Inv-loop μ-loop
 most-at-requires c κs = search needs
 
-mul-h : tie.Need-mul-h Inv-loop μ-loop
-mul-h c = search needs
+mul-most : tie.Need-mul-most Inv-loop μ-loop
+mul-most c = search needs
 
-array-write-h : tie.Need-array-write-h Inv-loop μ-loop
-array-write-h c = search needs
+array-write-most : tie.Need-array-write-most Inv-loop μ-loop
+array-write-most c = search needs
 
 add-j : tie.Need-add-j Inv-loop μ-loop
 add-j c = search needs
@@ -69,8 +69,8 @@ most-live-spec =
     mul-most-at-2
     array-read-most-at-2
     most-at-requires
-    mul-h
-    array-write-h
+    mul-most
+    array-write-most
     add-j
     loop-less
     loop-again
