@@ -86,19 +86,19 @@ fn is_nan(x: f64) -> bool
 fn bad_float(settings: Settings) -> bool
     ensures { λ r. ⌜ r ≡ badFloat settings ⌝ }
 {
-    let h = settings.hyst;
+    let hyst = settings.hyst;
     let own = [
         settings.dt,
         settings.inv_dt,
         settings.a_max,
-        h.v_stop_eps,
-        h.warn_margin,
+        hyst.v_stop_eps,
+        hyst.warn_margin,
     ];
     if fmath::some_bad(&own) {
         return true;
     }
-    let c = settings.calib;
-    if is_nan(c.tau) {
+    let calib = settings.calib;
+    if is_nan(calib.tau) {
         return true;
     }
     let lo = settings.box_lo;

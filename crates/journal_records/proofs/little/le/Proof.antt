@@ -7,7 +7,7 @@ use Rattle.journal_records.proofs.little.le.Statement.{statement}
 use Rattle.journal_records.proofs.little.le.Tie as tie
 
 returns : tie.Need-returns
-returns c = let a = c .before .before .args in sym (leAt-past (a .s .now) (a .at) (a .n) (c .if1 .taken))
+returns c = let a = c .before .before .args in sym (leAt-past (a .bytes .now) (a .at) (a .n) (c .if1 .taken))
 
 sub-here : tie.Need-sub-here
 sub-here c = search needs
@@ -18,7 +18,7 @@ present-requires c κs = search needs
 returns-2 : tie.Need-returns-2
 returns-2 c =
     let a = c .before .before .before .before .args in
-    c .present .ensures ∙ sym (leAt-here (a .s .now) (a .at) _ (a .n) (omega arith) (omega arith))
+    c .present .ensures ∙ sym (leAt-here (a .bytes .now) (a .at) _ (a .n) (omega arith) (omega arith))
 
 present-requires-2 : tie.Need-present-requires-2
 present-requires-2 c κs = search needs

@@ -10,7 +10,7 @@ le-requires c κs = search needs
 cast-result : tie.Need-cast-result
 cast-result c =
     let a = c .before .before .args in
-    omega (arith, leAt-under (a .s .now) (a .at) 4 4 (λ k. omega (arith, c .before .shared-slice-known .given k)) (omega arith))
+    omega (arith, leAt-under (a .bytes .now) (a .at) 4 4 (λ k. omega (arith, c .before .shared-slice-known .given k)) (omega arith))
 
 returns : tie.Need-returns
 returns c = search needs

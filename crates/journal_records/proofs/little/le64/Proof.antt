@@ -5,7 +5,7 @@ use Rattle.journal_records.proofs.little.le64.Statement.{statement}
 use Rattle.journal_records.proofs.little.le64.Tie as tie
 
 returns : tie.Need-returns
-returns c = let a = c .before .before .args in sym (leAt-past (a .s .now) (a .at) 8 (c .if1 .taken))
+returns c = let a = c .before .before .args in sym (leAt-past (a .bytes .now) (a .at) 8 (c .if1 .taken))
 
 sub-if2 : tie.Need-sub-if2
 sub-if2 c = search needs

@@ -136,7 +136,7 @@ returns c =
       byte2 .of-byte3 .ensures .0,
       byte1 .of-byte2 .ensures .0,
       byte0 .of-byte .ensures .0,
-    ) (sym (leAt-8 (a .s .now) (a .at)))
+    ) (sym (leAt-8 (a .bytes .now) (a .at)))
 
 pub le-eight-spec : {M : Type 1} → statement M
 le-eight-spec =

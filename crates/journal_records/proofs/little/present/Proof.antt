@@ -18,7 +18,7 @@ abbrev μ-loop : tie.MeasureT-loop
 loop-holds : tie.Need-loop-holds Inv-loop μ-loop
 loop-holds c =
     let a = c .before .args in
-    (omega arith, sym (leAt-none (a .s .now) (a .at + a .n) (a .n - a .n) (omega arith)))
+    (omega arith, sym (leAt-none (a .bytes .now) (a .at + a .n) (a .n - a .n) (omega arith)))
 
 sub-i : tie.Need-sub-i Inv-loop μ-loop
 sub-i c = omega arith
@@ -27,7 +27,7 @@ mul-value : tie.Need-mul-value Inv-loop μ-loop
 mul-value c =
     let a = c .before .before .before .args in
     let i = c .before .loop .i in
-    let h : leAt (a .s .now) (a .at + i) (a .n - i) < 2 ^ 56 = leAt-under (a .s .now) (a .at + i) (a .n - i) 7 (λ k. omega (arith, c .before .before .shared-slice-known .given k)) (omega arith) in
+    let h : leAt (a .bytes .now) (a .at + i) (a .n - i) < 2 ^ 56 = leAt-under (a .bytes .now) (a .at + i) (a .n - i) 7 (λ k. omega (arith, c .before .before .shared-slice-known .given k)) (omega arith) in
     omega arith
 
 add-of-byte : tie.Need-add-of-byte Inv-loop μ-loop
@@ -43,7 +43,7 @@ add-value : tie.Need-add-value Inv-loop μ-loop
 add-value c =
     let a = c .before .before .before .before .before .args in
     let i = c .before .before .before .loop .i in
-    let h : leAt (a .s .now) (a .at + i) (a .n - i) < 2 ^ 56 = leAt-under (a .s .now) (a .at + i) (a .n - i) 7 (λ k. omega (arith, c .before .before .before .before .shared-slice-known .given k)) (omega arith) in
+    let h : leAt (a .bytes .now) (a .at + i) (a .n - i) < 2 ^ 56 = leAt-under (a .bytes .now) (a .at + i) (a .n - i) 7 (λ k. omega (arith, c .before .before .before .before .shared-slice-known .given k)) (omega arith) in
     omega (arith, c .before .shared-slice-known2 .given (a .at + (i - 1)))
 
 loop-less : tie.Need-loop-less Inv-loop μ-loop
@@ -54,8 +54,8 @@ loop-again c =
     let a = c .before .before .before .before .before .args in
     let i = c .before .before .before .loop .i in
     let e : i - 1 + 1 ≡ i = omega arith in
-    let m : leAt (a .s .now) (a .at + (i - 1)) (a .n - (i - 1)) ≡ leAt (a .s .now) (a .at + i) (a .n - i) * 256 + getD (a .s .now) (a .at + (i - 1)) 0
-    = rw e at (leAt-more (a .s .now) (a .at) (a .n) (i - 1) (omega arith)) in
+    let m : leAt (a .bytes .now) (a .at + (i - 1)) (a .n - (i - 1)) ≡ leAt (a .bytes .now) (a .at + i) (a .n - i) * 256 + getD (a .bytes .now) (a .at + (i - 1)) 0
+    = rw e at (leAt-more (a .bytes .now) (a .at) (a .n) (i - 1) (omega arith)) in
     (omega arith, omega arith)
 
 returns : tie.Need-returns Inv-loop μ-loop
@@ -63,10 +63,10 @@ returns c =
     let a = c .before .before .before .args in
     let i = c .before .loop .i in
     let z : i ≡ 0 = omega arith in
-    let v : c .before .loop .value ≡ leAt (a .s .now) (a .at + i) (a .n - i) = c .before .loop .inv .1 in
+    let v : c .before .loop .value ≡ leAt (a .bytes .now) (a .at + i) (a .n - i) = c .before .loop .inv .1 in
     let x : a .at + i ≡ a .at = omega arith in
     let y : a .n - i ≡ a .n = omega arith in
-    v ∙ ap₂ (λ (p q : ℕ). leAt (a .s .now) p q) x y
+    v ∙ ap₂ (λ (p q : ℕ). leAt (a .bytes .now) p q) x y
 
 pub present-spec : {M : Type 1} → statement M
 present-spec =
