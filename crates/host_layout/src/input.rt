@@ -109,6 +109,7 @@ fn sure(n: u8) -> bool
     n == 1
 }
 
+// Which pattern a NaN has is the program's choice.
 pub fn settings_in(s: Settings) -> lictor_core::envelope::Settings
     ensures { λ r. ⌜ r ≡ settingsIn s ⌝ }
 {
@@ -222,6 +223,7 @@ pub fn input_in(i: Input) -> TickInput
     }
 }
 
+// Which pattern a NaN has is the program's choice.
 pub fn outcome_in(o: Outcome) -> lictor_core::outcome::Outcome
     ensures { λ r. ⌜ r ≡ outcomeIn o ⌝ }
 {

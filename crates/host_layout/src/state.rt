@@ -408,6 +408,7 @@ fn tally_out(c: lictor_core::tally::Tally) -> Tally
     }
 }
 
+// Which pattern a NaN has is the program's choice.
 pub fn state_in(rt: RunState) -> FuseRt
     ensures { λ r. ⌜ r ≡ stateIn rt ⌝ }
 {
@@ -427,6 +428,7 @@ pub fn state_in(rt: RunState) -> FuseRt
     }
 }
 
+// Which pattern a NaN has is the program's choice.
 pub fn state_out(rt: FuseRt) -> RunState
     ensures { λ r. ⌜ r ≡ stateOut rt ⌝ }
 {

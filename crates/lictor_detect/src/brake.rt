@@ -126,6 +126,7 @@ pub fn brake_action(cfg: FuseConfig, pos: [f64; 8], vel: [f64; 8]) -> [f64; 8]
 }
 
 // The action while holding: position kinds the latched point, clamped again; velocity kinds zero.
+// Which pattern a NaN has is the program's choice.
 pub fn hold_action(cfg: FuseConfig, hold: [f64; 8]) -> [f64; 8]
     ensures { λ r. ⌜ r ≡ holdAction cfg hold ⌝ }
 {

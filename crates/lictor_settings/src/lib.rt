@@ -143,6 +143,7 @@ pub fn check(s: Settings) -> SettingsCheck
 
 // The configuration that settings mean. A code that is not listed is taken as the last case;
 // `check` refuses them.
+// Which pattern a NaN has is the program's choice.
 pub fn config(s: Settings) -> FuseConfig
     ensures { λ r. ⌜ r ≡ configOf s ⌝ }
 {

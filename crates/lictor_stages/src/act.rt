@@ -148,6 +148,7 @@ fn by_mode(
 }
 
 // The action of a clean tick that ends in state s.
+// Which pattern a NaN has is the program's choice.
 pub fn act(cfg: FuseConfig, s: FuseState, motion: Motion, hold: [f64; 8], out: Outcome) -> Acted
     ensures { λ r. ⌜ r ≡ actOf cfg s motion hold out ⌝ }
 {

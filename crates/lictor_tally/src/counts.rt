@@ -143,6 +143,7 @@ fn most_at(live: u32, j: usize, x: f64, m: f64) -> f64
     if bit_of(live, j) { fmath::max(m, x) } else { m }
 }
 
+// Which pattern a NaN has is the program's choice.
 pub fn most_live(tally: Tally, z: [f64; 12], live: u32) -> [f64; 12]
     ensures { λ r. ⌜ r ≡ mostLive live z (tally .«max_z») ⌝ }
 {
