@@ -20,10 +20,10 @@ use Rattle.lictor_settings.specs.Settings.{configOf}
 use Rattle.lictor_stages.specs.Findings.{findingsOf, machineInput}
 use Rattle.lictor_stages.specs.Verdict.{verdictOf}
 use Rattle.lictor_table.specs.declared.FsmInput.{FsmInput}
-use Rattle.lictor_table.specs.Consumed.{takenIn, consumedOf}
+use Rattle.lictor_table.specs.Consumed.{takenIn}
 use Rattle.lictor_table.specs.Helpers.{acceptedAck, settledOf}
 use Rattle.lictor_table.specs.Table.{nextFrom, nextOf}
-use Rattle.lictor_table.proofs.Stops.{StopLaw, stop-law, nonce-law, fresh-law}
+use Rattle.lictor_table.proofs.Stops.{StopLaw, stop-law, consumedOf, nonce-law, fresh-law}
 use Rattle.lictor_fuse.specs.declared.decide.Decided.{Decided}
 use Rattle.lictor_fuse.specs.CleanTick.{readyOf, closeClean, cleanTick}
 use Rattle.lictor_fuse.specs.FaultTick.{faultInput, faultVerdict, closeFault, faultTick}

@@ -23,7 +23,8 @@ use Rattle.lictor_stages.specs.Findings.{findingsOf, machineInput}
 use Rattle.lictor_stages.specs.Verdict.{hasAck, consumedFlag, verdictOf}
 use Rattle.lictor_table.specs.declared.FsmInput.{FsmInput}
 use Rattle.lictor_table.specs.declared.Turn.{Turn}
-use Rattle.lictor_table.specs.Consumed.{takenIn, consumedOf}
+use Rattle.lictor_table.specs.Consumed.{takenIn}
+use Rattle.lictor_table.proofs.Stops.{consumedOf}
 use Rattle.lictor_table.specs.Helpers.{faultReason, clampReason, armedReason, acceptedAck, cleanOf, countRun, settledOf}
 use Rattle.lictor_table.specs.Rows.{faultRow, resumeRow, terminateRow, timeoutRow, waitRow, unansweredOf, escalatedOf, rearmRow, escalateRow, holdRow, holdingOf, heldOf, standstillRow, stoppingRow, brakingOf, brakeRow, clampRow, clearRow, quietOf, runningOf, byFrom, transitionOf, nextByRows}
 use Rattle.lictor_table.specs.Table.{nextOf}

@@ -8,4 +8,5 @@ pub mod Flag
 pub mod ClockEnd
 pub mod Tallies
 pub mod Limit
+pub mod Witness
 pub mod Counters

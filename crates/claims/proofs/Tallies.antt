@@ -78,14 +78,14 @@ from-empty z cs empty =
           rw e (record {
             ticks = l .all f ∙ n;
             sum = l .sum f;
-            nominal = l .exact f H.nominal ∙ same-number endedNominal z cs;
-            watching = l .exact f H.watching ∙ same-number (endedIn S.Watching) z cs;
-            clamped = l .exact f H.clamped ∙ same-number (endedIn S.Clamped) z cs;
-            braking = l .exact f H.braking ∙ same-number (endedIn S.Braking) z cs;
-            held = l .exact f H.held ∙ same-number (endedIn S.Held) z cs;
-            escalated = l .exact f H.escalated ∙ same-number (endedIn S.Escalated) z cs;
-            fault = l .exact f H.fault ∙ same-number (endedIn S.Fault) z cs;
-            terminated = l .exact f H.terminated ∙ same-number (endedIn S.Terminated) z cs;
+            nominal = l .exact f H.nominalCount ∙ same-number endedNominal z cs;
+            watching = l .exact f H.watchingCount ∙ same-number (endedIn S.Watching) z cs;
+            clamped = l .exact f H.clampedCount ∙ same-number (endedIn S.Clamped) z cs;
+            braking = l .exact f H.brakingCount ∙ same-number (endedIn S.Braking) z cs;
+            held = l .exact f H.heldCount ∙ same-number (endedIn S.Held) z cs;
+            escalated = l .exact f H.escalatedCount ∙ same-number (endedIn S.Escalated) z cs;
+            fault = l .exact f H.faultCount ∙ same-number (endedIn S.Fault) z cs;
+            terminated = l .exact f H.terminatedCount ∙ same-number (endedIn S.Terminated) z cs;
           });
     }
 

@@ -115,10 +115,11 @@ pub record Demand3 (s : Settings) (l : List TickSeen) : Type 0 where
   pub rearms : Rearms s l
   pub acks : Acks l
 
--- For every settings record s, of every list of calls that are under s or refused, from what a
--- reset of any run state leaves. (Where s itself does not pass the check, every call is refused: no
--- tick.)
+-- Of every list of calls that are under s or refused, from what a reset of any run state leaves.
+-- (Where s itself does not pass the check, every call is refused: no tick.)
+abbrev pub StopsCloseUnder : Settings → Type 0
+StopsCloseUnder s = (r : FuseRt) (cs : List Call) → All (Under s) cs → Demand3 s (ticksFrom (resetOf r) cs)
+
+-- For every settings record s. (`sized` promises it of every one that the code holds, src/lib.rt.)
 abbrev pub StopsClose : Type 0
-StopsClose =
-    (s : Settings) → Sized s → (r : FuseRt) (cs : List Call) → All (Under s) cs
-    → Demand3 s (ticksFrom (resetOf r) cs)
+StopsClose = (s : Settings) → Sized s → StopsCloseUnder s

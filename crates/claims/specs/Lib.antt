@@ -6,4 +6,5 @@ pub mod Flag
 pub mod ClockEnd
 pub mod Tallies
 pub mod Limit
+pub mod Witness
 pub mod Counters

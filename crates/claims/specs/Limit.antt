@@ -2,7 +2,7 @@
 -- 4294967295, settings and a list of calls from a reset on whose stop closes with the last tick of
 -- the limit. So B + H + E + 1 would be false. Proved in proofs/Limit, `limit-met`.
 -- (At B = 0 the first tick in Braking ends in Fault. Where the sum passes 4294967296 the clock's
--- end comes first, with a fault: specs/ClockEnd.)
+-- end closes the stop first: specs/ClockEnd, `ClockCloses`.)
 -- It is of demand 3's first part (00-demands.md, Demand 3), and beyond what the papers ask.
 use mathlib.Core.Path.{_≡_}
 use mathlib.Core.Bool.{Bool, true, false}

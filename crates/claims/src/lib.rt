@@ -6,13 +6,14 @@ ghost use mathlib.Core.Path.{_≡_};
 ghost use mathlib.Core.Bool.{true};
 ghost use Prim.Native.Nat.{_≤_};
 ghost use Rattle.claims.specs.ClockEnd.{lastTime};
-ghost use Rattle.claims.specs.Demand3.{Sized};
+ghost use Rattle.claims.specs.Demand3.{Sized, StopsCloseUnder};
 use lictor_core::envelope::Settings;
 use lictor_core::fuse::TickInput;
 
-// Whatever settings the code holds, their limits have the sizes that demand 3 asks for.
+// Whatever settings the code holds, their limits have the sizes that demand 3 asks for,
+// and so demand 3 holds of every list of calls under them.
 pub fn sized(s: Settings) -> bool
-    ensures { λ r. ⌜ (r ≡ true) × Sized s ⌝ }
+    ensures { λ r. ⌜ (r ≡ true) × Sized s × StopsCloseUnder s ⌝ }
 {
     true
 }

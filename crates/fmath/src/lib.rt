@@ -74,6 +74,7 @@ pub fn some_bad(v: &[f64]) -> bool
 // ---- order
 
 // a if it is less, and b otherwise: of equal zeros, and where one of the two is a NaN, b.
+// Which pattern a NaN has is the program's choice.
 pub fn min(a: f64, b: f64) -> f64
     ensures { λ r. ⌜ r ≡ minOf a b ⌝ }
 {
@@ -81,12 +82,14 @@ pub fn min(a: f64, b: f64) -> f64
 }
 
 // a if it is greater, and b otherwise: of equal zeros, and where one of the two is a NaN, b.
+// Which pattern a NaN has is the program's choice.
 pub fn max(a: f64, b: f64) -> f64
     ensures { λ r. ⌜ r ≡ maxOf a b ⌝ }
 {
     if a > b { a } else { b }
 }
 
+// Which pattern a NaN has is the program's choice.
 pub fn clamp(x: f64, lo: f64, hi: f64) -> f64
     ensures { λ r. ⌜ r ≡ clampOf x lo hi ⌝ }
 {
@@ -104,6 +107,7 @@ fn available(n: usize, len: usize) -> usize
 
 // The Euclidean norm of the first n components, or of all where there are fewer, added up by rising
 // index.
+// Which pattern a NaN has is the program's choice.
 pub fn norm(v: &[f64], n: usize) -> f64
     ensures { λ r. ⌜ r ≡ normOf (now (v .entry)) n ⌝ }
 {
@@ -121,6 +125,7 @@ pub fn norm(v: &[f64], n: usize) -> f64
 
 // The square root, rounded to the nearest; of the infinity, of +0 and of -0 the argument itself,
 // and of a NaN and of what is below zero a NaN.
+// Which pattern a NaN has is the program's choice.
 pub fn sqrt(x: f64) -> f64
     ensures { λ r. ⌜ r ≡ rootOf x ⌝ }
 {

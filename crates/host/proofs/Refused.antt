@@ -1,7 +1,8 @@
 -- What the definition of a tick gives for a call, by the test of its settings.
-use mathlib.Core.Path.{_≡_, ap}
-use mathlib.Core.Bool.{Bool, false, cond}
+use mathlib.Core.Path.{_≡_, refl, ap}
+use mathlib.Core.Bool.{Bool, true, false, cond, not}
 use mathlib.Core.List.{List}
+use lib.Dec.{T}
 use lib.Ieee.{Float}
 use Rattle.lictor_core.specs.declared.envelope.Settings.{Settings}
 use Rattle.lictor_core.specs.declared.fuse.FuseRt.{FuseRt}
@@ -11,6 +12,15 @@ use Rattle.lictor_settings.specs.Settings.{checkOf, checkNumber}
 use Rattle.lictor_fuse.specs.declared.Ticked.{Ticked}
 use Rattle.lictor_fuse.specs.Tick.{isAccepted, acceptedTick, refusedTick, noVerdict, tickBy, tickOf}
 use Rattle.host.specs.Host.{hostAnswerOf, hostNumber}
+
+-- what a test tells
+pub yes : (b : Bool) → T (not (not b)) → b ≡ true
+yes true fine = refl
+yes false fine = absurd fine
+
+pub no : (b : Bool) → T (not b) → b ≡ false
+no true other = absurd other
+no false other = refl
 
 pub by-test : (s : Settings) (rt : FuseRt) (inp : TickInput) (out : Outcome) (pos vel aux ext chunk : List Float) (b : Bool) → isAccepted (checkOf s) ≡ b
     → tickOf s rt inp out pos vel aux ext chunk ≡ cond b (acceptedTick s rt inp out pos vel aux ext chunk) (refusedTick (checkOf s) rt)

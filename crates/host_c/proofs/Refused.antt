@@ -1,9 +1,8 @@
 -- A call whose settings are refused, and one whose settings are accepted.
 use mathlib.Core.Path.{_≡_, refl, sym, _∙_, ap, subst}
-use mathlib.Core.Bool.{Bool, true, false, cond, not}
+use mathlib.Core.Bool.{Bool, false, cond}
 use mathlib.Core.List.{List}
 use Prim.Native.Nat.{ℕ}
-use lib.Dec.{T}
 use lib.Ieee.{Float}
 use Rattle.lictor_core.specs.declared.envelope.Settings.{Settings}
 use Rattle.lictor_core.specs.declared.fuse.FuseRt.{FuseRt}
@@ -27,15 +26,6 @@ refused-fields before s rt inp out pos vel aux ext chunk bad =
     let e = refused-call s rt inp out pos vel aux ext chunk bad in
     let t = tickOf s rt inp out pos vel aux ext chunk in
     (e .0, ap verdictOut (e .1), ap (λ (n : ℕ). keptOf n before (stateOut (t .rt))) (e .0) ∙ ap (λ (b : Bool). cond b (stateOut (t .rt)) before) bad)
-
--- what a test tells
-pub yes : (b : Bool) → T (not (not b)) → b ≡ true
-yes true fine = refl
-yes false fine = absurd fine
-
-pub no : (b : Bool) → T (not b) → b ≡ false
-no true other = absurd other
-no false other = refl
 
 -- of a call whose settings are accepted all of the run state is stored
 pub all-stored : (before : RunState) (t : Ticked) (d : Decided) → t ≡ givenOf d → tickedOut t .rt ≡ callOf before t .rt

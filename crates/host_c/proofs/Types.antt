@@ -3,6 +3,7 @@
 --     libRun, libSettings, libInput, libOutcome        what a tick gets
 --     settingsCopied, inputCopied, outcomeCopied       the last three can be copied
 --     libResult, libAnswer                             the result of `ticked_out`, the answer of `ticked`
+--     libChecked, turning                              the result of `refusal`, and what a walk asks of it
 -- Assumes nothing.
 use mathlib.Core.Path.{refl}
 use mathlib.Core.Bool.{not}
@@ -12,9 +13,8 @@ use denote.Struct.Laws as LL
 use Rattle.lent.proofs.Call.{Parts, Turning}
 use Rattle.lent.proofs.Data.{Data, Copied, struct, copied, vals}
 use Rattle.lictor_settings.specs.Settings.{checkOf, checkNumber}
-use Rattle.lictor_fuse.specs.Tick.{isAccepted, noVerdict}
+use Rattle.lictor_fuse.specs.Tick.{isAccepted}
 use Rattle.host_layout.specs.Input.{settingsIn}
-use Rattle.host_layout.specs.Verdict.{verdictOut}
 use Rattle.host_c.specs.Call.{refusalOf, answerOf}
 use Rattle.host_layout.proofs.state.RunState as St
 use Rattle.host_layout.proofs.state.RunState.Laws as St′
@@ -30,6 +30,8 @@ use Rattle.host_c.proofs.Called as Ca
 use Rattle.host_c.proofs.Called.Laws as Ca′
 use Rattle.host_c.proofs.Answer as An
 use Rattle.host_c.proofs.Answer.Laws as An′
+use Rattle.host_c.proofs.Checked as Ch
+use Rattle.host_c.proofs.Checked.Laws as Ch′
 
 abbrev pub libRun : Data
 libRun = struct St.the-type St′.the-laws St′.the-plain
@@ -76,12 +78,18 @@ libParts = record {
   an-of = λ r is. LL.owes An.the-type An′.the-laws (answerOf r) (LL.owed Ca.the-type Ca′.the-laws r (vals libResult r) is .0, (LL.owed Ca.the-type Ca′.the-laws r (vals libResult r) is .1 .1 .0, tt));
 }
 
-abbrev pub turning : Turning libSettings libAnswer
+abbrev pub libChecked : Data
+libChecked = struct Ch.the-type Ch′.the-laws Ch′.the-plain
+
+abbrev pub turning : Turning libSettings libAnswer libChecked
 turning = record {
+  νY = Ch.the-type .name;
   turn = λ s. refusalOf (checkOf (settingsIn s));
-  tc = λ s. vint w8 (checkNumber (checkOf (settingsIn s)));
-  tv = λ s. LL.val Ve.the-type Ve′.the-laws (verdictOut noVerdict);
+  tn = λ s. vint w8 (checkNumber (checkOf (settingsIn s)));
+  answer = λ s. refusalOf (checkOf (settingsIn s)) .answer;
+  Y-ty = refl;
   turn-val = λ s. refl;
+  answer-of = λ s is. LL.owed Ch.the-type Ch′.the-laws (refusalOf (checkOf (settingsIn s))) (vals libChecked (refusalOf (checkOf (settingsIn s)))) is .1 .0;
   is-other = λ s. not (isAccepted (checkOf (settingsIn s)));
   may = λ s. tt;
   tests = λ s. refl;

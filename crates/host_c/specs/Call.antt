@@ -13,6 +13,7 @@ use Rattle.lictor_fuse.specs.declared.Ticked.{Ticked}
 use Rattle.lictor_fuse.specs.Tick.{noVerdict, tickOf}
 use Rattle.host_c.specs.declared.Answer.{Answer}
 use Rattle.host_c.specs.declared.Called.{Called}
+use Rattle.host_c.specs.declared.Checked.{Checked}
 use Rattle.host_layout.specs.declared.input.Input.{Input}
 use Rattle.host_layout.specs.declared.input.Outcome.{Outcome}
 use Rattle.host_layout.specs.declared.input.Settings.{Settings}
@@ -21,9 +22,9 @@ use Rattle.host_layout.specs.Input.{settingsIn, inputIn, outcomeIn}
 use Rattle.host_layout.specs.State.{stateIn, stateOut}
 use Rattle.host_layout.specs.Verdict.{verdictOut}
 
--- what refused settings are answered: the number of the cause, and no verdict
-abbrev pub refusalOf : SettingsCheck → Answer
-refusalOf c = record { number = checkNumber c; verdict = verdictOut noVerdict }
+-- what the test of the settings gives: its number, and the answer of a refused call, which has no verdict
+abbrev pub refusalOf : SettingsCheck → Checked
+refusalOf c = record { number = checkNumber c; answer = record { number = checkNumber c; verdict = verdictOut noVerdict } }
 
 -- what the fuse gives, as numbers
 unfoldable pub tickedOut : Ticked → Called

@@ -45,8 +45,13 @@ pub struct Called {
     pub verdict: Verdict,
 }
 
-// What a call with these settings answers where they are refused; number 0 where they are accepted.
-fn refusal(s: Settings) -> Answer
+// The number of the settings' refusal, 0 where they are accepted, and what a refused call answers.
+struct Checked {
+    number: u8,
+    answer: Answer,
+}
+
+fn refusal(s: Settings) -> Checked
     ensures { λ r. ⌜ r ≡ refusalOf (checkOf (settingsIn s)) ⌝ }
 {
     let g = settings_in(s);
@@ -54,7 +59,8 @@ fn refusal(s: Settings) -> Answer
     let number = check_number(c);
     let v = no_verdict();
     let verdict = verdict_out(v);
-    Answer { number, verdict }
+    let answer = Answer { number, verdict };
+    Checked { number, answer }
 }
 
 // What a tick gives, as numbers.
@@ -122,7 +128,7 @@ fn ticked(
 {
     let a = refusal(s);
     if a.number != 0 {
-        return a;
+        return a.answer;
     }
     let t = ticked_out(s, *rt, inp, out, pos, vel, aux, ext, chunk);
     *rt = t.rt;

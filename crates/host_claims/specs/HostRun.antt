@@ -67,12 +67,17 @@ HostRun =
 
 -- Of calls under one settings record s, refused ones among them: the library's answers are those of
 -- the fuse's own run, and of the ticks of that run the four parts of demand 3 hold.
--- (That s is sized: every record that the code holds is, as `sized` of claims promises.)
 pub record HostStops (s : Settings) (rt : RunState) (hs : List HostCall) : Type 0 where
   pub answers : answeredFrom (resetRun rt) hs ≡ map tickedOut (answersFrom (resetOf (stateIn rt)) (map meant hs))
   pub stops : Demand3 (settingsIn s) (ticksFrom (resetOf (stateIn rt)) (map meant hs))
 
+-- The claim: of every list of calls under s. `stops_close` promises it of every settings record that
+-- a host can hold (src/lib.rt).
+abbrev pub HostStopsUnder : Settings → Type 0
+HostStopsUnder s =
+    (rt : RunState) (hs : List HostCall) → All (λ h. Under (settingsIn s) (meant h)) hs → HostStops s rt hs
+
+-- In a definition a settings record has whole numbers without bounds, so there the sizes of its
+-- fields are asked; the types of the code have them.
 abbrev pub HostsStop : Type 0
-HostsStop =
-    (s : Settings) → Sized (settingsIn s) → (rt : RunState) (hs : List HostCall)
-    → All (λ h. Under (settingsIn s) (meant h)) hs → HostStops s rt hs
+HostsStop = (s : Settings) → Sized (settingsIn s) → HostStopsUnder s

@@ -12,6 +12,7 @@ use lictor_core::outcome::Outcome;
 use lictor_fuse::Ticked;
 
 // One tick by value, through the lent one: the two agree.
+// Which pattern a NaN has is the program's choice.
 pub fn once(
     s: Settings,
     rt: FuseRt,
@@ -35,6 +36,7 @@ pub fn once(
 }
 
 // Three ticks in a row, each on the run state that the one before left.
+// Which pattern a NaN has is the program's choice.
 pub fn three(
     rt: FuseRt,
     s: Settings,

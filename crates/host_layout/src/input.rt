@@ -113,6 +113,7 @@ fn sure(n: u8) -> bool
     n == 1
 }
 
+// Which pattern a NaN has is the program's choice.
 pub fn settings_in(given: Settings) -> lictor_core::envelope::Settings
     ensures { λ r. ⌜ r ≡ settingsIn given ⌝ }
 {
@@ -226,6 +227,7 @@ pub fn input_in(given: Input) -> TickInput
     }
 }
 
+// Which pattern a NaN has is the program's choice.
 pub fn outcome_in(given: Outcome) -> lictor_core::outcome::Outcome
     ensures { λ r. ⌜ r ≡ outcomeIn given ⌝ }
 {

@@ -413,6 +413,7 @@ fn tally_out(tally: lictor_core::tally::Tally) -> Tally
     }
 }
 
+// Which pattern a NaN has is the program's choice.
 pub fn state_in(rt: RunState) -> FuseRt
     ensures { λ r. ⌜ r ≡ stateIn rt ⌝ }
 {
@@ -432,6 +433,7 @@ pub fn state_in(rt: RunState) -> FuseRt
     }
 }
 
+// Which pattern a NaN has is the program's choice.
 pub fn state_out(rt: FuseRt) -> RunState
     ensures { λ r. ⌜ r ≡ stateOut rt ⌝ }
 {

@@ -68,6 +68,7 @@ fn handoff_number(h: MaybeHandoff) -> u32
     }
 }
 
+// Which pattern a NaN has is the program's choice.
 pub fn verdict_out(verdict: SafetyVerdict) -> Verdict
     ensures { λ r. ⌜ r ≡ verdictOut verdict ⌝ }
 {

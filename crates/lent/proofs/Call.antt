@@ -1,8 +1,8 @@
 -- The thin functions of `Thin.antt` meet their contracts, once for every such function: its types are variables, and what its core gives is any function of what it is passed.
 --     resetSig, resetClauses       fn f(rt: &mut S), and what it says: the last state is `f` of the first.        keptSig, keptClauses     its core's, fn core(rt: S) -> S
 --     tickSig, tickClauses         fn f(rt: &mut S, G, I, O, five lists) -> Z, and what it says of its answer and of the last state.        coreSig, coreClauses     its core's, fn core(G, S, I, O, five lists) -> R
---     restored-meets, answering-meets       each function meets its contract where its core does
---     testSig, testClauses         fn test(G) -> Z, and what it answers.        turned-meets     so does the function that a test may turn away, where the test meets its contract too
+--     testSig, testClauses         fn test(G) -> Y, and what it gives: a number, and the answer of a call that it refuses
+--     restored-meets, turned-meets          each function meets its contract where its core does, and the test
 -- The lists go to the core at their own lifetimes. They stand last among its parameters as among the function's, so what they own is handed on in one piece, and so are the tokens of their lifetimes, which come back.
 -- The theorems take `Given`. The rest assumes nothing.
 use mathlib.Core.Path.{_≡_, refl, sym, _∙_, ap, subst}
@@ -39,7 +39,7 @@ use denote.Triple.Clauses.{Clauses, Ended, closing, ensured, lasts}
 use denote.Triple.Walked.{says, Stays, stay-ref, stay-dropped, walkOf, AllGo, goes-ref, goes-dropped, ends-at, walked, walk-meets}
 use denote.Exit.{yes}
 use Rattle.lent.proofs.Data.{Data, row, vals, Of, spelled, typed, had}
-use Rattle.lent.proofs.Thin.{restored, restores, answering, answers, turned, turns, resultTy, answerTy}
+use Rattle.lent.proofs.Thin.{restored, restores, turned, turns, resultTy, answerTy, refusalTy}
 
 -- ---- fn f(rt: &mut S) { *rt = core(*rt); }
 abbrev pub resetSig : Data → Signature
@@ -194,19 +194,18 @@ pub record Parts (S R Z : Data) : Type 2 where
   pub st-of : (r : R .D) → Of R r → Of S (st r)
   pub an-of : (r : R .D) → Of R r → Of Z (an r)
 
--- the function's MIR
-abbrev pub tickFn : (S G I O R Z : Data) → Parts S R Z → Name → Fn
-tickFn S G I O R Z P = answering S (G .ty) (I .ty) (O .ty) (listTy 1) (listTy 2) (listTy 3) (listTy 4) (listTy 5) (P .τc) (P .τv) (P .νR) (P .νZ)
-
--- A test of G: what it answers, how that lies, and whether its first part is another number than 0. Of types that are written out, each equation is a `refl`.
-pub record Turning (G Z : Data) : Type 0 where
-  pub turn : G .D → Z .D
-  pub tc : G .D → Val
-  pub tv : G .D → Val
-  pub turn-val : (g : G .D) → Z .val (turn g) ≡ answerVal (tc g) (tv g)
+-- A test of G: what it gives, its number and its answer, how they lie, and whether the number is another than 0. Of types that are written out, each equation is a `refl`.
+pub record Turning (G Z Y : Data) : Type 2 where
+  pub νY : Sym
+  pub turn : G .D → Y .D
+  pub tn : G .D → Val
+  pub answer : G .D → Z .D
+  pub Y-ty : Y .ty ≡ refusalTy (Z .ty) νY
+  pub turn-val : (g : G .D) → Y .val (turn g) ≡ answerVal (tn g) (Z .val (answer g))
+  pub answer-of : (g : G .D) → Of Y (turn g) → Of Z (answer g)
   pub is-other : G .D → Bool
-  pub may : (g : G .D) → Dom (op2Chk ne (tc g) (vint w8 0))
-  pub tests : (g : G .D) → op2Val ne (tc g) (vint w8 0) ≡ vbool (is-other g)
+  pub may : (g : G .D) → Dom (op2Chk ne (tn g) (vint w8 0))
+  pub tests : (g : G .D) → op2Val ne (tn g) (vint w8 0) ≡ vbool (is-other g)
 
 abbrev pub testSig : Data → Data → Signature
 testSig G Z = record { lifetimes = 0; outlives = []; params = plain (λ _. row G) ∷ []; result = plain (λ _. row Z) }
@@ -217,7 +216,8 @@ testEnded G Z = record { signature = testSig G Z; kept = (yes, tt) }
 abbrev pub testClauses : (G Z : Data) → (G .D → Z .D) → {M : Type 1} (𝓤 : URA M) → Clauses 𝓤 (testEnded G Z)
 testClauses G Z f 𝓤 κs a = record { ghost = Unit {0}; requires = λ _. emp 𝓤; ensures = λ _ r e. fact 𝓤 (r ≡ f (a .0)) }
 
-abbrev pub turnedFn : (S G I O R Z : Data) → Parts S R Z → Name → Name → Fn
+-- the function's MIR
+abbrev pub turnedFn : (S G I O R Z : Data) → Parts S R Z → Sym → Name → Name → Fn
 turnedFn S G I O R Z P = turned S (G .ty) (I .ty) (O .ty) (listTy 1) (listTy 2) (listTy 3) (listTy 4) (listTy 5) (P .τc) (P .τv) (P .νR) (P .νZ)
 
 -- a machine value's type, where both are written another way
@@ -337,68 +337,55 @@ module _ (S G I O R Z : Data) (P : Parts S R Z) (f : G .D → S .D → I .D → 
 
     module _ (t5 : Is (ShrSlice (named 1) (κs .0) f64) (l .0) (slice-vals (l .0))) (t6 : Is (ShrSlice (named 2) (κs .1 .0) f64) (l .1 .0) (slice-vals (l .1 .0))) (t7 : Is (ShrSlice (named 3) (κs .1 .1 .0) f64) (l .1 .1 .0) (slice-vals (l .1 .1 .0)))
         (t8 : Is (ShrSlice (named 4) (κs .1 .1 .1 .0) f64) (l .1 .1 .1 .0) (slice-vals (l .1 .1 .1 .0))) (t9 : Is (ShrSlice (named 5) (κs .1 .1 .1 .1 .0) f64) (l .1 .1 .1 .1 .0) (slice-vals (l .1 .1 .1 .1 .0))) where
-      walk′ : Says h g i u (nows l) (P .an got) (P .st got) → ent 𝓤 (onEntry 𝓤 H A (tickSig S G I O Z) (κ, κs) (q, qs) x at) (WpFn 𝓤 H C Λ (tickFn S G I O R Z P k) (vptr b o ∷ G .val g ∷ I .val i ∷ O .val u ∷ listVal (l .0) ∷ listVal (l .1 .0) ∷ listVal (l .1 .1 .0) ∷ listVal (l .1 .1 .1 .0) ∷ listVal (l .1 .1 .1 .1 .0) ∷ []) Post′)
-      walk′ said = via 𝓤 (Lent′ h Asked) enters′
-          (answers S 𝓤 H A W C Λ fm k κ q b o γ h Post′ Asked Result′ (R .D) (P .st) Good Toks
-          (G .ty) (I .ty) (O .ty) (listTy 1) (listTy 2) (listTy 3) (listTy 4) (listTy 5) (P .τc) (P .τv) (P .νR) (P .νZ)
-          (G .val g) (I .val i) (O .val u) (listVal (l .0)) (listVal (l .1 .0)) (listVal (l .1 .1 .0)) (listVal (l .1 .1 .1 .0)) (listVal (l .1 .1 .1 .1 .0))
-          (typed W G g g-of) (typed W I i i-of) (typed W O u u-of) (list-typed 𝓤 H A W 1 (κs .0) (l .0) t5) (list-typed 𝓤 H A W 2 (κs .1 .0) (l .1 .0) t6) (list-typed 𝓤 H A W 3 (κs .1 .1 .0) (l .1 .1 .0) t7) (list-typed 𝓤 H A W 4 (κs .1 .1 .1 .0) (l .1 .1 .1 .0) t8) (list-typed 𝓤 H A W 5 (κs .1 .1 .1 .1 .0) (l .1 .1 .1 .1 .0) t9)
-          (P .cv) (P .vv) calls′ gives′ (λ r p. exits′ r (P .st r) p (subst (λ (y : R .D). Says h g i u (nows l) (P .an y) (P .st y)) (sym (p .0)) said)))
-
       -- the function that a test may turn away
-      module _ (X : Turning G Z) (j : Name) (tested : Triple 𝓤 (C j) (tripleOf 𝓤 H A (testSig G Z) (closing 𝓤 H A (testEnded G Z) (testClauses G Z (X .turn) 𝓤))))
-          (stored : Holds (not (X .is-other g)) → Says h g i u (nows l) (P .an got) (P .st got)) (left : Holds (X .is-other g) → Says h g i u (nows l) (X .turn g) h) where
+      module _ (Y : Data) (X : Turning G Z Y) (j : Name) (tested : Triple 𝓤 (C j) (tripleOf 𝓤 H A (testSig G Y) (closing 𝓤 H A (testEnded G Y) (testClauses G Y (X .turn) 𝓤))))
+          (stored : Holds (not (X .is-other g)) → Says h g i u (nows l) (P .an got) (P .st got)) (left : Holds (X .is-other g) → Says h g i u (nows l) (X .answer g) h) where
         abbrev Test : Val → SProp 𝓤
-        Test = tripleOf 𝓤 H A (testSig G Z) (closing 𝓤 H A (testEnded G Z) (testClauses G Z (X .turn) 𝓤)) .post ((tt, tt, tt, (g, tt), (vals G g, tt)), tt)
+        Test = tripleOf 𝓤 H A (testSig G Y) (closing 𝓤 H A (testEnded G Y) (testClauses G Y (X .turn) 𝓤)) .post ((tt, tt, tt, (g, tt), (vals G g, tt)), tt)
 
         asks : ent 𝓤 (emp 𝓤) (C j (G .val g ∷ []) Test)
         asks = via 𝓤 _ (qed W [] ∵ nothing ! $ had ! G g g-of $ fjoin ! $ nothing ! $ join ! $ frame ! $ done !) (tested ((tt, tt, tt, (g, tt), (vals G g, tt)), tt))
 
-        -- what the machine value v of its answer is known to be
-        abbrev Tested : Val → Type 0
-        Tested v = (v ≡ answerVal (X .tc g) (X .tv g)) × (Holds (hasTy (answerTy (P .τc) (P .τv) (P .νZ)) (answerVal (X .tc g) (X .tv g))) × WT (answerVal (X .tc g) (X .tv g))) × Of Z (X .turn g)
+        -- the machine value of what it gives, and what such a value v is known to be
+        abbrev testVal : Val
+        testVal = answerVal (X .tn g) (Z .val (X .answer g))
 
-        known-test : (v : Val) (a : Z .D) → a ≡ X .turn g → Is (row Z) a (v ∷ []) → Tested v
+        abbrev Tested : Val → Type 0
+        Tested v = (v ≡ testVal) × (Holds (hasTy (refusalTy (answerTy (P .τc) (P .τv) (P .νZ)) (X .νY)) testVal) × WT testVal) × (Holds (hasTy (answerTy (P .τc) (P .τv) (P .νZ)) (Z .val (X .answer g))) × WT (Z .val (X .answer g))) × Of Z (X .answer g)
+
+        known-test : (v : Val) (a : Y .D) → a ≡ X .turn g → Is (row Y) a (v ∷ []) → Tested v
         known-test v a e is =
-            let a-of = subst (Of Z) e (spelled Z a v is) in
-            (ap only (Z .tells a (v ∷ []) is) ∙ ap (Z .val) e ∙ X .turn-val g, retyped _ _ _ _ (P .Z-ty) (X .turn-val g) (typed W Z (X .turn g) a-of), a-of)
+            let y-of = subst (Of Y) e (spelled Y a v is) in
+            let a-of = X .answer-of g y-of in
+            (ap only (Y .tells a (v ∷ []) is) ∙ ap (Y .val) e ∙ X .turn-val g, retyped _ _ _ _ (X .Y-ty ∙ ap (λ (τ : Ty). refusalTy τ (X .νY)) (P .Z-ty)) (X .turn-val g) (typed W Y (X .turn g) y-of), retyped _ _ _ _ (P .Z-ty) refl (typed W Z (X .answer g) a-of), a-of)
 
         tells : (v : Val) → ent 𝓤 (Test v) (H .⇛ (guard 𝓤 (Tested v) (emp 𝓤)))
         tells v =
-            qed W (later (some (λ (a : Z .D). (raw (emp 𝓤) ⊛ ‵ (Z .own a (v ∷ []))) ⊛ raw (ensured 𝓤 H A (testEnded G Z) (testClauses G Z (X .turn) 𝓤) tt (g, tt) tt a))) ∷ []) ∵ updating ! $ await ! tt $ pick ! (λ a.
-            split ! $ move ! (1 ∷ []) $ use1 W (raw (fact 𝓤 (a ≡ X .turn g))) (exE 𝓤 _ (λ ws. snd∗ 𝓤 (sem 𝓤 H A (lasts (testEnded G Z) tt (g, tt) ws)) (fact 𝓤 (a ≡ X .turn g)))) $ heard ! (a ≡ X .turn g) (λ e. split ! $ move ! (1 ∷ []) $
-            peeks ! (row Z) (Is (row Z)) (shows 𝓤 H A (row Z)) a (v ∷ []) (λ is. drop ! $ at-once ! $ check ! (known-test v a e is) $ done !)))
+            qed W (later (some (λ (a : Y .D). (raw (emp 𝓤) ⊛ ‵ (Y .own a (v ∷ []))) ⊛ raw (ensured 𝓤 H A (testEnded G Y) (testClauses G Y (X .turn) 𝓤) tt (g, tt) tt a))) ∷ []) ∵ updating ! $ await ! tt $ pick ! (λ a.
+            split ! $ move ! (1 ∷ []) $ use1 W (raw (fact 𝓤 (a ≡ X .turn g))) (exE 𝓤 _ (λ ws. snd∗ 𝓤 (sem 𝓤 H A (lasts (testEnded G Y) tt (g, tt) ws)) (fact 𝓤 (a ≡ X .turn g)))) $ heard ! (a ≡ X .turn g) (λ e. split ! $ move ! (1 ∷ []) $
+            peeks ! (row Y) (Is (row Y)) (shows 𝓤 H A (row Y)) a (v ∷ []) (λ is. drop ! $ at-once ! $ check ! (known-test v a e is) $ done !)))
 
-        exits-turned : Of Z (X .turn g) → Holds (X .is-other g) → ent 𝓤 (Lent′ h Asked) (Post′ (answerVal (X .tc g) (X .tv g)))
+        exits-turned : Of Z (X .answer g) → Holds (X .is-other g) → ent 𝓤 (Lent′ h Asked) (Post′ (Z .val (X .answer g)))
         exits-turned a-of other = via 𝓤 (Lent′ h Toks)
             (qed W (‵ (fobs γ (S .coded .code h)) ∷ ‵ (fbor κ (Body (mem (row S)) b o γ)) ∷ ‵ (flft κ q) ∷ (‵ (owns (Lists κs) l (listVals l)) ⊛ raw Toks) ∷ []) ∵ move ! (3 ∷ []) $ split ! $ drop ! $ move ! (1 ∷ 2 ∷ 3 ∷ []) $ done !)
-            (subst (λ (v : Val). ent 𝓤 (Lent′ h Toks) (Post′ v)) (X .turn-val g) (exits-at h (X .turn g) (left other) a-of))
+            (exits-at h (X .answer g) (left other) a-of)
 
-        turned-walk : ent 𝓤 (onEntry 𝓤 H A (tickSig S G I O Z) (κ, κs) (q, qs) x at) (WpFn 𝓤 H C Λ (turnedFn S G I O R Z P j k) (vptr b o ∷ G .val g ∷ I .val i ∷ O .val u ∷ listVal (l .0) ∷ listVal (l .1 .0) ∷ listVal (l .1 .1 .0) ∷ listVal (l .1 .1 .1 .0) ∷ listVal (l .1 .1 .1 .1 .0) ∷ []) Post′)
+        turned-walk : ent 𝓤 (onEntry 𝓤 H A (tickSig S G I O Z) (κ, κs) (q, qs) x at) (WpFn 𝓤 H C Λ (turnedFn S G I O R Z P (X .νY) j k) (vptr b o ∷ G .val g ∷ I .val i ∷ O .val u ∷ listVal (l .0) ∷ listVal (l .1 .0) ∷ listVal (l .1 .1 .0) ∷ listVal (l .1 .1 .1 .0) ∷ listVal (l .1 .1 .1 .1 .0) ∷ []) Post′)
         turned-walk = via 𝓤 (Lent′ h Asked) enters′
             (turns S 𝓤 H A W C Λ fm k κ q b o γ h Post′ Asked Result′ (R .D) (P .st) Good Toks
             (G .ty) (I .ty) (O .ty) (listTy 1) (listTy 2) (listTy 3) (listTy 4) (listTy 5) (P .τc) (P .τv) (P .νR) (P .νZ)
             (G .val g) (I .val i) (O .val u) (listVal (l .0)) (listVal (l .1 .0)) (listVal (l .1 .1 .0)) (listVal (l .1 .1 .1 .0)) (listVal (l .1 .1 .1 .1 .0))
             (typed W G g g-of) (typed W I i i-of) (typed W O u u-of) (list-typed 𝓤 H A W 1 (κs .0) (l .0) t5) (list-typed 𝓤 H A W 2 (κs .1 .0) (l .1 .0) t6) (list-typed 𝓤 H A W 3 (κs .1 .1 .0) (l .1 .1 .0) t7) (list-typed 𝓤 H A W 4 (κs .1 .1 .1 .0) (l .1 .1 .1 .0) t8) (list-typed 𝓤 H A W 5 (κs .1 .1 .1 .1 .0) (l .1 .1 .1 .1 .0) t9)
-            (P .cv) (P .vv) calls′ gives′ j (X .tc g) (X .tv g) (Of Z (X .turn g)) Test (X .is-other g) asks tells (X .may g) (X .tests g) exits-turned
+            (P .cv) (P .vv) calls′ gives′ (X .νY) j (X .tn g) (Z .val (X .answer g)) (Of Z (X .answer g)) Test (X .is-other g) asks tells (X .may g) (X .tests g) exits-turned
             (λ fine r p. exits′ r (P .st r) p (subst (λ (y : R .D). Says h g i u (nows l) (P .an y) (P .st y)) (sym (p .0)) (stored fine))))
 
-  pub answering-meets : ((h : S .D) (g : G .D) (i : I .D) (u : O .D) (l : Fs) → Says h g i u l (P .an (f g h i u l)) (P .st (f g h i u l))) → (𝓣 : Tables 𝓤 H) → Triple 𝓤 (𝓣 .C k) (tripleOf 𝓤 H A (coreSig S G I O R) (closing 𝓤 H A (coreEnded S G I O R) (coreClauses S G I O R f 𝓤)))
-      → Meets 𝓤 H A (tickSig S G I O Z) (WpFn 𝓤 H (𝓣 .C) (𝓣 .Λ) (tickFn S G I O R Z P k)) (closing 𝓤 H A T′ c′)
-  answering-meets said 𝓣 known = walk-meets 𝓤 H A T′ stayed′ W goes′ c′ (WpFn 𝓤 H (𝓣 .C) (𝓣 .Λ) (tickFn S G I O R Z P k)) (WpFn-mono 𝓤 H (W .laws) 𝓣 (tickFn S G I O R Z P k))
-      (walked 𝓤 H A T′ stayed′ c′ (WpFn 𝓤 H (𝓣 .C) (𝓣 .Λ) (tickFn S G I O R Z P k))
-      (λ κs. (ptr-vals, (vals G, (vals I, (vals O, (slice-vals, (slice-vals, (slice-vals, (slice-vals, (slice-vals, tt))))))))))
-      (λ κs. (mut-tells (named 0) (κs .0) (row S), (G .tells, (I .tells, (O .tells, (shr-slice-tells (named 1) (κs .1 .0) f64, (shr-slice-tells (named 2) (κs .1 .1 .0) f64, (shr-slice-tells (named 3) (κs .1 .1 .1 .0) f64, (shr-slice-tells (named 4) (κs .1 .1 .1 .1 .0) f64, (shr-slice-tells (named 5) (κs .1 .1 .1 .1 .1 .0) f64, tt))))))))))
-      (λ κs qs bounds a _ are. via 𝓤 _ (fst∗ 𝓤 _ (emp 𝓤)) (walk′ (𝓣 .C) (𝓣 .Λ) (fmOf 𝓤 H (W .laws) 𝓣) known (κs .0) (qs .0) (κs .1) (qs .1) (a .0 .ptr .0) (a .0 .ptr .1) (a .0 .name) (a .0 .now) (a .1 .0) (a .1 .1 .0) (a .1 .1 .1 .0) (a .1 .1 .1 .1) (are .1 .0) (are .1 .1 .0) (are .1 .1 .1 .0)
-      (are .1 .1 .1 .1 .0) (are .1 .1 .1 .1 .1 .0) (are .1 .1 .1 .1 .1 .1 .0) (are .1 .1 .1 .1 .1 .1 .1 .0) (are .1 .1 .1 .1 .1 .1 .1 .1 .0) (said (a .0 .now) (a .1 .0) (a .1 .1 .0) (a .1 .1 .1 .0) (nows (a .1 .1 .1 .1))))))
-
-  pub turned-meets : (X : Turning G Z) (j : Name) → ((h : S .D) (g : G .D) (i : I .D) (u : O .D) (l : Fs) → Holds (not (X .is-other g)) → Says h g i u l (P .an (f g h i u l)) (P .st (f g h i u l)))
-      → ((h : S .D) (g : G .D) (i : I .D) (u : O .D) (l : Fs) → Holds (X .is-other g) → Says h g i u l (X .turn g) h) → (𝓣 : Tables 𝓤 H) → Triple 𝓤 (𝓣 .C j) (tripleOf 𝓤 H A (testSig G Z) (closing 𝓤 H A (testEnded G Z) (testClauses G Z (X .turn) 𝓤)))
+  pub turned-meets : (Y : Data) (X : Turning G Z Y) (j : Name) → ((h : S .D) (g : G .D) (i : I .D) (u : O .D) (l : Fs) → Holds (not (X .is-other g)) → Says h g i u l (P .an (f g h i u l)) (P .st (f g h i u l)))
+      → ((h : S .D) (g : G .D) (i : I .D) (u : O .D) (l : Fs) → Holds (X .is-other g) → Says h g i u l (X .answer g) h) → (𝓣 : Tables 𝓤 H) → Triple 𝓤 (𝓣 .C j) (tripleOf 𝓤 H A (testSig G Y) (closing 𝓤 H A (testEnded G Y) (testClauses G Y (X .turn) 𝓤)))
       → Triple 𝓤 (𝓣 .C k) (tripleOf 𝓤 H A (coreSig S G I O R) (closing 𝓤 H A (coreEnded S G I O R) (coreClauses S G I O R f 𝓤)))
-      → Meets 𝓤 H A (tickSig S G I O Z) (WpFn 𝓤 H (𝓣 .C) (𝓣 .Λ) (turnedFn S G I O R Z P j k)) (closing 𝓤 H A T′ c′)
-  turned-meets X j stored left 𝓣 tested known = walk-meets 𝓤 H A T′ stayed′ W goes′ c′ (WpFn 𝓤 H (𝓣 .C) (𝓣 .Λ) (turnedFn S G I O R Z P j k)) (WpFn-mono 𝓤 H (W .laws) 𝓣 (turnedFn S G I O R Z P j k))
-      (walked 𝓤 H A T′ stayed′ c′ (WpFn 𝓤 H (𝓣 .C) (𝓣 .Λ) (turnedFn S G I O R Z P j k))
+      → Meets 𝓤 H A (tickSig S G I O Z) (WpFn 𝓤 H (𝓣 .C) (𝓣 .Λ) (turnedFn S G I O R Z P (X .νY) j k)) (closing 𝓤 H A T′ c′)
+  turned-meets Y X j stored left 𝓣 tested known = walk-meets 𝓤 H A T′ stayed′ W goes′ c′ (WpFn 𝓤 H (𝓣 .C) (𝓣 .Λ) (turnedFn S G I O R Z P (X .νY) j k)) (WpFn-mono 𝓤 H (W .laws) 𝓣 (turnedFn S G I O R Z P (X .νY) j k))
+      (walked 𝓤 H A T′ stayed′ c′ (WpFn 𝓤 H (𝓣 .C) (𝓣 .Λ) (turnedFn S G I O R Z P (X .νY) j k))
       (λ κs. (ptr-vals, (vals G, (vals I, (vals O, (slice-vals, (slice-vals, (slice-vals, (slice-vals, (slice-vals, tt))))))))))
       (λ κs. (mut-tells (named 0) (κs .0) (row S), (G .tells, (I .tells, (O .tells, (shr-slice-tells (named 1) (κs .1 .0) f64, (shr-slice-tells (named 2) (κs .1 .1 .0) f64, (shr-slice-tells (named 3) (κs .1 .1 .1 .0) f64, (shr-slice-tells (named 4) (κs .1 .1 .1 .1 .0) f64, (shr-slice-tells (named 5) (κs .1 .1 .1 .1 .1 .0) f64, tt))))))))))
       (λ κs qs bounds a _ are. via 𝓤 _ (fst∗ 𝓤 _ (emp 𝓤)) (turned-walk (𝓣 .C) (𝓣 .Λ) (fmOf 𝓤 H (W .laws) 𝓣) known (κs .0) (qs .0) (κs .1) (qs .1) (a .0 .ptr .0) (a .0 .ptr .1) (a .0 .name) (a .0 .now) (a .1 .0) (a .1 .1 .0) (a .1 .1 .1 .0) (a .1 .1 .1 .1) (are .1 .0) (are .1 .1 .0) (are .1 .1 .1 .0)
-      (are .1 .1 .1 .1 .0) (are .1 .1 .1 .1 .1 .0) (are .1 .1 .1 .1 .1 .1 .0) (are .1 .1 .1 .1 .1 .1 .1 .0) (are .1 .1 .1 .1 .1 .1 .1 .1 .0) X j tested (stored (a .0 .now) (a .1 .0) (a .1 .1 .0) (a .1 .1 .1 .0) (nows (a .1 .1 .1 .1))) (left (a .0 .now) (a .1 .0) (a .1 .1 .0) (a .1 .1 .1 .0) (nows (a .1 .1 .1 .1))))))
+      (are .1 .1 .1 .1 .0) (are .1 .1 .1 .1 .1 .0) (are .1 .1 .1 .1 .1 .1 .0) (are .1 .1 .1 .1 .1 .1 .1 .0) (are .1 .1 .1 .1 .1 .1 .1 .1 .0) Y X j tested (stored (a .0 .now) (a .1 .0) (a .1 .1 .0) (a .1 .1 .1 .0) (nows (a .1 .1 .1 .1))) (left (a .0 .now) (a .1 .0) (a .1 .1 .0) (a .1 .1 .1 .0) (nows (a .1 .1 .1 .1))))))

@@ -1,4 +1,4 @@
--- The walk of a function by value that lends a local to a thin function (`Thin.antt`'s `answering`), once for every such function. No field of the struct is named.
+-- The walk of a function by value that lends a local to a thin function (`Thin.antt`'s `turned`), once for every such function. No field of the struct is named.
 --     lending      fn f(_1, r: S, _3, .., _9) -> R { let mut rt = r; let a = core(&mut rt, _1, _3, .., _9); R { a.0, rt, a.1 } }
 --     lends        its walk: the local is lent for a lifetime of the call, and taken back once the call has returned
 --     lies-in      the cell that holds x's machine value, and the relation of x ⊢ x lies there.        lies-out     x lies there ⊢ the relation of x, and the cell

@@ -36,6 +36,7 @@ fn copied(s: &[f64], old: [f64; MAX_POS], n: usize) -> [f64; MAX_POS]
 }
 
 // The first n of a list, as far as there are so many and room for them (copy_row).
+// Which pattern a NaN has is the program's choice.
 pub fn taken(s: &[f64], old: [f64; MAX_POS], n: usize) -> [f64; MAX_POS]
     ensures { λ r. ⌜ r ≡ takenRow (now (s .entry)) old n ⌝ }
 {

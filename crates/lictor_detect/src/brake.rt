@@ -140,6 +140,7 @@ pub fn brake_action(cfg: FuseConfig, pos: [f64; MAX_POS], vel: [f64; MAX_POS]) -
 }
 
 // The action while holding: position kinds the latched point, clamped again; velocity kinds zero.
+// Which pattern a NaN has is the program's choice.
 pub fn hold_action(cfg: FuseConfig, hold: [f64; MAX_POS]) -> [f64; MAX_D]
     ensures { λ r. ⌜ r ≡ holdAction cfg hold ⌝ }
 {

@@ -40,6 +40,7 @@ use lictor_table::Turn;
 
 // One tick of the machine: the new run state, the state, the extra bits and the reason. `pos` is
 // the last finite position.
+// Which pattern a NaN has is the program's choice.
 pub fn next(cfg: FuseConfig, rt: Control, pos: [f64; MAX_POS], inp: FsmInput) -> Turn
     ensures { λ r. ⌜ r ≡ nextOf cfg rt pos inp ⌝ }
 {

@@ -41,6 +41,7 @@ fn is_accepted(c: SettingsCheck) -> bool
 }
 
 // What is in the verdict's place where the settings are refused.
+// Which pattern a NaN has is the program's choice.
 pub fn no_verdict() -> SafetyVerdict
     ensures { λ r. ⌜ r ≡ noVerdict ⌝ }
 {

@@ -152,6 +152,7 @@ pub fn check(settings: Settings) -> SettingsCheck
 
 // The configuration that settings mean. A code that is not listed is taken as the last case;
 // `check` refuses them.
+// Which pattern a NaN has is the program's choice.
 pub fn config(settings: Settings) -> FuseConfig
     ensures { λ r. ⌜ r ≡ configOf settings ⌝ }
 {

@@ -150,6 +150,7 @@ fn by_mode(
 }
 
 // The action of a clean tick that ends in state s.
+// Which pattern a NaN has is the program's choice.
 pub fn act(
     cfg: FuseConfig,
     s: FuseState,

@@ -101,6 +101,7 @@ fn velocity(
 }
 
 // The position and the velocity of a clean tick.
+// Which pattern a NaN has is the program's choice.
 pub fn ingest(cfg: FuseConfig, motion: Motion, has_vel: bool, pos: &[f64], vel: &[f64]) -> Motion
     ensures { λ r. ⌜ r ≡ ingestOf cfg motion «has_vel» (now (pos .entry)) (now (vel .entry)) ⌝ }
 {

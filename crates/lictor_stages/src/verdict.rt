@@ -130,6 +130,7 @@ fn consumed(ack: MaybeAck, reason: ReasonCode) -> bool
 }
 
 // The verdict of a clean tick that started from the run state `rt`.
+// Which pattern a NaN has is the program's choice.
 pub fn verdict_of(
     cfg: FuseConfig,
     rt: FuseRt,

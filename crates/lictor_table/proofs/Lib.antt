@@ -1,4 +1,5 @@
 -- Laws of the table.
 pub mod ByTable
 pub mod Lines
+pub mod Setters
 pub mod Stops

@@ -26,7 +26,7 @@ use Rattle.lictor_table.specs.declared.Turn.{Turn}
 use Rattle.lictor_table.specs.Helpers.{acceptedBy, acceptedAck, consumeNonce, latchHold, cleanOf, countRun, to, settledOf}
 use Rattle.lictor_table.specs.Table.{Facts, Test, firstOf, table, nextFrom, nextOf, running, _at-least_, _above_, _below_, _and_, _or_, _+1, B, H, E, confirm, rearmHold, maxRearms, clearTicks, streakLimit, clampLimit, brakeTicks, stoppedTicks, heldTicks, heldClean, escalatedTicks, rearms, clampStreak, clamps, cleanRun, hits, one, trip, clampingOff, predictive, warned, stopped, chunkOk, policyAuto}
 use Rattle.lictor_table.specs.Rows.{holdingOf, mayRearm, rearmRow, escalateRow, holdRow}
-use Rattle.lictor_table.specs.Consumed.{takenIn, consumedOf}
+use Rattle.lictor_table.specs.Consumed.{takenIn}
 use Rattle.lictor_table.proofs.Lines.{by-test, by-bool}
 
 -- the states that a tick can end in, by the one that it starts from; a fault bit leads to Fault from each
@@ -73,6 +73,11 @@ pub record StopLaw (cfg : FuseConfig) (q : FuseState) (bits : Bool) (ack : Maybe
   pub rearmsKept : min (r .rearms) 255 ≤ t .rt .rearms
   pub rearmsSelf : T (isState Armed (t .state)) → T (isState Held q) → T (none? (takenIn q ack))
       → (r .rearms < cfg .hyst .«max_rearms») × (t .rt .rearms ≡ satUp 8 (r .rearms))
+
+-- what a turn consumes (specs/Consumed): a fault bit decides it before the lines for Held and Escalated
+unfoldable pub consumedOf : Control → FsmInput → MaybeAck
+consumedOf rt inp =
+    cond (anyOf (inp .trips) faultBits) NoAck (takenIn (rt .state) (acceptedAck (rt .«handoff_seq») (rt .«last_nonce») (inp .ack)))
 
 -- the stored nonces afterwards: changed in the one place of the acknowledgement that is consumed
 abbrev pub Stores : MaybeAck → List ℕ → List ℕ → Type 0

@@ -1,5 +1,6 @@
 -- The machine's part of the run state with one field changed: a setter for each field, since every
--- line of the table says what it changes by these. It states nothing of the papers.
+-- line of the table says what it changes by these. It states nothing of the papers. That each
+-- changes its field and no other is a law: specs/Setters, proofs/Setters, `setters`.
 use mathlib.Core.Bool.{Bool}
 use mathlib.Core.List.{List}
 use Prim.Native.Nat.{ℕ}

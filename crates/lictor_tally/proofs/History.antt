@@ -17,7 +17,7 @@ use Rattle.lictor_core.specs.declared.tally.ReasonMark.{ReasonMark}
 use Rattle.lictor_core.specs.declared.tally.ReasonMark.the-variants.{NoReason, For}
 use Rattle.lictor_core.specs.declared.tally.Tally.{Tally}
 use Rattle.lictor_tally.specs.Tally.{count, countBit, countBits, first, firstReason, mostAt, mostLive, recordOf, recordChunk, withChunks}
-use Rattle.lictor_tally.specs.History.{Item, recorded, tallyFrom, tallyOf, Count, ticks, nominal, watching, clamped, braking, held, escalated, fault, terminated, substituted, violations, chunksSeen, chunksRejected, clamps, holds, rearms, escalations, tripsByBit, firedByFeat, valueOf, counts, number, overStates, trips, stops, handsOver, sOf, live, zOf, firstIn, firstReasonOf, mostOf, lastIn, OfHistory}
+use Rattle.lictor_tally.specs.History.{Item, recorded, tallyFrom, tallyOf, Count, ticksCount, nominalCount, watchingCount, clampedCount, brakingCount, heldCount, escalatedCount, faultCount, terminatedCount, substitutedCount, violationsCount, chunksSeenCount, chunksRejectedCount, clampsCount, holdsCount, rearmsCount, escalationsCount, tripsCount, firedCount, valueOf, counts, number, overStates, hasTrips, stops, handsOver, sOf, live, zOf, firstIn, firstReasonOf, mostOf, lastIn, OfHistory}
 use Rattle.lictor_tally.proofs.Places.{length-each}
 use Rattle.lictor_tally.proofs.CountsLaws.{count-fits, bits-at, most-at}
 
@@ -58,25 +58,25 @@ stays-sized t x z = rw (as-ticked t x) (record {
 -- a count moves where the tick is one that it counts
 moves : (k : Count) (t : Tally) (x : Item) → Sized t → valueOf k (ticked t x) ≡ count (counts k x) (valueOf k t)
 unfolding ticked recordOf count
-moves ticks t x z = refl
-moves nominal t x z = refl
-moves watching t x z = refl
-moves clamped t x z = refl
-moves braking t x z = refl
-moves held t x z = refl
-moves escalated t x z = refl
-moves fault t x z = refl
-moves terminated t x z = refl
-moves substituted t x z = refl
-moves violations t x z = refl
-moves chunksSeen t x z = refl
-moves chunksRejected t x z = refl
-moves clamps t x z = refl
-moves holds t x z = refl
-moves rearms t x z = refl
-moves escalations t x z = refl
-moves (tripsByBit b) t x z = bits-at (x .verdict .trips) (t .«trips_by_bit») 16 b (z .trips)
-moves (firedByFeat j) t x z = bits-at (x .verdict .scores .fired) (t .«fired_by_feat») 12 j (z .fired)
+moves ticksCount t x z = refl
+moves nominalCount t x z = refl
+moves watchingCount t x z = refl
+moves clampedCount t x z = refl
+moves brakingCount t x z = refl
+moves heldCount t x z = refl
+moves escalatedCount t x z = refl
+moves faultCount t x z = refl
+moves terminatedCount t x z = refl
+moves substitutedCount t x z = refl
+moves violationsCount t x z = refl
+moves chunksSeenCount t x z = refl
+moves chunksRejectedCount t x z = refl
+moves clampsCount t x z = refl
+moves holdsCount t x z = refl
+moves rearmsCount t x z = refl
+moves escalationsCount t x z = refl
+moves (tripsCount b) t x z = bits-at (x .verdict .trips) (t .«trips_by_bit») 16 b (z .trips)
+moves (firedCount j) t x z = bits-at (x .verdict .scores .fired) (t .«fired_by_feat») 12 j (z .fired)
 
 pub tick-counts : (k : Count) (t : Tally) (x : Item) → Sized t → valueOf k (recorded t x) ≡ count (counts k x) (valueOf k t)
 tick-counts k t x z = rw (as-ticked t x) (moves k t x z)
@@ -142,17 +142,17 @@ reason-this false t w Never old n = refl
 reason-this true t w (At k) old n = refl
 reason-this false t w (At k) old n = refl
 
-trip-marked : (t : Tally) (x : Item) → recorded t x .«first_trip_tick» ≡ first (trips x) (x .verdict .t) (t .«first_trip_tick»)
+trip-marked : (t : Tally) (x : Item) → recorded t x .«first_trip_tick» ≡ first (hasTrips x) (x .verdict .t) (t .«first_trip_tick»)
 unfolding ticked recordOf
 trip-marked t x = rw (as-ticked t x)
 
-trip-reasoned : (t : Tally) (x : Item) → recorded t x .«first_trip_reason» ≡ firstReason (trips x) (t .«first_trip_tick») (x .verdict .reason) (t .«first_trip_reason»)
+trip-reasoned : (t : Tally) (x : Item) → recorded t x .«first_trip_reason» ≡ firstReason (hasTrips x) (t .«first_trip_tick») (x .verdict .reason) (t .«first_trip_reason»)
 unfolding ticked recordOf
 trip-reasoned t x = rw (as-ticked t x)
 
 pub reason-from : (t : Tally) (h : List Item) → tallyFrom t h .«first_trip_reason» ≡ orReason (t .«first_trip_tick») (t .«first_trip_reason») (firstReasonOf h)
 reason-from t [] = reason-none (t .«first_trip_tick») (t .«first_trip_reason»)
-reason-from t (x ∷ h) = reason-from (recorded t x) h ∙ rw (trip-marked t x, trip-reasoned t x) (reason-this (trips x) (x .verdict .t) (x .verdict .reason) (t .«first_trip_tick») (t .«first_trip_reason») (firstReasonOf h))
+reason-from t (x ∷ h) = reason-from (recorded t x) h ∙ rw (trip-marked t x, trip-reasoned t x) (reason-this (hasTrips x) (x .verdict .t) (x .verdict .reason) (t .«first_trip_tick») (t .«first_trip_reason») (firstReasonOf h))
 
 -- a maximum: of what was there and the scores that it takes
 module _ (most : Tally → Float) (p : Item → Bool) (score : Item → Float) (tick : (t : Tally) (x : Item) → Sized t → most (recorded t x) ≡ cond (p x) (maxOf (most t) (score x)) (most t)) where
@@ -175,25 +175,25 @@ all-zero (suc n) (suc b) = all-zero n b
 
 none-yet : (k : Count) → valueOf k emptyTally ≡ 0
 unfolding emptyTally
-none-yet ticks = refl
-none-yet nominal = refl
-none-yet watching = refl
-none-yet clamped = refl
-none-yet braking = refl
-none-yet held = refl
-none-yet escalated = refl
-none-yet fault = refl
-none-yet terminated = refl
-none-yet substituted = refl
-none-yet violations = refl
-none-yet chunksSeen = refl
-none-yet chunksRejected = refl
-none-yet clamps = refl
-none-yet holds = refl
-none-yet rearms = refl
-none-yet escalations = refl
-none-yet (tripsByBit b) = all-zero 16 b
-none-yet (firedByFeat j) = all-zero 12 j
+none-yet ticksCount = refl
+none-yet nominalCount = refl
+none-yet watchingCount = refl
+none-yet clampedCount = refl
+none-yet brakingCount = refl
+none-yet heldCount = refl
+none-yet escalatedCount = refl
+none-yet faultCount = refl
+none-yet terminatedCount = refl
+none-yet substitutedCount = refl
+none-yet violationsCount = refl
+none-yet chunksSeenCount = refl
+none-yet chunksRejectedCount = refl
+none-yet clampsCount = refl
+none-yet holdsCount = refl
+none-yet rearmsCount = refl
+none-yet escalationsCount = refl
+none-yet (tripsCount b) = all-zero 16 b
+none-yet (firedCount j) = all-zero 12 j
 
 pub count-all : (h : List Item) (k : Count) → valueOf k (tallyOf h) ≡ min (number (counts k) h) (2 ^ 32 - 1)
 count-all h k =
@@ -212,7 +212,7 @@ exactly : (h : List Item) (k : Count) → number (counts k) h < 2 ^ 32 → value
 exactly h k f = omega (arith, count-all h k)
 
 -- every tick is counted by `ticks`, and by just one of the state counts
-each-tick : (h : List Item) → number (counts ticks) h ≡ length h
+each-tick : (h : List Item) → number (counts ticksCount) h ≡ length h
 each-tick [] = refl
 each-tick (x ∷ h) = omega (arith, each-tick h)
 
@@ -232,7 +232,7 @@ each-state [] = refl
 each-state (x ∷ h) = omega (arith, each-state h, one-state (x .verdict .state) x refl)
 
 sums : (h : List Item) → ((k : Count) → valueOf k (tallyOf h) ≡ number (counts k) h) → overStates (λ k. valueOf k (tallyOf h)) ≡ tallyOf h .ticks
-sums h e = omega (arith, each-state h, each-tick h, e ticks, e nominal, e watching, e clamped, e braking, e held, e escalated, e fault, e terminated)
+sums h e = omega (arith, each-state h, each-tick h, e ticksCount, e nominalCount, e watchingCount, e clampedCount, e brakingCount, e heldCount, e escalatedCount, e faultCount, e terminatedCount)
 
 reason-first : (n : ReasonMark) → orReason Never NoReason n ≡ n
 reason-first NoReason = refl
@@ -256,13 +256,13 @@ unfolding emptyTally ticked recordOf
 history h = record {
   cut = count-all h;
   exact = λ b k. exactly h k (omega (arith, number-le (counts k) h));
-  all = λ b. omega (arith, count-all h ticks, each-tick h);
+  all = λ b. omega (arith, count-all h ticksCount, each-tick h);
   sum = λ b. sums h (λ k. exactly h k (omega (arith, number-le (counts k) h)));
-  firstTrip = mark-from (λ t. t .«first_trip_tick») trips trip-marked emptyTally h;
+  firstTrip = mark-from (λ t. t .«first_trip_tick») hasTrips trip-marked emptyTally h;
   firstTripReason = reason-from emptyTally h ∙ reason-first (firstReasonOf h);
   firstStop = mark-from (λ t. t .«first_stop_tick») stops (λ t x. rw (as-ticked t x)) emptyTally h;
   firstHandoff = mark-from (λ t. t .«handoff_tick») handsOver (λ t x. rw (as-ticked t x)) emptyTally h;
-  maxS = most-from (λ t. t .«max_s») (counts ticks) sOf (λ t x z. rw (as-ticked t x)) emptyTally h empty-sized;
+  maxS = most-from (λ t. t .«max_s») (counts ticksCount) sOf (λ t x z. rw (as-ticked t x)) emptyTally h empty-sized;
   maxZ = max-z h;
   last = last-from emptyTally h;
 }

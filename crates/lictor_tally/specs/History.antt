@@ -45,52 +45,52 @@ tallyOf h = tallyFrom emptyTally h
 -- ---- counts: the field that holds each, and the ticks that it counts
 
 pub data Count : Type 0 where
-  ticks nominal watching clamped braking held escalated fault terminated : Count
-  substituted violations chunksSeen chunksRejected clamps holds rearms escalations : Count
+  ticksCount nominalCount watchingCount clampedCount brakingCount heldCount escalatedCount faultCount terminatedCount : Count
+  substitutedCount violationsCount chunksSeenCount chunksRejectedCount clampsCount holdsCount rearmsCount escalationsCount : Count
   -- one for each place of the two lists
-  tripsByBit firedByFeat : ℕ → Count
+  tripsCount firedCount : ℕ → Count
 
 abbrev pub valueOf : Count → Tally → ℕ
-valueOf ticks t = t .ticks
-valueOf nominal t = t .nominal
-valueOf watching t = t .watching
-valueOf clamped t = t .clamped
-valueOf braking t = t .braking
-valueOf held t = t .held
-valueOf escalated t = t .escalated
-valueOf fault t = t .fault
-valueOf terminated t = t .terminated
-valueOf substituted t = t .substituted
-valueOf violations t = t .«violations_reached_env»
-valueOf chunksSeen t = t .«chunks_seen»
-valueOf chunksRejected t = t .«chunks_rejected»
-valueOf clamps t = t .clamps
-valueOf holds t = t .holds
-valueOf rearms t = t .rearms
-valueOf escalations t = t .escalations
-valueOf (tripsByBit b) t = getD (t .«trips_by_bit») b 0
-valueOf (firedByFeat j) t = getD (t .«fired_by_feat») j 0
+valueOf ticksCount t = t .ticks
+valueOf nominalCount t = t .nominal
+valueOf watchingCount t = t .watching
+valueOf clampedCount t = t .clamped
+valueOf brakingCount t = t .braking
+valueOf heldCount t = t .held
+valueOf escalatedCount t = t .escalated
+valueOf faultCount t = t .fault
+valueOf terminatedCount t = t .terminated
+valueOf substitutedCount t = t .substituted
+valueOf violationsCount t = t .«violations_reached_env»
+valueOf chunksSeenCount t = t .«chunks_seen»
+valueOf chunksRejectedCount t = t .«chunks_rejected»
+valueOf clampsCount t = t .clamps
+valueOf holdsCount t = t .holds
+valueOf rearmsCount t = t .rearms
+valueOf escalationsCount t = t .escalations
+valueOf (tripsCount b) t = getD (t .«trips_by_bit») b 0
+valueOf (firedCount j) t = getD (t .«fired_by_feat») j 0
 
 abbrev pub counts : Count → Item → Bool
-counts ticks x = true
-counts nominal x = isNominal (x .verdict .state)
-counts watching x = isState (x .verdict .state) S.Watching
-counts clamped x = isState (x .verdict .state) S.Clamped
-counts braking x = isState (x .verdict .state) S.Braking
-counts held x = isState (x .verdict .state) S.Held
-counts escalated x = isState (x .verdict .state) S.Escalated
-counts fault x = isState (x .verdict .state) S.Fault
-counts terminated x = isState (x .verdict .state) S.Terminated
-counts substituted x = x .verdict .substituted
-counts violations x = x .verdict .«violation_reached_env»
-counts chunksSeen x = x .chunk
-counts chunksRejected x = x .chunk && x .rejected
-counts clamps x = x .events .clamped
-counts holds x = x .events .«entered_hold»
-counts rearms x = x .events .rearmed
-counts escalations x = x .events .«entered_escalated»
-counts (tripsByBit b) x = ltb b tripBits && bitOf (x .verdict .trips) b
-counts (firedByFeat j) x = ltb j features && bitOf (x .verdict .scores .fired) j
+counts ticksCount x = true
+counts nominalCount x = isNominal (x .verdict .state)
+counts watchingCount x = isState (x .verdict .state) S.Watching
+counts clampedCount x = isState (x .verdict .state) S.Clamped
+counts brakingCount x = isState (x .verdict .state) S.Braking
+counts heldCount x = isState (x .verdict .state) S.Held
+counts escalatedCount x = isState (x .verdict .state) S.Escalated
+counts faultCount x = isState (x .verdict .state) S.Fault
+counts terminatedCount x = isState (x .verdict .state) S.Terminated
+counts substitutedCount x = x .verdict .substituted
+counts violationsCount x = x .verdict .«violation_reached_env»
+counts chunksSeenCount x = x .chunk
+counts chunksRejectedCount x = x .chunk && x .rejected
+counts clampsCount x = x .events .clamped
+counts holdsCount x = x .events .«entered_hold»
+counts rearmsCount x = x .events .rearmed
+counts escalationsCount x = x .events .«entered_escalated»
+counts (tripsCount b) x = ltb b tripBits && bitOf (x .verdict .trips) b
+counts (firedCount j) x = ltb j features && bitOf (x .verdict .scores .fired) j
 
 -- how many ticks of a list have a property
 abbrev pub number : (Item → Bool) → List Item → ℕ
@@ -99,12 +99,12 @@ number p (x ∷ h) = cond (p x) 1 0 + number p h
 
 -- the sum over the eight state counts
 abbrev pub overStates : (Count → ℕ) → ℕ
-overStates f = f nominal + f watching + f clamped + f braking + f held + f escalated + f fault + f terminated
+overStates f = f nominalCount + f watchingCount + f clampedCount + f brakingCount + f heldCount + f escalatedCount + f faultCount + f terminatedCount
 
 -- ---- marks, maxima, the last state
 
-abbrev pub trips : Item → Bool
-trips x = not (eqb (x .verdict .trips) 0)
+abbrev pub hasTrips : Item → Bool
+hasTrips x = not (eqb (x .verdict .trips) 0)
 
 abbrev pub stops : Item → Bool
 stops x = isStop (x .verdict .state)
@@ -129,7 +129,7 @@ firstIn p (x ∷ h) = cond (p x) (At (x .verdict .t)) (firstIn p h)
 
 abbrev pub firstReasonOf : List Item → ReasonMark
 firstReasonOf [] = NoReason
-firstReasonOf (x ∷ h) = cond (trips x) (For (x .verdict .reason)) (firstReasonOf h)
+firstReasonOf (x ∷ h) = cond (hasTrips x) (For (x .verdict .reason)) (firstReasonOf h)
 
 -- the larger, by fmath's max, of m and a score of each tick with a property, in the ticks' order
 abbrev pub mostOf : (Item → Bool) → (Item → Float) → Float → List Item → Float
@@ -153,10 +153,10 @@ pub record OfHistory (h : List Item) : Type 0 where
   pub all : length h < 2 ^ 32 → tallyOf h .ticks ≡ length h
   pub sum : length h < 2 ^ 32 → overStates (λ k. valueOf k (tallyOf h)) ≡ tallyOf h .ticks
   -- the other fields
-  pub firstTrip : tallyOf h .«first_trip_tick» ≡ firstIn trips h
+  pub firstTrip : tallyOf h .«first_trip_tick» ≡ firstIn hasTrips h
   pub firstTripReason : tallyOf h .«first_trip_reason» ≡ firstReasonOf h
   pub firstStop : tallyOf h .«first_stop_tick» ≡ firstIn stops h
   pub firstHandoff : tallyOf h .«handoff_tick» ≡ firstIn handsOver h
-  pub maxS : tallyOf h .«max_s» ≡ mostOf (counts ticks) sOf (inf true) h
+  pub maxS : tallyOf h .«max_s» ≡ mostOf (counts ticksCount) sOf (inf true) h
   pub maxZ : (j : ℕ) → j < features → getD (tallyOf h .«max_z») j nan ≡ mostOf (live j) (zOf j) (inf true) h
   pub last : tallyOf h .«terminal_state» ≡ lastIn S.Idle h

@@ -145,6 +145,7 @@ fn most_at(live: u32, j: usize, x: f64, m: f64) -> f64
     if bit_of(live, j) { fmath::max(m, x) } else { m }
 }
 
+// Which pattern a NaN has is the program's choice.
 pub fn most_live(tally: Tally, standardised: [f64; NFEAT], live: u32) -> [f64; NFEAT]
     ensures { λ r. ⌜ r ≡ mostLive live standardised (tally .«max_z») ⌝ }
 {

@@ -124,6 +124,7 @@ pub fn record(tally: Tally, verdict: SafetyVerdict, ev: TickEvents) -> Tally
 }
 
 // Tally::record_chunk: a chunk was taken in this tick, before its verdict is known.
+// Which pattern a NaN has is the program's choice.
 pub fn record_chunk(tally: Tally, rejected: bool) -> Tally
     ensures { λ r. ⌜ r ≡ recordChunk tally rejected ⌝ }
 {

@@ -19,7 +19,7 @@ pub none-left : (m k : ℕ) → m < 2 ^ 53 → 63 < k → 0 ≡ nearestWhole (m 
 none-left m k h p =
     let q : 2 ^ 64 ≤ 2 ^ k = pow-mono {i = 64} {j = k} (omega arith) in
     let l : m * 1000 < 2 ^ k = omega arith in
-    sym (goes-down (m * 1000) (2 ^ k) (rw (mod-eq-of-lt l) (omega arith)) ∙ div-eq-of-lt l)
+    sym (goes-down (m * 1000) (2 ^ k) (pow-pos k) (rw (mod-eq-of-lt l) (omega arith)) ∙ div-eq-of-lt l)
 
 -- a shifted one is the power
 pub one-shifted : (k : ℕ) → k ≤ 63 → (1 * 2 ^ k) % 18446744073709551616 ≡ 2 ^ k

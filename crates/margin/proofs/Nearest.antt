@@ -1,41 +1,40 @@
 -- The definition of the rounding is the nearest whole number, and that alone; equal fractions round alike.
 use Prim.Native.Nat.{ℕ, zero, suc, _+_, _-_, _*_, _/_, _%_, _≤_, _<_}
 use mathlib.Core.Path.{_≡_, refl, sym, ap, _∙_}
-use mathlib.Core.Bool.{Bool, true, false}
+use mathlib.Core.Bool.{Bool, true, false, cond, not}
 use native.Mathlib.Omega.{arith}
 use native.Mathlib.Decide.{decLe, decLt}
 use native.Mathlib.Nat.{mul-comm, mul-assoc, mul-right-comm, add-mul, div-add-mod', mod-lt, mul-le-mul-right, mul-lt-mul-of-pos-right, le-of-mul-le-mul-right, lt-of-mul-lt-mul-right, le-antisymm}
-use borrow.Author.Tests.{le-leb, lt-leb, lt-ltb, le-ltb}
+use borrow.Author.Tests.{lt-ltb, le-ltb}
+use lib.Dec.{T, leb→le, nleb→lt}
 use lib.IntN.{ℤ, natAbs}
 use lib.Ieee.{fin, up, down}
 use lib.Ieee.Fits.{down-pos}
 use Rattle.margin.specs.declared.Margin.the-variants.{Millis}
-use Rattle.margin.specs.Margin.{nearestWhole, farOf, signed, marginOf}
+use Rattle.margin.specs.Margin.{takesUp, nearestWhole, farOf, signed, marginOf}
 use Rattle.margin.specs.Nearest.{Nearest}
 
--- the two cases of the definition
-pub goes-up : (num den : ℕ) → den ≤ 2 * (num % den) → nearestWhole num den ≡ num / den + 1
-unfolding nearestWhole
-goes-up num den h = rw (le-leb den (2 * (num % den)) h) refl
-
-pub goes-down : (num den : ℕ) → 2 * (num % den) < den → nearestWhole num den ≡ num / den
-unfolding nearestWhole
-goes-down num den h = rw (lt-leb den (2 * (num % den)) h) refl
+by-test : (P : ℕ → Type 0) (b : Bool) (x y : ℕ) → (T b → P x) → (T (not b) → P y) → P (cond b x y)
+by-test P true x y f g = f tt
+by-test P false x y f g = g tt
 
 module _ (num den : ℕ) (D : 0 < den) where
-  nearest-by : Dec (den ≤ 2 * (num % den)) → Nearest num den (nearestWhole num den)
-  nearest-by (yes h) =
-      let q = num / den in
-      let e : q * den + num % den ≡ num = div-add-mod' num den in
-      let a : (q + 1) * den ≡ q * den + den = add-mul q 1 den ∙ ap (λ (x : ℕ). q * den + x) (omega arith) in
-      rw (goes-up num den h) (record { not-far-above = omega (arith, mod-lt num D); nearer-below = omega (arith, mod-lt num D) })
-  nearest-by (no h) =
-      let e : num / den * den + num % den ≡ num = div-add-mod' num den in
-      rw (goes-down num den (omega arith)) (record { not-far-above = omega arith; nearer-below = omega arith })
+  whole : num / den * den + num % den ≡ num
+  whole = div-add-mod' num den
+
+  one-up : (num / den + 1) * den ≡ num / den * den + den
+  one-up = add-mul (num / den) 1 den ∙ ap (λ (x : ℕ). num / den * den + x) (omega arith)
+
+  up-near : den ≤ 2 * (num % den) → Nearest num den (num / den + 1)
+  up-near h = let e = whole in let a = one-up in record { not-far-above = omega (arith, mod-lt num D); nearer-below = omega (arith, mod-lt num D) }
+
+  down-near : 2 * (num % den) < den → Nearest num den (num / den)
+  down-near h = let e = whole in record { not-far-above = omega arith; nearer-below = omega arith }
 
   -- the rounded number is the nearest whole number, a half going up
   pub nearest-is : Nearest num den (nearestWhole num den)
-  nearest-is = nearest-by (decLe den (2 * (num % den)))
+  unfolding nearestWhole
+  nearest-is = by-test (Nearest num den) (takesUp num den) _ _ (λ h. up-near (omega (arith, leb→le))) (λ h. down-near (omega (arith, nleb→lt)))
 
   one-way : (n w : ℕ) → Nearest num den n → Nearest num den w → Dec (w ≤ n) → w ≤ n
   one-way n w p q (yes h) = h
@@ -48,12 +47,19 @@ module _ (num den : ℕ) (D : 0 < den) where
   pub nearest-only : (n : ℕ) → Nearest num den n → n ≡ nearestWhole num den
   nearest-only n p = le-antisymm (one-way _ n nearest-is p (decLe _ _)) (one-way n _ p nearest-is (decLe _ _))
 
+  -- the two cases
+  pub goes-up : den ≤ 2 * (num % den) → nearestWhole num den ≡ num / den + 1
+  goes-up h = sym (nearest-only (num / den + 1) (up-near h))
+
+  pub goes-down : 2 * (num % den) < den → nearestWhole num den ≡ num / den
+  goes-down h = sym (nearest-only (num / den) (down-near h))
+
   pub at-least-quotient : num / den ≤ nearestWhole num den
   at-least-quotient = least-by (decLe den (2 * (num % den)))
     where
       least-by : Dec (den ≤ 2 * (num % den)) → num / den ≤ nearestWhole num den
-      least-by (yes h) = rw (goes-up num den h) (omega arith)
-      least-by (no h) = rw (goes-down num den (omega arith)) (omega arith)
+      least-by (yes h) = rw (goes-up h) (omega arith)
+      least-by (no h) = rw (goes-down (omega arith)) (omega arith)
 
 -- equal fractions have the same nearest whole number
 module _ (n d a c : ℕ) (D : 0 < d) (C : 0 < c) (same : n * c ≡ a * d) where

@@ -7,14 +7,14 @@ use lib.Ieee.{Float, nan, inf, fin, up, down}
 use Rattle.margin.specs.declared.Margin.{Margin}
 use Rattle.margin.specs.declared.Margin.the-variants.{NoMargin, PlusFar, MinusFar, Millis}
 
--- whether what is left over a quotient takes it up by one: from an exact half on, so that a half
+-- whether what is left over the quotient takes it up by one: from an exact half on, so that a half
 -- goes away from zero (the sign is apart)
 abbrev pub takesUp : ℕ → ℕ → Bool
-takesUp rest den = leb den (2 * rest)
+takesUp num den = leb den (2 * (num % den))
 
 -- the whole number nearest to num / den
 unfoldable pub nearestWhole : ℕ → ℕ → ℕ
-nearestWhole num den = cond (takesUp (num % den) den) (num / den + 1) (num / den)
+nearestWhole num den = cond (takesUp num den) (num / den + 1) (num / den)
 
 abbrev pub farOf : Bool → Margin
 farOf minus = cond minus MinusFar PlusFar

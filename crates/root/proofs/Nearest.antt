@@ -3,10 +3,10 @@
 use mathlib.Core.Path.{_≡_, refl, sym, ap, _∙_, subst}
 use mathlib.Core.Logic.{_⊎_, inl, inr}
 use Prim.Native.Nat.{ℕ, zero, suc, _+_, _-_, _*_, _^_, _≤_, _<_}
-use native.Mathlib.Nat.{lt-of-not-le, not-le-of-lt, lt-irrefl, le-trans, le-of-eq, le-of-lt, lt-of-lt-of-le, lt-of-le-of-lt, eq-zero-or-pos, mul-assoc, mul-le-mul, mul-le-mul-right, lt-of-mul-lt-mul-right, mul-pos, zero-mul}
+use native.Mathlib.Nat.{lt-of-not-le, not-le-of-lt, lt-irrefl, lt-trans, add-zero, le-trans, le-of-eq, le-of-lt, lt-of-lt-of-le, lt-of-le-of-lt, eq-zero-or-pos, mul-assoc, mul-le-mul, mul-le-mul-right, lt-of-mul-lt-mul-right, mul-pos, zero-mul}
 use native.Mathlib.Omega.{arith}
 use mathlib.Core.Bool.{Bool, true, false, not}
-use lib.Dec.{T, ltb, eqb, eqb→eq, ltb→lt, lt→ltb, nltb→le}
+use lib.Dec.{T, ltb, eqb, eqb→eq, leb→le, ltb→lt, lt→ltb, nltb→le}
 use lib.IntN.{ℤ}
 use lib.Pow.{pow-add, pow-pos, pow-mono, shl-lt}
 use lib.Ieee.{Float, nan, inf, fin, binary64, up, down, size, odd, round, fits, le}
@@ -21,7 +21,7 @@ use Rattle.root.specs.Steps.{NearRoot}
 use Rattle.root.proofs.Squares.{root-lt, square-lt, some-near}
 use Rattle.root.proofs.Rounded.{rounded, g-ge}
 use Rattle.root.proofs.Whole.{Window, window, root-at}
-use Rattle.root.proofs.Units.{Units, units-of, own-units, value-units, zero-units, on-grid}
+use Rattle.root.proofs.Units.{Units, none, units-of, own-units, value-units, zero-units, on-grid}
 
 lt-or-le : (x y : ℕ) → (x < y) ⊎ (y ≤ x)
 lt-or-le x y = go (ltb x y) (ltb→lt x y) (nltb→le x y)
@@ -36,6 +36,18 @@ half-below n (suc j) P m p h k =
     let a : m ≤ (2 * j + 1) * P = omega arith in
     let b : j * j + j + 1 ≤ n = omega arith in
     omega (arith, mul-le-mul a a, mul-le-mul-right (P * P) b, mul-pos p p)
+
+four : (q : ℕ) → q < 2 ^ 3172 → 4 * q < 2 ^ 1587 * 2 ^ 1587
+four q h = lt-of-lt-of-le (quadruple q (2 ^ 3172) h) (leb→le (4 * 2 ^ 3172) (2 ^ 1587 * 2 ^ 1587) tt)
+  where
+    quadruple : (q p : ℕ) → q < p → 4 * q < 4 * p
+    quadruple q p h = omega arith
+
+wide : (R Y : ℕ) → Y * Y ≤ (R + Y) * (R + Y)
+wide R Y = let h : Y ≤ R + Y = omega arith in mul-le-mul h h
+
+less : (R Y : ℕ) → (R - Y) * (R - Y) ≤ R * R
+less R Y = let h : R - Y ≤ R = omega arith in mul-le-mul h h
 
 -- ---- g * 2 ^ k units, where g is nearest to the root of n, against any other value of u units; 2 ^ k is P
 module _ (n g k : ℕ) (above : 2 ^ 104 ≤ n) (below : n + 2 ^ 53 ≤ 2 ^ 106) (lo : 56 ≤ k) (hi : k ≤ 2045) (near : NearRoot n g) where
@@ -80,6 +92,10 @@ module _ (n g k : ℕ) (above : 2 ^ 104 ≤ n) (below : n + 2 ^ 53 ≤ 2 ^ 106) 
 
   beneath : (u : ℕ) → Units u → u < g * P → (g * P + u) * (g * P + u) < 4 * (n * (P * P))
   beneath u w l = elim (lt-or-le n (g * g)) [ inl h ↦ under-high h u w l | inr h ↦ under-low h u l ]
+
+  -- no value at all is nearer than zero, so that g * P is below twice the root
+  over-zero : g * P * (g * P) < 4 * (n * (P * P))
+  over-zero = subst (λ (z : ℕ). z * z < 4 * (n * (P * P))) (add-zero (g * P)) (beneath 0 none (mul-pos (lt-of-lt-of-le (pow-pos 52) (g-ge n g k above below lo hi near)) P-pos))
 
 -- ---- every number of units above zero, in the form m * 2 ^ e with an m whose top bit is bit 52
 pow-lt-back : (a l : ℕ) → 2 ^ a < 2 ^ l → a < l
@@ -180,19 +196,51 @@ module _ (x : Float) (u : ℕ) (w : Units u) (p : 0 < u) (v : HasValue x false u
   X-square : 4 * (n * (2 ^ k * 2 ^ k)) ≡ 4 * (unitsOf x * 2 ^ 1074)
   X-square = ap (λ (y : ℕ). 4 * y) (sym square-is ∙ ap (λ (y : ℕ). y * 2 ^ 1074) (sym X-is))
 
+  abbrev R : ℕ
+  R = G .0 * 2 ^ k
+
+  -- every other value, by its units
+  abbrev Far : ℕ → Type 0
+  Far Y = 4 * (unitsOf x * 2 ^ 1074) < (R + Y) * (R + Y)
+
+  abbrev Close : ℕ → Type 0
+  Close Y = (R + Y) * (R + Y) < 4 * (unitsOf x * 2 ^ 1074)
+
+  far-of : (Y : ℕ) → Units Y → R < Y → Far Y
+  far-of Y z l = subst (λ (q : ℕ). q < (R + Y) * (R + Y)) X-square (beyond n (G .0) k (W .above) (W .below) (W .lo) (W .hi) (G .1) Y z l)
+
+  close-of : (Y : ℕ) → Units Y → Y < R → Close Y
+  close-of Y z l = subst (λ (q : ℕ). (R + Y) * (R + Y) < q) X-square (beneath n (G .0) k (W .above) (W .below) (W .lo) (W .hi) (G .1) Y z l)
+
+  -- twice the root is above r, and below 2 ^ 513
+  twice : R * R < 4 * (unitsOf x * 2 ^ 1074)
+  twice = subst (λ (q : ℕ). R * R < q) X-square (over-zero n (G .0) k (W .above) (W .below) (W .lo) (W .hi) (G .1))
+
+  room : 4 * (unitsOf x * 2 ^ 1074) < 2 ^ 1587 * 2 ^ 1587
+  room = four (unitsOf x * 2 ^ 1074) (shl-lt 2098 1074 (subst (λ (y : ℕ). y < 2 ^ 2098) (sym X-is) (w .fine)))
+
+  low : R < 2 ^ 1587
+  low = root-lt {x = R} {y = 2 ^ 1587} (lt-trans twice room)
+
+  far-out : (y : Float) → T (fits binary64 y) → R < unitsOf y → Far (unitsOf y)
+  far-out nan F l = far-of 0 none l
+  far-out (inf s) F l = lt-of-lt-of-le room (le-trans (leb→le (2 ^ 1587 * 2 ^ 1587) (unitsOf (inf s) * unitsOf (inf s)) tt) (wide R (unitsOf (inf s))))
+  far-out (fin s m e) F l = far-of (unitsOf (fin s m e)) (units-of (fin s m e) F tt) l
+
+  close-in : (y : Float) → T (fits binary64 y) → unitsOf y < R → Close (unitsOf y)
+  close-in nan F l = close-of 0 none l
+  close-in (inf s) F l = absurd (lt-irrefl (2 ^ 1587) (lt-of-le-of-lt (leb→le (2 ^ 1587) (unitsOf (inf s)) tt) (lt-trans l low)))
+  close-in (fin s m e) F l = close-of (unitsOf (fin s m e)) (units-of (fin s m e) F tt) l
+
   nearest : NearestRoot x (rootOf x)
   nearest = record {
     held = subst (λ (y : Float). T (fits binary64 y)) (sym rooted) (round-fits binary64 false (wholeRoot (u * 2 ^ 1074)) (2 ^ 1074));
     number = positive-finite (rootOf x) is-positive;
     not-below = le-of-values plusZero (rootOf x) 0 1 (G .0 * 2 ^ k) (2 ^ 1074) (pow-pos 0) (pow-pos 1074) (refl, refl) value (nothing-le (2 ^ 1074) (G .0 * 2 ^ k * 1));
-    above = λ y F l.
-        subst (λ (r : ℕ). 4 * (unitsOf x * 2 ^ 1074) < (r + unitsOf y) * (r + unitsOf y)) (sym R-is)
-        (subst (λ (q : ℕ). q < (G .0 * 2 ^ k + unitsOf y) * (G .0 * 2 ^ k + unitsOf y)) X-square
-        (beyond n (G .0) k (W .above) (W .below) (W .lo) (W .hi) (G .1) (unitsOf y) (units-of y F) (subst (λ (r : ℕ). r < unitsOf y) R-is l)));
-    below = λ y F l.
-        subst (λ (r : ℕ). (r + unitsOf y) * (r + unitsOf y) < 4 * (unitsOf x * 2 ^ 1074)) (sym R-is)
-        (subst (λ (q : ℕ). (G .0 * 2 ^ k + unitsOf y) * (G .0 * 2 ^ k + unitsOf y) < q) X-square
-        (beneath n (G .0) k (W .above) (W .below) (W .lo) (W .hi) (G .1) (unitsOf y) (units-of y F) (subst (λ (r : ℕ). unitsOf y < r) R-is l)));
+    small = subst (λ (r : ℕ). r < 2 ^ 1587) (sym R-is) low;
+    above = λ y F l. subst (λ (r : ℕ). 4 * (unitsOf x * 2 ^ 1074) < (r + unitsOf y) * (r + unitsOf y)) (sym R-is) (far-out y F (subst (λ (r : ℕ). r < unitsOf y) R-is l));
+    below = λ y F l. subst (λ (r : ℕ). (r + unitsOf y) * (r + unitsOf y) < 4 * (unitsOf x * 2 ^ 1074)) (sym R-is) (close-in y F (subst (λ (r : ℕ). unitsOf y < r) R-is l));
+    minus = λ y F s p l. subst (λ (r : ℕ). (r - unitsOf y) * (r - unitsOf y) < 4 * (unitsOf x * 2 ^ 1074)) (sym R-is) (lt-of-le-of-lt (less R (unitsOf y)) twice);
   }
 
 -- ---- zero
@@ -202,15 +250,20 @@ at-zero s t F h = record {
   held = F;
   number = tt;
   not-below = h;
+  small = subst (λ (r : ℕ). r < 2 ^ 1587) (sym (zero-units t)) (pow-pos 1587);
   above = λ y G l. rw (zero-units t) (squares (unitsOf y) (rw (zero-units t) at l));
-  below = λ y G l. absurd (none (unitsOf y) (rw (zero-units t) at l));
+  below = λ y G l. absurd (not-under (unitsOf y) (rw (zero-units t) at l));
+  minus = λ y G m p l. absurd (not-both (unitsOf y) p (rw (zero-units t) at l));
 }
   where
     squares : (Y : ℕ) → 0 < Y → 4 * (0 * 2 ^ 1074) < (0 + Y) * (0 + Y)
     squares Y l = omega (arith, mul-pos l l)
 
-    none : (Y : ℕ) → Y < 0 → ⊥
-    none Y l = omega arith
+    not-under : (Y : ℕ) → Y < 0 → ⊥
+    not-under Y l = omega arith
+
+    not-both : (Y : ℕ) → 0 < Y → Y ≤ 0 → ⊥
+    not-both Y p l = omega arith
 
 -- ---- below zero
 below-zero : (b : ℕ) (t : ℤ) → T (le plusZero (fin true (suc b) t)) → ⊥
@@ -228,4 +281,4 @@ root-nearest (fin s zero t) F f h = at-zero s t F h
 root-nearest (fin true (suc b) t) F f h = absurd (below-zero b t h)
 root-nearest (fin false (suc b) t) F f h =
     let v = own-units false b t F in
-    nearest (fin false (suc b) t) (unitsOf (fin false (suc b) t)) (units-of (fin false (suc b) t) F) (value-pos (fin false (suc b) t) (unitsOf (fin false (suc b) t)) (2 ^ 1074) (lt→ltb 0 (suc b) (omega arith)) (pow-pos 1074) v) v
+    nearest (fin false (suc b) t) (unitsOf (fin false (suc b) t)) (units-of (fin false (suc b) t) F tt) (value-pos (fin false (suc b) t) (unitsOf (fin false (suc b) t)) (2 ^ 1074) (lt→ltb 0 (suc b) (omega arith)) (pow-pos 1074) v) v

@@ -10,6 +10,7 @@ use lib.Pow.{pow-add, pow-pos, pow-mono, pow-lt, shl-lt}
 use lib.Ieee.{Float, nan, inf, fin, binary64, up, down, fits}
 use lib.Ieee.Exact.{HasValue}
 use lib.Ieee.Fits.{down-pos, and-l, and-r}
+use lib.Ieee.Scale.{finite}
 use Rattle.root.specs.Root.{inUnits, unitsOf}
 
 -- ---- m * 2 ^ e is m * 2 ^ j units, exactly
@@ -80,17 +81,17 @@ in-units s m e t =
     shift : (x : ℕ) → 2 ^ 1024 * x * 2 ^ 1074 ≡ 2 ^ 2098 * x
     shift x = mul-assoc (2 ^ 1024) x (2 ^ 1074) ∙ ap (λ (y : ℕ). 2 ^ 1024 * y) (mul-comm x (2 ^ 1074)) ∙ sym (mul-assoc (2 ^ 1024) (2 ^ 1074) x)
 
-none : Units 0
+pub none : Units 0
 none = record { n = 0; j = 0; n-lt = pow-pos 53; is = refl; fine = pow-pos 2098 }
 
 pub zero-units : (e : ℤ) → inUnits 0 e ≡ 0
 zero-units e = ap (λ (x : ℕ). x / down e) (ap (λ (x : ℕ). x * 2 ^ 1074) (zero-mul (up e)) ∙ zero-mul (2 ^ 1074)) ∙ zero-div (down e)
 
-pub units-of : (y : Float) → T (fits binary64 y) → Units (unitsOf y)
-units-of nan t = none
-units-of (inf s) t = none
-units-of (fin s zero e) t = subst Units (sym (zero-units e)) none
-units-of (fin s (suc m) e) t = in-units s m e t
+pub units-of : (y : Float) → T (fits binary64 y) → T (finite y) → Units (unitsOf y)
+units-of nan t f = absurd f
+units-of (inf s) t f = absurd f
+units-of (fin s zero e) t f = subst Units (sym (zero-units e)) none
+units-of (fin s (suc m) e) t f = in-units s m e t
 
 -- a number has just its units
 pub own-units : (s : Bool) (m : ℕ) (e : ℤ) → T (fits binary64 (fin s (suc m) e)) → HasValue (fin s (suc m) e) s (unitsOf (fin s (suc m) e)) (2 ^ 1074)

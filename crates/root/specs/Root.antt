@@ -1,8 +1,8 @@
 -- The square root of a binary64 value, and what it is to be the nearest value to a root
 -- (01-scope.md, Modules 2; IEEE 754-2019, 4.3.1, 5.4.1, 6.3 and 7.2).
 -- Definitions only.
-use Prim.Native.Nat.{ℕ, zero, suc, _+_, _*_, _/_, _^_, _<_}
-use mathlib.Core.Bool.{true, false, cond}
+use Prim.Native.Nat.{ℕ, zero, suc, _+_, _-_, _*_, _/_, _^_, _≤_, _<_}
+use mathlib.Core.Bool.{Bool, true, false, cond}
 use lib.IntN.{ℤ, pos}
 use lib.Dec.{T, leb}
 use lib.Ieee.{Float, nan, inf, fin, binary64, up, down, size, round, fits, le}
@@ -44,23 +44,34 @@ rootOf (fin false (suc m) e) = round binary64 false (wholeRoot (inUnits (suc m) 
 
 -- ---- what is nearest
 
--- how many units y is away from zero, and 0 for a NaN and an infinity
+-- How many units y is away from zero. A NaN counts as none. An infinity counts as 2 ^ 1024, where
+-- the value after the greatest would be: so IEEE 754-2019 rounds to it (4.3.1).
 abbrev pub unitsOf : Float → ℕ
 unitsOf nan = 0
-unitsOf (inf s) = 0
+unitsOf (inf s) = 2 ^ 1024 * 2 ^ 1074
 unitsOf (fin s m e) = inUnits m e
+
+-- whether y has a minus sign
+abbrev pub isMinus : Float → Bool
+isMinus nan = false
+isMinus (inf s) = s
+isMinus (fin s m e) = s
 
 abbrev pub plusZero : Float
 plusZero = fin false 0 (pos 0)
 
--- Of all values of binary64 r is the nearest to the root of x, and no other is as near, but for the
--- sign of a zero: `rootOf` says which zero comes.
+-- Of all values of binary64, the infinities and those below zero among them, r is the nearest to
+-- the root of x, and no other is as near, but for the sign of a zero: `rootOf` says which comes.
+-- It is a number, not below zero and below 2 ^ 513.
 -- Where x is X units its root is the root of X * 2 ^ 1074 units. For each other value, of Y units,
--- the middle between it and r, (R + Y) / 2 units, lies beyond the root.
+-- the middle between it and r lies beyond the root: (R + Y) / 2 units, or (R - Y) / 2 where the
+-- value is below zero; where Y is above R that middle is below zero, and no root is.
 -- Both sides are doubled and squared, so that only whole numbers are compared.
 pub record NearestRoot (x r : Float) : Type 0 where
   pub held : T (fits binary64 r)
   pub number : T (finite r)
   pub not-below : T (le plusZero r)
+  pub small : unitsOf r < 2 ^ 513 * 2 ^ 1074
   pub above : (y : Float) → T (fits binary64 y) → unitsOf r < unitsOf y → 4 * (unitsOf x * 2 ^ 1074) < (unitsOf r + unitsOf y) * (unitsOf r + unitsOf y)
   pub below : (y : Float) → T (fits binary64 y) → unitsOf y < unitsOf r → (unitsOf r + unitsOf y) * (unitsOf r + unitsOf y) < 4 * (unitsOf x * 2 ^ 1074)
+  pub minus : (y : Float) → T (fits binary64 y) → T (isMinus y) → 0 < unitsOf y → unitsOf y ≤ unitsOf r → (unitsOf r - unitsOf y) * (unitsOf r - unitsOf y) < 4 * (unitsOf x * 2 ^ 1074)

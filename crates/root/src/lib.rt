@@ -127,6 +127,7 @@ fn pattern(m: u64, e: u64) -> u64
 
 // The square root, rounded to the nearest; of the infinity, of +0 and of -0 the argument itself,
 // and of a NaN and of what is below zero a NaN.
+// Which pattern a NaN has is the program's choice.
 pub fn sqrt(x: f64) -> f64
     ensures { λ r. ⌜ r ≡ rootOf x ⌝ }
 {

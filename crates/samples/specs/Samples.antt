@@ -12,20 +12,22 @@ use Rattle.lictor_core.specs.declared.fuse.TickInput.{TickInput}
 use Rattle.lictor_core.specs.declared.outcome.Outcome.{Outcome}
 use Rattle.lictor_core.specs.declared.chunk.ActionKind.the-variants.{EePosition}
 use Rattle.lictor_core.specs.declared.envelope.ClampMode.the-variants.{Project}
+use Rattle.lictor_core.specs.declared.envelope.RearmPolicy.{RearmPolicy}
 use Rattle.lictor_core.specs.declared.envelope.RearmPolicy.the-variants.{AckOnly}
 use Rattle.lictor_core.specs.declared.state.FuseMode.the-variants.{Enforce}
 use Rattle.lictor_core.specs.Codes.{modeCode, kindCode, clampCode, rearmCode}
 use Rattle.lictor_core.specs.Initial.{zeroFloat, zeros}
 use Rattle.lictor_core.specs.Sizes.{maxD, maxPos, features}
 
--- Enforce, EePosition, clamping on, AckOnly, one component, chunks of one row, no calibration.
--- The limits, the window's mask, the trips that are enabled, one float for dt, inv_dt and a_max.
-abbrev pub sampleSettings : Hysteresis → (windowMask tier0 : ℕ) → Float → Settings
-sampleSettings limits windowMask tier0 unit = record {
+-- Enforce, EePosition, clamping on, one component, chunks of one row, no calibration. The rearm
+-- policy, the limits, the window's mask, the trips that are enabled, one float for dt, inv_dt and
+-- a_max.
+abbrev pub sampleUnder : RearmPolicy → Hysteresis → (windowMask tier0 : ℕ) → Float → Settings
+sampleUnder policy limits windowMask tier0 unit = record {
   mode = modeCode Enforce;
   kind = kindCode EePosition;
   clamp = clampCode Project;
-  rearm = rearmCode AckOnly;
+  rearm = rearmCode policy;
   dim = 1;
   «pos_dim» = 1;
   horizon = 1;
@@ -40,6 +42,10 @@ sampleSettings limits windowMask tier0 unit = record {
   «tier0_enabled» = tier0;
   calib = record { mask = 0; tau = zeroFloat };
 }
+
+-- the same under AckOnly
+abbrev pub sampleSettings : Hysteresis → (windowMask tier0 : ℕ) → Float → Settings
+sampleSettings limits windowMask tier0 unit = sampleUnder AckOnly limits windowMask tier0 unit
 
 -- an outcome with these trips, a brake that is feasible or not, this score s, and nothing else
 abbrev pub sampleOutcome : (trips : ℕ) (feasible : Bool) (s : Float) → Outcome
@@ -65,6 +71,9 @@ sampleInput t missed hasVel chunk ack = record {
   ack = ack;
 }
 
--- the first chunk, of one row and one component, which begins at t
+-- the chunk with this number, of one row and one component, which begins at t; and the first one
+abbrev pub numberedChunk : (seq t : ℕ) → ChunkHead
+numberedChunk seq t = record { seq = seq; «t_emit» = t; horizon = 1; dim = 1; «exec_steps» = 1 }
+
 abbrev pub sampleChunk : (t : ℕ) → ChunkHead
-sampleChunk t = record { seq = 0; «t_emit» = t; horizon = 1; dim = 1; «exec_steps» = 1 }
+sampleChunk t = numberedChunk 0 t

@@ -1,3 +1,4 @@
--- The theorem of the table.
+-- The theorem of the table, and what its cases say of every run state.
+pub mod ForAll
 pub mod Given
 pub mod Opened

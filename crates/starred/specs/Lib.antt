@@ -1,1 +1,2 @@
+pub mod ForAll
 pub mod Starred

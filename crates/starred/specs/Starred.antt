@@ -1,10 +1,12 @@
 -- The starred cases (01-scope.md, What a contract says, and the cases): rows of one table.
 -- A row has what the definitions give and what they should give, as numbers.
--- Cases of a tick go through `tickOf`, the definition that `tick` promises.
+-- Cases of a tick go through `tickOf`, the definition that `tick` promises, from run states that
+-- ticks after a reset leave. What the cases say of every run state is in specs/ForAll.
 -- A case of the paper brings no guard bit and no trip but those that it names.
 use mathlib.Core.Bool.{Bool, true, false, cond}
 use mathlib.Core.List.{List, [], _∷_}
 use Prim.Native.Nat.{ℕ}
+use lib.Dec.{eqb}
 use lib.ListN.{getD}
 use lib.Ieee.{Float, nan, inf, binary64, ofBits, toBits}
 use Rattle.fmath.specs.Root.{rootOf}
@@ -16,25 +18,24 @@ use Rattle.lictor_core.specs.declared.ack.AckDecision.the-variants.{Resume, Ret
 use Rattle.lictor_core.specs.declared.ack.MaybeAck.{MaybeAck}
 use Rattle.lictor_core.specs.declared.ack.MaybeAck.the-variants.{NoAck, Given}
 use Rattle.lictor_core.specs.declared.ack.VerifiedAck.{VerifiedAck}
-use Rattle.lictor_core.specs.declared.chunk.MaybeChunk.the-variants.{NoChunk}
+use Rattle.lictor_core.specs.declared.chunk.MaybeChunk.the-variants.{NoChunk, Delivered}
 use Rattle.lictor_core.specs.declared.envelope.Hysteresis.{Hysteresis}
 use Rattle.lictor_core.specs.declared.fuse.FuseRt.{FuseRt}
-use Rattle.lictor_core.specs.declared.state.FuseState.{FuseState}
-use Rattle.lictor_core.specs.declared.state.FuseState.the-variants.{Armed, Braking, Held, Escalated, Terminated}
 use Rattle.lictor_core.specs.Codes.{stateCode, reasonCode}
 use Rattle.lictor_core.specs.Initial.{zeroFloat, oneFloat, newOf, resetOf}
-use Rattle.samples.specs.Samples.{sampleSettings, sampleOutcome, sampleInput}
+use Rattle.samples.specs.Samples.{sampleSettings, sampleOutcome, sampleInput, sampleChunk}
+use Rattle.lictor_table.specs.Fields.{withClamps}
 use Rattle.lictor_table.specs.Helpers.{acceptedBy}
 use Rattle.lictor_fuse.specs.declared.Ticked.{Ticked}
 use Rattle.lictor_fuse.specs.Tick.{tickOf}
 
 -- ---- what the rows are made of
 
--- The limits that rows name: the clamp limit, the brake limit B and the handoff limit E.
--- The others are out of the way: one hit is predictive and none comes, the streak's limit is far,
--- standstill is confirmed at once, H is 5, and no tick may be missed.
-unfoldable pub rowLimits : ℕ → ℕ → ℕ → Hysteresis
-rowLimits clamps b e = record {
+-- The limits that rows name: the clamp limit, the brake limit B, the hold limit H and the handoff
+-- limit E. The others are out of the way: one hit is predictive and none comes, the streak's limit
+-- is far, standstill is confirmed at once, and no tick may be missed.
+unfoldable pub rowLimits : ℕ → ℕ → ℕ → ℕ → Hysteresis
+rowLimits clamps b h e = record {
   k = 1;
   «warn_margin» = zeroFloat;
   «clear_ticks» = 9;
@@ -45,68 +46,87 @@ rowLimits clamps b e = record {
   «brake_timeout_ticks» = b;
   «rearm_hold» = 5;
   «max_rearms» = 1;
-  «escalate_after_hold_ticks» = 5;
+  «escalate_after_hold_ticks» = h;
   «handoff_timeout_ticks» = e;
   «watchdog_ticks» = 0;
 }
 
--- after the reset, but in the given state, with the given count of clamps, and a chunk taken
-unfoldable pub started : FuseState → ℕ → FuseRt
-started s n = record {
-  control = record {
-    window = resetOf newOf .control .window;
-    state = s;
-    hold = resetOf newOf .control .hold;
-    «clean_run» = 0;
-    «clamp_streak» = 0;
-    clamps = n;
-    «brake_ticks» = 0;
-    «stopped_ticks» = 0;
-    «held_ticks» = 0;
-    «held_clean» = 0;
-    «escalated_ticks» = 0;
-    rearms = 0;
-    «handoff_seq» = 0;
-    «handoff_pending» = false;
-    «last_nonce» = resetOf newOf .control .«last_nonce»;
-  };
-  motion = resetOf newOf .motion;
-  clock = record { filled = true; seq = 0; «last_t» = 0; «next_chunk_seq» = 1; «chunk_ok_this_tick» = false };
-  tally = resetOf newOf .tally;
-}
-
-unfoldable pub rowAck : AckDecision → ℕ → ℕ → VerifiedAck
-rowAck d slot nonce = record { decision = d; «operator_slot» = slot; nonce = nonce; «handoff_seq» = 0 }
+-- an acknowledgement of the handoff with this number
+unfoldable pub rowAck : AckDecision → ℕ → ℕ → ℕ → VerifiedAck
+rowAck d slot nonce handoff = record { decision = d; «operator_slot» = slot; nonce = nonce; «handoff_seq» = handoff }
 
 -- the tick after rt at t, after `missed` ticks, with this acknowledgement, these trips, one
--- position
+-- position; the one at 0 delivers the chunk that all later ones use
 unfoldable pub rowTickAt : Float → Hysteresis → FuseRt → ℕ → ℕ → MaybeAck → ℕ → Ticked
 rowTickAt x limits rt t missed ack trips =
     let settings = sampleSettings limits 1 63 oneFloat in
-    tickOf settings rt (sampleInput t missed false NoChunk ack) (sampleOutcome trips true (inf true))
-    (x ∷ []) [] [] [] []
+    let first = eqb t 0 in
+    tickOf settings rt (sampleInput t missed false (cond first (Delivered (sampleChunk 0)) NoChunk) ack) (sampleOutcome trips true (inf true))
+    (x ∷ []) [] [] [] (cond first (zeroFloat ∷ []) [])
 
 -- the same at position 0
 unfoldable pub rowTick : Hysteresis → FuseRt → ℕ → ℕ → MaybeAck → ℕ → Ticked
 rowTick limits rt t missed ack trips = rowTickAt zeroFloat limits rt t missed ack trips
+
+-- ---- run states that rows start from: each is one tick after the one before it, from the reset on
+
+unfoldable pub armed : FuseRt
+armed = resetOf newOf
+
+-- BRAKE at 0
+unfoldable pub braking : Hysteresis → FuseRt
+braking limits = rowTick limits armed 0 0 NoAck 64 .rt
+
+-- standstill at 1
+unfoldable pub held : Hysteresis → FuseRt
+held limits = rowTick limits (braking limits) 1 0 NoAck 0 .rt
+
+-- the hold limit at 2, where H is 0: the handoff with number 1 begins
+unfoldable pub escalated : Hysteresis → FuseRt
+escalated limits = rowTick limits (held limits) 2 0 NoAck 0 .rt
+
+-- the handoff limit at 3, where E is 0
+unfoldable pub terminated : Hysteresis → FuseRt
+terminated limits = rowTick limits (escalated limits) 3 0 NoAck 0 .rt
+
+-- a soft trip at 0, and one at each t after it up to 2
+unfoldable pub clampedOnce : Hysteresis → FuseRt
+clampedOnce limits = rowTick limits armed 0 0 NoAck 1 .rt
+
+unfoldable pub clampedTwice : Hysteresis → FuseRt
+clampedTwice limits = rowTick limits (clampedOnce limits) 1 0 NoAck 1 .rt
+
+unfoldable pub clampedThrice : Hysteresis → FuseRt
+clampedThrice limits = rowTick limits (clampedTwice limits) 2 0 NoAck 1 .rt
+
+-- The first of these with the count of clamps that 65535 such ticks leave, too many to compute:
+-- a soft trip changes the count and the streak alone (`ForAll.clamps` has every count).
+unfoldable pub clampedOften : Hysteresis → FuseRt
+clampedOften limits = record {
+  control = withClamps 65535 (clampedOnce limits .control);
+  motion = clampedOnce limits .motion;
+  clock = clampedOnce limits .clock;
+  tally = clampedOnce limits .tally;
+}
 
 -- ---- what a row looks at
 
 unfoldable pub bit : Bool → ℕ
 bit b = cond b 1 0
 
--- the state that the tick ends in, its trips and its reason
+-- the states that the tick starts from and ends in, its trips and its reason
 unfoldable pub ending : Ticked → List ℕ
-ending r = stateCode (r .verdict .state) ∷ r .verdict .trips ∷ reasonCode (r .verdict .reason) ∷ []
+ending r =
+    stateCode (r .verdict .«prev_state») ∷ stateCode (r .verdict .state) ∷ r .verdict .trips ∷ reasonCode (r .verdict .reason) ∷ []
 
--- its state, its reason, and the nonce stored for slot 3
+-- its two states, its reason, and the nonce stored for slot 3
 unfoldable pub endingNonce : Ticked → List ℕ
 endingNonce r =
-    stateCode (r .verdict .state) ∷ reasonCode (r .verdict .reason) ∷ getD (r .rt .control .«last_nonce») 3 0 ∷ []
+    stateCode (r .verdict .«prev_state») ∷ stateCode (r .verdict .state) ∷ reasonCode (r .verdict .reason) ∷ getD (r .rt .control .«last_nonce») 3 0 ∷ []
 
--- its state and the count of clamps
+-- its two states and the count of clamps
 unfoldable pub clamping : Ticked → List ℕ
-clamping r = stateCode (r .verdict .state) ∷ r .rt .control .clamps ∷ []
+clamping r = stateCode (r .verdict .«prev_state») ∷ stateCode (r .verdict .state) ∷ r .rt .control .clamps ∷ []
 
 -- whether the acceptance rule takes it, in the state that the reset leaves
 unfoldable pub acceptance : VerifiedAck → List ℕ
@@ -122,40 +142,42 @@ infix 70 _is_
 abbrev pub _is_ : List ℕ → List ℕ → Case
 _is_ g w = record { gives = g; wanted = w }
 
--- the limits of most rows
+-- the limits of most rows; those with H 0, so that a held fuse hands over at once; with E 0 too
 unfoldable pub usualLimits : Hysteresis
-usualLimits = rowLimits 2 5 5
+usualLimits = rowLimits 2 5 5 5
 
--- the tick after a soft trip at the clamp limit
-unfoldable pub afterClamp : FuseRt
-afterClamp = rowTick usualLimits (started Armed 2) 0 0 NoAck 1 .rt
+unfoldable pub quickHandoff : Hysteresis
+quickHandoff = rowLimits 2 5 0 5
+
+unfoldable pub quickEnd : Hysteresis
+quickEnd = rowLimits 2 5 0 0
 
 unfoldable pub starred : List Case
 starred =
     -- the handoff limit 0, and nobody answers
-    ending (rowTick (rowLimits 2 5 0) (started Escalated 0) 0 0 NoAck 0) is (8 ∷ 4096 ∷ 25 ∷ [])
+    ending (rowTick quickEnd (escalated quickEnd) 3 0 NoAck 0) is (6 ∷ 8 ∷ 4096 ∷ 25 ∷ [])
     -- a nonce of 0 while held: nothing is stored and the fuse stays held
-    ∷ acceptance (rowAck Resume 3 0) is (0 ∷ [])
-    ∷ endingNonce (rowTick usualLimits (started Held 0) 0 0 (Given (rowAck Resume 3 0)) 0) is (5 ∷ 13 ∷ 0 ∷ [])
+    ∷ acceptance (rowAck Resume 3 0 0) is (0 ∷ [])
+    ∷ endingNonce (rowTick usualLimits (held usualLimits) 2 0 (Given (rowAck Resume 3 0 0)) 0) is (5 ∷ 5 ∷ 13 ∷ 0 ∷ [])
     -- the last slot there is, and the one past it
-    ∷ acceptance (rowAck Resume 7 1) is (1 ∷ [])
-    ∷ acceptance (rowAck Resume 8 1) is (0 ∷ [])
+    ∷ acceptance (rowAck Resume 7 1 0) is (1 ∷ [])
+    ∷ acceptance (rowAck Resume 8 1 0) is (0 ∷ [])
     -- a Retune in each of the two states that take acknowledgements
-    ∷ endingNonce (rowTick usualLimits (started Escalated 0) 0 0 (Given (rowAck Retune 3 1)) 0) is (8 ∷ 26 ∷ 1 ∷ [])
-    ∷ endingNonce (rowTick usualLimits (started Held 0) 0 0 (Given (rowAck Retune 3 1)) 0) is (5 ∷ 13 ∷ 0 ∷ [])
+    ∷ endingNonce (rowTick quickHandoff (escalated quickHandoff) 3 0 (Given (rowAck Retune 3 1 1)) 0) is (6 ∷ 8 ∷ 26 ∷ 1 ∷ [])
+    ∷ endingNonce (rowTick usualLimits (held usualLimits) 2 0 (Given (rowAck Retune 3 1 0)) 0) is (5 ∷ 5 ∷ 13 ∷ 0 ∷ [])
     -- a clamp at the clamp limit, and the tick after it
-    ∷ clamping (rowTick usualLimits (started Armed 2) 0 0 NoAck 1) is (3 ∷ 3 ∷ [])
-    ∷ ending (rowTick usualLimits afterClamp 1 0 NoAck 0) is (4 ∷ 2048 ∷ 11 ∷ [])
+    ∷ clamping (rowTick usualLimits (clampedTwice usualLimits) 2 0 NoAck 1) is (3 ∷ 3 ∷ 3 ∷ [])
+    ∷ ending (rowTick usualLimits (clampedThrice usualLimits) 3 0 NoAck 0) is (3 ∷ 4 ∷ 2048 ∷ 11 ∷ [])
     -- the same with limit and count at the end of the counter
-    ∷ clamping (rowTick (rowLimits 65535 5 5) (started Armed 65535) 0 0 NoAck 1) is (3 ∷ 65535 ∷ [])
+    ∷ clamping (rowTick (rowLimits 65535 5 5 5) (clampedOften (rowLimits 65535 5 5 5)) 1 0 NoAck 1) is (3 ∷ 3 ∷ 65535 ∷ [])
     -- the brake limit 0, with the arm at a standstill
-    ∷ ending (rowTick (rowLimits 2 0 5) (started Braking 0) 0 0 NoAck 0) is (7 ∷ 16384 ∷ 20 ∷ [])
+    ∷ ending (rowTick (rowLimits 2 0 5 5) (braking (rowLimits 2 0 5 5)) 1 0 NoAck 0) is (4 ∷ 7 ∷ 16384 ∷ 20 ∷ [])
     -- a watchdog fault after the end: found by the guard, and brought by the outcome
-    ∷ ending (rowTick usualLimits (started Terminated 0) 0 1 NoAck 0) is (7 ∷ 512 ∷ 19 ∷ [])
-    ∷ ending (rowTick usualLimits (started Terminated 0) 0 0 NoAck 512) is (7 ∷ 512 ∷ 19 ∷ [])
+    ∷ ending (rowTick quickEnd (terminated quickEnd) 5 1 NoAck 0) is (8 ∷ 7 ∷ 512 ∷ 19 ∷ [])
+    ∷ ending (rowTick quickEnd (terminated quickEnd) 4 0 NoAck 512) is (8 ∷ 7 ∷ 512 ∷ 19 ∷ [])
     -- all three fault bits: by the guard (a NaN, t not 0, one tick missed), and by the outcome
-    ∷ ending (rowTickAt nan usualLimits (started Armed 0) 7 1 NoAck 0) is (7 ∷ 896 ∷ 17 ∷ [])
-    ∷ ending (rowTick usualLimits (started Armed 0) 0 0 NoAck 896) is (7 ∷ 896 ∷ 17 ∷ [])
+    ∷ ending (rowTickAt nan usualLimits armed 7 1 NoAck 0) is (1 ∷ 7 ∷ 896 ∷ 17 ∷ [])
+    ∷ ending (rowTick usualLimits armed 0 0 NoAck 896) is (1 ∷ 7 ∷ 896 ∷ 17 ∷ [])
     -- the root of 2.25, by its bits
     ∷ (toBits binary64 (rootOf (ofBits binary64 0x4002_0000_0000_0000)) ∷ []) is (0x3ff8_0000_0000_0000 ∷ [])
     -- an exact half of a millimetre, above zero and below

@@ -24,14 +24,14 @@ returns c =
     let num = c .before .args .num in
     let den = c .before .args .den in
     let h : den ≤ 2 * (num % den) = omega (arith, mod-lt num (c .before .pre .1), c .if1 .taken) in
-    sym (goes-up num den h)
+    sym (goes-up num den (c .before .pre .1) h)
 
 returns-2 : tie.Need-returns-2
 returns-2 c =
     let num = c .before .args .num in
     let den = c .before .args .den in
     let h : 2 * (num % den) < den = omega (arith, mod-lt num (c .before .pre .1), c .if1 .left) in
-    sym (goes-down num den h)
+    sym (goes-down num den (c .before .pre .1) h)
 
 pub nearest-whole-spec : {M : Type 1} → statement M
 nearest-whole-spec = tie.close (tie.spec div-n rem-rest sub-if1 add-result returns returns-2)

@@ -1,0 +1,2 @@
+-- What a tick is computed with.
+pub mod Opened
