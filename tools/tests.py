@@ -1,7 +1,9 @@
 """The tests of tools/explain, tools/journal and tools/settings; tools/run runs them."""
 
+import html.parser
 import importlib.machinery
 import importlib.util
+import json
 import os
 import pathlib
 import random
@@ -140,7 +142,7 @@ def lines_as_fuse(text, lines):
     """Every line `tick` of fuse has its line in the text, with the same number, time, state and reason."""
     told = [(int(m[1]), int(m[2]), m[3]) for m in re.finditer(r"^ *(\d+) +(\d+)  (\w+) ", text, re.M)]
     given = [line.split() for line in lines if line.startswith("tick ")]
-    expect(told == [(int(w[1]), int(w[2]), STATES[int(w[3])]) for w in given], "other ticks than fuse")
+    expect(told == [(int(w[1]), int(w[2]), STATES[int(w[3])]) for w in given], f"other ticks than fuse:\n{text[-1500:]}\n{lines[-3:]}")
 
 
 def explain_story():
@@ -265,7 +267,9 @@ def explain_damaged():
                 file.write(journal)
                 file.seek(0)
                 said = []
-                status = tool.tell(tool.Story(tool.Trace(str(TOP / "target/bin/trace"), file.fileno())), said.append)
+                trace = tool.Trace(str(TOP / "target/bin/trace"), file.fileno())
+                status = tool.tell(tool.Story(trace), said.append)
+                trace.feeder.join()  # it reads on after a refusal, and the file is closed next
             text, lines = "".join(said), fuse(bytes(journal))
             lines_as_fuse(text, lines)
             expect("other fault bits" not in text, text)
@@ -273,6 +277,75 @@ def explain_damaged():
             expect(status == (last[0] == "refused"), f"status {status} for {lines[-1]}")
             if status:
                 has(text, f"refused {last[1]}: ", f"is byte {last[2]}\n")
+
+
+class Page(html.parser.HTMLParser):
+    """The ticks' texts, the lengths of the states' runs, and whatever a page would fetch."""
+
+    def __init__(self, text):
+        super().__init__()
+        self.figures, self.runs, self.fetched, self.open = [], [], [], []
+        self.json = False
+        self.feed(text)
+        self.close()
+
+    def handle_starttag(self, tag, attrs):
+        of = dict(attrs)
+        self.fetched += [value for key, value in attrs if key in ("src", "href") and value]
+        self.json = tag == "script" and of.get("type") == "application/json"
+        if "data-n" in of:
+            self.runs.append((int(of["class"][1:]), int(of["data-n"])))
+        if tag not in ("meta",):
+            self.open.append(tag)
+
+    def handle_endtag(self, tag):
+        expect(self.open and self.open.pop() == tag, f"</{tag}> closes another element")
+
+    def handle_data(self, data):
+        if self.json:
+            self.figures.append(json.loads(data))
+            self.json = False
+
+
+def explain_page():
+    for given in (STORY, (TOP / "crates/trace/stdin").read_bytes(), made("settings\nreset\noutcome\ntick\noutcome\noutcome")):
+        file = OUT / "page.html"
+        status, out, said = explain(given, "--html", file)
+        lines = fuse(given)
+        expect(status == lines[-1].startswith("refused") and not out + said, f"status {status}, said {out}{said}")
+        page = Page(file.read_text())
+        expect(not page.open and not page.fetched, f"open {page.open}, fetched {page.fetched}")
+        ticks = [line.split() for line in lines if line.startswith("tick ")]
+        heads = [f"seq {w[1]}, t {w[2]}: {STATES[int(w[3])]}, " for w in ticks]
+        texts = [text for figure in page.figures for text in figure]
+        expect(len(heads) == len(texts) and all(text.startswith(head) for head, text in zip(heads, texts)), "other ticks than fuse")
+        states = [state for state, n in page.runs for _ in range(n)]
+        expect(states == [int(w[3]) for w in ticks], "another band of states than fuse")
+        has(file.read_text(), "refused 9: a second one" if status else "end: ")
+
+
+def explain_page_of_a_long_journal():
+    file = OUT / "page.html"
+    status, _, said = explain(STORY[:221] + STORY[221:] * 3400, "--html", file)
+    texts = [text for figure in Page(file.read_text()).figures for text in figure]
+    expect(status == 0 and len(texts) == 20000, f"{len(texts)} ticks, {said}")
+    has(file.read_text(), "The first 20800 ticks are left out")
+
+
+def explain_page_that_fails():
+    file = OUT / "kept.html"
+    file.write_text("as before")
+    status, _, said = explain(STORY, "--html", file, "--trace", "/bin/false")
+    expect(status == 2 and file.read_text() == "as before" and sorted(OUT.glob("kept*")) == [file], said)
+    status, _, said = explain(STORY, "--html", "/dev/full/page.html")
+    expect(status == 2 and "Traceback" not in said, said)
+
+
+def explain_picture():
+    file = OUT / "story.svg"
+    status, _, said = explain(STORY, "--svg", file)
+    expect(status == 0 and not said, said)
+    expect(file.read_text() == (TOP / "docs/story.svg").read_text(), "another picture than docs/story.svg: tools/explain examples/story.journal --svg docs/story.svg makes it")
 
 
 # ---- tools/journal
