@@ -437,6 +437,97 @@ def journal_memory():
     expect(large < small + 4096, f"write: {small} kB for 2 kB of text, {large} kB for 700 kB")
 
 
+# ---- tools/settings
+
+GOOD = "settings watchdog=1 "
+WARNINGS = [
+    ("mode=observe", "mode is Observe"),
+    ("dt=0", "dt is 0.0"),
+    ("dt=-0.05 inv_dt=-20 kind=ee_delta", "braking speeds the arm up"),
+    ("inv_dt=50", "dt x inv_dt is 2.5 and not 1"),
+    ("a_max=-1", "a_max is -1.0: a negative deceleration"),
+    ("a_max=0 kind=joint_velocity", "never slows the arm"),
+    ("v_stop_eps=-0.01", "no standstill is ever found"),
+    ("warn_margin=-1", "no warning ever comes"),
+    ("tau=inf", "no score is a hit"),
+    ("tau=-inf", "every score is a hit"),
+    ("watchdog=2", "watchdog is 2"),
+    ("brake=0", "every stop ends in Fault at its second tick"),
+    ("brake=3 confirm=4", "confirm is 4, above brake (B) 3"),
+    ("max_rearms=0", "with max_rearms 0"),
+    ("rearm_hold=31", "rearm_hold 31 above hold (H) 30"),
+    ("hold=0 rearm=ack_only", "Held escalates at its first tick"),
+    ("handoff=0", "Escalated terminates at its first tick"),
+    ("k=0", "k is 0"),
+    ("k=6", "k is 6, and the window keeps 5 ticks"),
+    ("window=0x1d", "window is 0x1d"),
+    ("streak=0", "streak is 0"),
+    ("tier0=0x7e", "tier0 lacks workspace:"),
+    ("pos_dim=2", "dim is 1 and pos_dim 2"),
+    ("box_lo=0 box_hi=0", "no room in axis 0:"),
+]
+
+
+def settings(text, *words):
+    done = run("tools/settings", *words, given=text if isinstance(text, bytes) else text.encode())
+    expect(b"Traceback" not in done.stderr, done.stderr)
+    return done.returncode, done.stdout.decode(), done.stderr.decode()
+
+
+def settings_good():
+    for given in (GOOD, "# a comment\n\n" + GOOD + "# one\nreset\nnonsense", made(GOOD + "\nreset")):
+        status, out, said = settings(given, "--strict", "--start", "2026-03-01T06:30")
+        expect(status == 0 and "warning" not in out and not said, out + said)
+        has(out, "accepted", "= 30 + 30 + 200 + 2 = 262 ticks, 13.1 s\n", "6.805 years after a reset: 2032-12-19 18:49;")
+
+
+def settings_warnings():
+    for text, words in WARNINGS:
+        line = "settings " + ("" if "watchdog" in text else "watchdog=1 ") + text
+        status, out, _ = settings(line)
+        found = [one for one in out.splitlines() if one.startswith("warning: ")]
+        expect(status == 0 and len(found) == 1, f"{text}: status {status}, {found}")
+        has(found[0], words)
+        expect(settings(line, "--strict")[0] == 1, f"{text}: --strict")
+
+
+def settings_that_warnings_tell_true():
+    """Standstill from the first tick on: with confirm above B the stop ends in Fault, with confirm at B in Held; rearm_hold at H still rearms."""
+    stop = "chunk\nvalue chunk 0\nvalue pos 0\noutcome feasible=0\ntick\n"
+
+    def states(line, ticks):
+        rest = "".join(f"chunk seq={t} t_emit={t}\nvalue chunk 0\nvalue pos 0\noutcome\ntick t={t}\n" for t in range(1, ticks))
+        return [one.split()[3] for one in fuse(made(line + "\nreset\n" + stop + rest))[:-1]]
+
+    expect(states("settings brake=3 confirm=4", 9) == list("444477777"), "confirm above B")
+    expect(states("settings brake=3 confirm=3", 5)[3] == "5", "confirm at B")
+    expect(states("settings brake=0", 3) == list("477"), "B 0")
+    expect("1" in states("settings confirm=1 hold=3 rearm_hold=3", 9), "rearm_hold at H")
+    expect("1" not in states("settings confirm=1 hold=3 rearm_hold=4", 9), "rearm_hold above H")
+
+
+def settings_refused():
+    for number, text in ((1, "kind=9"), (2, "horizon=0"), (3, "dt=nan"), (3, "inv_dt=inf"), (4, "box_lo=2"), (1, "mode=2 dim=0 dt=nan")):
+        status, out, _ = settings("settings " + text)
+        expect(status == 1, f"{text}: status {status}")
+        has(out, f"refused {number}: ")
+
+
+def settings_failures():
+    for given, words, what in (
+        (b"", (), "there is no line `settings`"),
+        (b"settings dimm=1", (), "line 1: settings: expected NAME=VALUE"),
+        (STORY[:100], (), "the settings record is cut: 100 of 221 bytes"),
+        (b"\xff\xfe", (), "neither text nor a journal"),
+        (b"settings", ("--start", "tomorrow"), "expected a date"),
+        (b"settings", ("--fuse", "/bin/false"), "neither end nor refused"),
+        (b"", ("target/tools/there-is-no-such-file",), "No such file"),
+    ):
+        status, _, said = settings(given, *words)
+        expect(status == 2, f"status {status}, {said}")
+        has(said, what)
+
+
 def main(words):
     failed = 0
     checks = [(name, it) for name, it in globals().items() if callable(it) and name.startswith(("explain_", "journal_", "settings_"))]
