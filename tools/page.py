@@ -1,4 +1,7 @@
-"""The picture of tools/explain: one self-contained page, for each episode a band of states over t, the stops, the margin, the score, the trips and the acknowledgements."""
+"""The picture of tools/explain: one self-contained page.
+
+For each episode it has a band of states over t, the stops, margin, score, trips and acknowledgements.
+"""
 
 import html
 import json
@@ -91,7 +94,7 @@ class Pages:
 
 
 def stops_of(ticks):
-    """(first, last or None, length) of each stop, by the place of its ticks. One that began before the first tick shown has no first."""
+    """(first, last, length) of each stop; no first where it began earlier, no last where it is open."""
     found, first = [], None
     for i, it in enumerate(ticks):
         if it.opens:

@@ -1,4 +1,4 @@
-"""The records of a journal as bytes and as text, by docs/JOURNAL.md; what tools/journal, tools/explain and tools/settings share."""
+"""The records of a journal as bytes and as text (docs/JOURNAL.md), for the tools beside this file."""
 
 import re
 import struct
@@ -10,7 +10,7 @@ REARM = ["auto", "ack_only"]
 DECISION = ["resume", "abort", "retune"]
 LIST = ["chunk", "pos", "vel", "aux", "ext"]
 
-# kind: (name, fields); a field: (name, bytes of the number, or a list of names, or ("f", count), default)
+# kind: (name, fields); a field: (name, bytes, or a list of names, or ("f", count), default)
 RECORDS = {
     1: ("settings", [
         ("mode", MODE, "enforce"), ("kind", KIND, "ee_position"), ("clamp", CLAMP, "project"), ("rearm", REARM, "auto"),
@@ -144,7 +144,7 @@ def shown(form, b):
 
 
 def text(b, defaults=False):
-    """The line of a record; bytes that are none are `raw`. Fields that have their default are left out, or shown too."""
+    """The line of a record, or `raw`; fields that have their default are left out, or shown too."""
     if SIZE.get(b[0]) != len(b):
         return "raw " + b.hex()
     name, fields = RECORDS[b[0]]
@@ -171,7 +171,10 @@ def values(b):
 
 
 def stream(parts):
-    """The records of a journal that comes in parts of any size: (place, bytes). From the first kind that is none, or the body that is cut, what is left comes as it is, in parts."""
+    """The records of a journal that comes in parts: (place, bytes).
+
+    From the first bytes that are no whole record on, what is left comes as it is, in parts.
+    """
     rest, base = b"", 0
     parts = iter(parts)
     for part in parts:

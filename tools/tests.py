@@ -70,7 +70,7 @@ CHUNK = "chunk horizon=2 exec=2\nvalue chunk 0\nvalue chunk 0\n"
 FIRST = CHUNK + "value pos 0\noutcome\ntick\n"
 NEXT = "value pos 0\noutcome\n"
 
-# the rules of docs/JOURNAL.md, What makes a tick clean: a text that breaks one, and the words of its last tick
+# What makes a tick clean (docs/JOURNAL.md): a text that breaks a rule, and the words for it
 FAULTS = [
     (FIRST + NEXT + "tick t=1 idx=1 schema=1", "the host told a fault itself (schema_fault 1)"),
     (CHUNK + NEXT + "tick t=1 idx=1", "t is 1, the first one after a reset is 0"),
@@ -139,7 +139,7 @@ REFUSALS = [
 
 
 def lines_as_fuse(text, lines):
-    """Every line `tick` of fuse has its line in the text, with the same number, time, state and reason."""
+    """Every line `tick` of fuse has its line in the text, with the same number, time and state."""
     told = [(int(m[1]), int(m[2]), m[3]) for m in re.finditer(r"^ *(\d+) +(\d+)  (\w+) ", text, re.M)]
     given = [line.split() for line in lines if line.startswith("tick ")]
     expect(told == [(int(w[1]), int(w[2]), STATES[int(w[3])]) for w in given], f"other ticks than fuse:\n{text[-1500:]}\n{lines[-3:]}")
@@ -254,7 +254,7 @@ def explain_memory():
 
 
 def explain_damaged():
-    """Journals with changed, lost and doubled bytes: the same end as fuse, the same ticks, no dispute."""
+    """Journals with changed, lost and doubled bytes: the ticks and the end of fuse."""
     tool, rng = module("explain"), random.Random(29)
     for base in (STORY, (TOP / "crates/trace/stdin").read_bytes()):
         for _ in range(120):
@@ -492,7 +492,7 @@ def settings_warnings():
 
 
 def settings_that_warnings_tell_true():
-    """Standstill from the first tick on: with confirm above B the stop ends in Fault, with confirm at B in Held; rearm_hold at H still rearms."""
+    """With standstill from the first tick on, fuse does what the warnings say, and not one tick off."""
     stop = "chunk\nvalue chunk 0\nvalue pos 0\noutcome feasible=0\ntick\n"
 
     def states(line, ticks):

@@ -1,9 +1,11 @@
-/* A host that calls the fuse with whatever comes, and records its calls: for the test of the recorder.
+/* A host for the test of the recorder: calls the fuse with whatever comes, and records its calls.
  *
  *     random SEED TICKS RECORD
  *
- * Prints the lines of `fuse` without the margin. Settings are random and accepted; most ticks are clean, and any field may be wrong: flags that are neither 0
- * nor 1, lists of wrong lengths, of which some are too long for a journal, values that are not finite. hosts/rust/examples/random.rs makes the same calls. */
+ * Prints the lines of `fuse` without the margin.
+ * Settings are random and accepted; most ticks are clean, and any field may be wrong.
+ * There are flags of any number, lists too long for a journal and values that are not finite.
+ * hosts/rust/examples/random.rs makes the same calls. */
 #include "recorder.h"
 
 #include <inttypes.h>
@@ -39,7 +41,7 @@ typedef struct {
 } list;
 
 static void fill(list *l, size_t n) {
-    l->n = one_in(150) ? below(ROOM) : one_in(150) ? below(20) : n;
+    l->n = one_in(100) ? n + 1 + below(20) : one_in(150) ? below(ROOM) : one_in(150) ? below(20) : n;
     for (size_t i = 0; i < l->n; i++) {
         l->x[i] = value();
     }
@@ -52,7 +54,7 @@ static disklorva_settings settings(void) {
     s.kind = (uint8_t)below(5);
     s.clamp = one_in(4) ? 0 : 1;
     s.rearm = (uint8_t)below(2);
-    s.dim = (uint8_t)(1 + below(8));
+    s.dim = (uint8_t)(one_in(3) ? 8 : 1 + below(8));
     s.pos_dim = (uint8_t)(1 + below(8));
     s.k = (uint8_t)(1 + below(4));
     s.clear_ticks = (uint8_t)below(4);
@@ -60,7 +62,7 @@ static disklorva_settings settings(void) {
     s.stop_confirm_ticks = (uint8_t)below(3);
     s.watchdog_ticks = (uint8_t)below(3);
     s.max_rearms = (uint8_t)below(4);
-    s.horizon = (uint16_t)(one_in(4) ? 64 : 1 + below(64));
+    s.horizon = (uint16_t)(one_in(3) ? 64 : 1 + below(64));
     s.exec = s.horizon;
     s.max_clamps_per_episode = (uint16_t)below(20);
     s.brake_timeout_ticks = (uint16_t)(1 + below(6));

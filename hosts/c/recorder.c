@@ -4,7 +4,7 @@
 
 enum { SETTINGS = 1, RESET, ACK, CHUNK_HEAD, VALUE, OUTCOME, TICK };
 
-/* The most that one call writes: an acknowledgement, a chunk head, 512 + 4 * 16 values, an outcome and a tick. */
+/* The most that one call writes: acknowledgement, chunk head, values, outcome and tick. */
 enum { MOST = 15 + 15 + (512 + 4 * 16) * 10 + 258 + 10 };
 
 typedef struct {
@@ -72,9 +72,10 @@ static void put_value(page *p, int list, double x) {
     put_float(p, x);
 }
 
-/* A list of a journal has room for 16 values, that of the chunk for 512. A longer one is a fault by its length, and perhaps by a value that is not finite:
- * its first values are kept, and of the others one, which is not finite where there is such a one. 511 values are the length of no chunk, whose horizon is at
- * most 64 and whose dim at most 8. */
+/* A journal has room for 16 values of a list, and for 512 of the chunk.
+ * A longer list is a fault by its length, and perhaps by a value that is not finite.
+ * So its first values are kept, and one of the others: one that is not finite, if there is any.
+ * 511 values are the length of no chunk: a horizon is at most 64 and a dim at most 8. */
 static void put_list(page *p, int list, const double *x, size_t n) {
     size_t room = list == 0 ? 512 : 16;
     size_t first = n <= room ? n : list == 0 ? 510 : 15;

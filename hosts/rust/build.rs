@@ -1,4 +1,4 @@
-//! Finds the static library: in the folder `lib` of this crate, as the release archive has it, or where `rt staticlib host_c` writes it in the repository.
+//! Finds the static library: in this crate's folder `lib`, or in the repository's target.
 //! A folder of another name is given by DISKLORVA_LIB.
 
 use std::{env, path::PathBuf};

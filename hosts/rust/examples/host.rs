@@ -2,8 +2,10 @@
 //!
 //!     host [--trace] [--record FILE] [JOURNAL]       from standard input where no file is named
 //!
-//! Prints the lines of the program `fuse`; with --trace, after each tick, every field of the verdict and of the run state. With --record the calls are
-//! written to FILE as a journal (`disklorva::recorder`). The exit status is 2 where reading, printing or recording failed.
+//! Prints the lines of the program `fuse`.
+//! With --trace, after each tick, every field of the verdict and of the run state.
+//! With --record the calls are written to FILE as a journal (`disklorva::recorder`).
+//! The exit status is 2 where reading, printing or recording failed.
 //! A controller has its sensors where this host has a journal.
 
 use disklorva::recorder::Recorder;
@@ -131,7 +133,7 @@ struct Recorded {
     record: Option<Recorder<io::BufWriter<File>>>,
 }
 
-/// The host: its fuse, once the settings have come, what waits, and until then where the calls are to be recorded.
+/// The host: its fuse, once the settings have come, what waits, and where the calls are recorded.
 #[derive(Default)]
 struct Host {
     fuse: Option<Recorded>,

@@ -1,8 +1,9 @@
-//! A host that calls the fuse with whatever comes, and records its calls: for the test of the recorder.
+//! A host for the test of the recorder: calls the fuse with whatever comes, and records its calls.
 //!
 //!     random SEED TICKS RECORD
 //!
-//! Prints the lines of `fuse` without the margin. It makes the calls of hosts/c/random.c, so that the two records have to be one.
+//! Prints the lines of `fuse` without the margin.
+//! It makes the calls of hosts/c/random.c, so that the two records have to be one.
 
 use disklorva::recorder::Recorder;
 use disklorva::{ffi, Ack, Chunk, Input, Lists, Outcome, Settings};
@@ -46,7 +47,9 @@ impl Numbers {
     }
 
     fn list(&mut self, usual: u64) -> Vec<f64> {
-        let n = if self.one_in(150) {
+        let n = if self.one_in(100) {
+            usual + 1 + self.below(20)
+        } else if self.one_in(150) {
             self.below(600)
         } else if self.one_in(150) {
             self.below(20)
@@ -63,7 +66,7 @@ impl Numbers {
             kind: self.below(5) as u8,
             clamp: (!self.one_in(4)).into(),
             rearm: self.below(2) as u8,
-            dim: 1 + self.below(8) as u8,
+            dim: if self.one_in(3) { 8 } else { 1 + self.below(8) as u8 },
             pos_dim: 1 + self.below(8) as u8,
             k: 1 + self.below(4) as u8,
             clear_ticks: self.below(4) as u8,
@@ -71,7 +74,7 @@ impl Numbers {
             stop_confirm_ticks: self.below(3) as u8,
             watchdog_ticks: self.below(3) as u8,
             max_rearms: self.below(4) as u8,
-            horizon: if self.one_in(4) { 64 } else { 1 + self.below(64) as u16 },
+            horizon: if self.one_in(3) { 64 } else { 1 + self.below(64) as u16 },
             exec: 0,
             max_clamps_per_episode: self.below(20) as u16,
             brake_timeout_ticks: 1 + self.below(6) as u16,

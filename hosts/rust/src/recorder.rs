@@ -1,7 +1,8 @@
-//! Writes a host's calls as a journal, which the program `fuse` replays to the same verdicts (docs/JOURNAL.md).
+//! Writes a host's calls as a journal, which the program `fuse` replays to the same verdicts.
 //!
-//! A journal begins with settings that were accepted; then come each reset and each tick, in the order of the calls. New settings need a new journal. Where
-//! writing fails the journal is cut within a record, and all before it is good.
+//! Settings that were accepted come first, then each reset and each tick.
+//! New settings need a new journal.
+//! Where writing fails the journal is cut within a record, and all before it is good.
 
 use crate::{Input, Lists, Outcome, Settings, Tick};
 use std::io::{self, Write};
@@ -14,7 +15,7 @@ const VALUE: u8 = 5;
 const OUTCOME: u8 = 6;
 const TICK: u8 = 7;
 
-/// A journal that is being written. Each call is one `write_all`; flush as often as no more than that may be lost.
+/// A journal that is being written, with one `write_all` a call; the host decides when to flush.
 #[derive(Debug)]
 pub struct Recorder<W: Write> {
     to: W,
@@ -34,9 +35,10 @@ fn put_floats(page: &mut Vec<u8>, floats: &[f64]) {
     }
 }
 
-/// A list of a journal has room for 16 values, that of the chunk for 512. A longer one is a fault by its length, and perhaps by a value that is not finite:
-/// its first values are kept, and of the others one, which is not finite where there is such a one. 511 values are the length of no chunk, whose horizon is
-/// at most 64 and whose dim at most 8.
+/// A journal has room for 16 values of a list, and for 512 of the chunk.
+/// A longer list is a fault by its length, and perhaps by a value that is not finite.
+/// So its first values are kept, and one of the others: one that is not finite, if there is any.
+/// 511 values are the length of no chunk: a horizon is at most 64 and a dim at most 8.
 fn put_list(page: &mut Vec<u8>, list: u8, values: &[f64]) {
     let room = if list == 0 { 512 } else { 16 };
     let (first, rest) = values.split_at(match list {
@@ -77,7 +79,8 @@ impl<W: Write> Recorder<W> {
         self.call(&tick.input(), &tick.outcome, &tick.lists())
     }
 
-    /// A tick of `tick_lent`. What the library does not look at is not written, and a flag is written as it is taken.
+    /// A tick of `tick_lent`.
+    /// What the library does not look at is not written, and a flag is written as it is taken.
     pub fn call(&mut self, input: &Input, o: &Outcome, lists: &Lists) -> io::Result<()> {
         let page = &mut self.page;
         if input.has_ack == 1 && input.ack.decision <= 2 {
