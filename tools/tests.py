@@ -8,6 +8,7 @@ import os
 import pathlib
 import random
 import re
+import shutil
 import subprocess
 import sys
 import tempfile
@@ -24,6 +25,10 @@ STATES = "Idle Armed Watching Clamped Braking Held Escalated Fault Terminated".s
 
 class Wrong(Exception):
     """What a check found wrong."""
+
+
+class Skipped(Exception):
+    """What a check lacks."""
 
 
 def run(*words, given=b"", **more):
@@ -324,6 +329,39 @@ def explain_page():
         has(file.read_text(), "refused 9: a second one" if status else "end: ")
 
 
+# What a browser gives the page's script: here each figure with its ticks, and what it listens to.
+STAGE = """
+const text = require('fs').readFileSync(0, 'utf8');
+const listens = {}, mark = { set: {}, setAttribute(k, v) { this.set[k] = v; } }, said = { textContent: '' };
+const plot = { dataset: { step: text.match(/data-step="([^"]+)"/)[1] }, querySelector: () => mark, parentElement: { scrollLeft: 0, clientWidth: 50 },
+  addEventListener: (name, f) => { listens[name] = f; }, getBoundingClientRect: () => ({ left: 100 }) };
+const data = { textContent: text.match(/<script type="application\\/json">([^]*?)<\\/script>/)[1] };
+const figure = { querySelector: (q) => ({ script: data, 'svg.plot': plot, output: said })[q] };
+global.document = { querySelectorAll: () => [figure] };
+eval(text.match(/<script>([^]*?)<\\/script>/)[1]);
+const step = Number(plot.dataset.step), told = [];
+const tell = () => told.push(said.textContent.split(':')[0], Math.round(mark.set.x / step));
+listens.pointermove({ clientX: 100 + 8.5 * step }); tell();
+listens.pointerdown({ clientX: 100 + 2.5 * step }); tell();
+listens.keydown({ key: 'ArrowRight', preventDefault() {} }); tell();
+listens.pointermove({ clientX: 99999 }); tell();
+listens.keydown({ key: 'PageUp', preventDefault() {} }); tell();
+console.log(JSON.stringify(told));
+"""
+
+
+def explain_page_shows_a_tick():
+    """The page's script, with node in place of a browser: pointing, tapping and keys show the tick."""
+    if not shutil.which("node"):
+        raise Skipped("no node")
+    file = OUT / "page.html"
+    explain(STORY, "--html", file)
+    done = run("node", "-e", STAGE, given=file.read_bytes())
+    expect(done.returncode == 0, done.stderr.decode())
+    told = [part for n in (8, 2, 3, 11, 0) for part in (f"seq {n}, t {n}", n)]
+    expect(json.loads(done.stdout) == told, done.stdout)
+
+
 def explain_page_of_a_long_journal():
     file = OUT / "page.html"
     status, _, said = explain(STORY[:221] + STORY[221:] * 3400, "--html", file)
@@ -463,7 +501,8 @@ WARNINGS = [
     ("window=0x1d", "window is 0x1d"),
     ("streak=0", "streak is 0"),
     ("tier0=0x7e", "tier0 lacks workspace:"),
-    ("pos_dim=2", "dim is 1 and pos_dim 2"),
+    ("pos_dim=2", "dim is 1 and pos_dim 2: axes from dim on"),
+    ("dim=2", "dim is 2 and pos_dim 1: components of a hold"),
     ("box_lo=0 box_hi=0", "no room in axis 0:"),
 ]
 
@@ -538,6 +577,8 @@ def main(words):
         try:
             check()
             print(f"tools: ok, {what}", flush=True)
+        except Skipped as e:
+            print(f"tools: SKIPPED, {what}: {e}", flush=True)
         except Exception as e:  # a check that ends in any other way failed too
             failed = 1
             print(f"tools: FAILED, {what}\n{type(e).__name__}: {e}", flush=True)
