@@ -1,9 +1,12 @@
 /* An example host in C: takes the ticks of a journal and prints what the fuse says.
  *
- *     host [--trace] [JOURNAL]       from standard input where no file is named
+ *     host [--trace] [--record FILE] [JOURNAL]       from standard input where no file is named
  *
- * Prints the lines of the program `fuse`; with --trace, after each tick, every field of the verdict and of the lent run state.
- * A controller has its sensors where this host has a journal; the calls of the library are in journal.c. */
+ * Prints the lines of the program `fuse`.
+ * With --trace, after each tick, every field of the verdict and of the lent run state.
+ * With --record the calls are written to FILE as a journal (recorder.h).
+ * The exit status is 2 where reading, printing or recording failed.
+ * A controller has its sensors where this host has a journal; journal.c calls the library. */
 #include "journal.h"
 
 #include <inttypes.h>
@@ -225,10 +228,25 @@ static void run(host *h, const uint8_t *bytes, size_t n, int trace) {
     print_end(&h->rt.tally);
 }
 
+/* Closes a file that was written; what was still to be written may fail only here. */
+static int closed(FILE *file, int failed) {
+    failed |= ferror(file);
+    return fclose(file) || failed;
+}
+
 int main(int argc, char **argv) {
     static host h; /* zero: no settings yet, nothing collected */
-    int trace = argc > 1 && strcmp(argv[1], "--trace") == 0;
-    const char *name = argc > 1 + trace ? argv[1 + trace] : NULL;
+    int trace = 0;
+    const char *name = NULL, *record = NULL;
+    for (int i = 1; i < argc; i++) {
+        if (strcmp(argv[i], "--trace") == 0) {
+            trace = 1;
+        } else if (strcmp(argv[i], "--record") == 0 && i + 1 < argc) {
+            record = argv[++i];
+        } else {
+            name = argv[i];
+        }
+    }
     FILE *in = name ? fopen(name, "rb") : stdin;
     size_t n;
     uint8_t *bytes = in ? read_all(in, &n) : NULL;
@@ -236,7 +254,24 @@ int main(int argc, char **argv) {
         perror(name ? name : "standard input");
         return 2;
     }
+    if (name) {
+        fclose(in);
+    }
+    h.record = record ? fopen(record, "wb") : NULL;
+    if (record && !h.record) {
+        perror(record);
+        return 2;
+    }
     run(&h, bytes, n, trace);
     free(bytes);
-    return name && fclose(in) ? 2 : 0;
+    int failed = 0;
+    if (h.record && closed(h.record, h.record_failed)) {
+        perror(record);
+        failed = 1;
+    }
+    if (closed(stdout, 0)) {
+        perror("standard output");
+        failed = 1;
+    }
+    return failed ? 2 : 0;
 }

@@ -1,4 +1,5 @@
 #include "journal.h"
+#include "recorder.h"
 
 #include <string.h>
 
@@ -115,6 +116,14 @@ static disklorva_answer tick(host *h) {
                           h->count[AUX], h->list[EXT], h->count[EXT], h->list[CHUNK], h->count[CHUNK]);
 }
 
+/* The same call for the record, with the same arguments. */
+static int recorded_tick(const host *h) {
+    return record_tick(h->record, &h->input, &h->outcome, h->list[POS], h->count[POS], h->list[VEL], h->count[VEL], h->list[AUX], h->count[AUX],
+                       h->list[EXT], h->count[EXT], h->list[CHUNK], h->count[CHUNK]);
+}
+
+static void note(host *h, int failed) { h->record_failed |= failed; }
+
 /* The library tells whether it takes the settings: a tick of a run state that is thrown away. The answer's number depends on the settings alone. */
 static int take_settings(host *h, const uint8_t *body) {
     h->settings = settings(body);
@@ -124,6 +133,9 @@ static int take_settings(host *h, const uint8_t *body) {
     int refused = tick(h).number;
     h->rt = disklorva_new();
     h->has_settings = refused == 0;
+    if (h->record && h->has_settings) {
+        note(h, record_settings(h->record, &h->settings));
+    }
     return refused;
 }
 
@@ -153,6 +165,9 @@ static int take_tick(host *h, const uint8_t *p, int *ticked, disklorva_verdict *
     h->input.missed_ticks = u8(&p);
     h->input.schema_fault = u8(&p);
     h->input.has_vel = u8(&p);
+    if (h->record) {
+        note(h, recorded_tick(h));
+    }
     disklorva_answer a = tick(h);
     *verdict = a.verdict;
     *ticked = a.number == 0;
@@ -165,6 +180,9 @@ static int take(host *h, int kind, const uint8_t *body, int *ticked, disklorva_v
     case 1:
         return take_settings(h, body);
     case 2:
+        if (h->record) {
+            note(h, record_reset(h->record));
+        }
         disklorva_reset(&h->rt);
         empty(h);
         return 0;

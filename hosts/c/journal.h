@@ -2,7 +2,9 @@
 #ifndef JOURNAL_H
 #define JOURNAL_H
 
-#include "../disklorva.h"
+#include "disklorva.h"
+
+#include <stdio.h>
 
 enum { CHUNK, POS, VEL, AUX, EXT, LISTS, ROOM = 512 };
 
@@ -16,6 +18,8 @@ typedef struct {
     int has_outcome;
     double list[LISTS][ROOM];
     size_t count[LISTS];
+    FILE *record;      /* where the calls are recorded, or NULL */
+    int record_failed; /* a record was not written */
 } host;
 
 /* Takes the record that starts at bytes, of which n are left. Gives 0, or the number of a refusal; *used is the record's length, *ticked says whether

@@ -1,5 +1,5 @@
 /* Prints the place of every field, as hosts/layout.txt has it: type, field, offset, bytes; and the size of each type. */
-#include "../disklorva.h"
+#include "disklorva.h"
 
 #include <stdio.h>
 

@@ -1,5 +1,5 @@
 /* The smallest host, written from docs/HOST.md and the header alone: ten clean ticks of an arm with two axes. Prints t, state, reason and the action. */
-#include "../disklorva.h"
+#include "disklorva.h"
 
 #include <math.h>
 #include <stdio.h>
@@ -40,5 +40,5 @@ int main(void) {
         const disklorva_verdict *verdict = &answer.verdict; /* the drives get the first action_dim components of its action */
         printf("%u %d %d %g %g\n", (unsigned)verdict->t, verdict->state, verdict->reason, verdict->action[0], verdict->action[1]);
     }
-    return 0;
+    return fflush(stdout) || ferror(stdout) ? 2 : 0; /* a full disk is noticed here */
 }

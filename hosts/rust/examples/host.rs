@@ -1,13 +1,19 @@
 //! An example host in Rust: takes the ticks of a journal and prints what the fuse says.
 //!
-//!     host [--trace] [JOURNAL]       from standard input where no file is named
+//!     host [--trace] [--record FILE] [JOURNAL]       from standard input where no file is named
 //!
-//! Prints the lines of the program `fuse`; with --trace, after each tick, every field of the verdict and of the run state.
+//! Prints the lines of the program `fuse`.
+//! With --trace, after each tick, every field of the verdict and of the run state.
+//! With --record the calls are written to FILE as a journal (`disklorva::recorder`).
+//! The exit status is 2 where reading, printing or recording failed.
 //! A controller has its sensors where this host has a journal.
 
+use disklorva::recorder::Recorder;
 use disklorva::{ffi, Ack, Chunk, Fuse, Outcome, Settings, Tick, Verdict};
 use std::fmt::Write as _;
+use std::fs::File;
 use std::io::{self, Read, Write as _};
+use std::process::ExitCode;
 
 // ---- a journal's records
 
@@ -121,26 +127,74 @@ struct Waiting {
     lists: [Vec<f64>; 5],
 }
 
-/// The host: its fuse, once the settings have come, and what waits.
-#[derive(Default)]
-struct Host {
-    fuse: Option<Fuse>,
-    waiting: Waiting,
+/// The fuse and the record of its calls, where there is one.
+struct Recorded {
+    fuse: Fuse,
+    record: Option<Recorder<io::BufWriter<File>>>,
 }
 
-/// The number of a refusal.
-type Refusal = u8;
+/// The host: its fuse, once the settings have come, what waits, and where the calls are recorded.
+#[derive(Default)]
+struct Host {
+    fuse: Option<Recorded>,
+    waiting: Waiting,
+    record: Option<File>,
+}
+
+/// What ends a journal: the number of a refusal, or a record that could not be written.
+enum Stop {
+    Refused(u8),
+    Failed(io::Error),
+}
+
+impl From<u8> for Stop {
+    fn from(number: u8) -> Stop {
+        Stop::Refused(number)
+    }
+}
+
+impl From<io::Error> for Stop {
+    fn from(error: io::Error) -> Stop {
+        Stop::Failed(error)
+    }
+}
+
+impl Recorded {
+    fn new(settings: Settings, record: Option<File>) -> Result<Recorded, Stop> {
+        let fuse = Fuse::new(settings).map_err(|refused| refused.0)?;
+        let record = match record {
+            Some(file) => Some(Recorder::new(io::BufWriter::new(file), fuse.settings())?),
+            None => None,
+        };
+        Ok(Recorded { fuse, record })
+    }
+
+    fn reset(&mut self) -> io::Result<()> {
+        if let Some(record) = &mut self.record {
+            record.reset()?;
+        }
+        self.fuse.reset();
+        Ok(())
+    }
+
+    fn tick(&mut self, tick: &Tick) -> io::Result<Verdict> {
+        if let Some(record) = &mut self.record {
+            record.tick(tick)?;
+        }
+        Ok(self.fuse.tick(tick))
+    }
+}
 
 impl Host {
     /// Takes one record off the front: its length, and the verdict where it was a tick.
-    fn record(&mut self, bytes: &[u8]) -> Result<(usize, Option<Verdict>), Refusal> {
+    fn record(&mut self, bytes: &[u8]) -> Result<(usize, Option<Verdict>), Stop> {
         let kind = bytes[0];
         let length = *[220, 0, 14, 14, 9, 257, 9].get(usize::from(kind).wrapping_sub(1)).ok_or(5)?;
         let body = bytes.get(1..1 + length).ok_or(6)?;
         let verdict = match &mut self.fuse {
-            None if kind != 1 => return Err(8),
+            None if kind != 1 => return Err(Stop::Refused(8)),
             None => {
-                self.fuse = Some(Fuse::new(Body(body).settings()).map_err(|refused| refused.0)?);
+                self.fuse = Some(Recorded::new(Body(body).settings(), self.record.take())?);
                 None
             }
             Some(fuse) => self.waiting.record(fuse, kind, body)?,
@@ -150,10 +204,10 @@ impl Host {
 }
 
 impl Waiting {
-    fn record(&mut self, fuse: &mut Fuse, kind: u8, body: &[u8]) -> Result<Option<Verdict>, Refusal> {
+    fn record(&mut self, fuse: &mut Recorded, kind: u8, body: &[u8]) -> Result<Option<Verdict>, Stop> {
         match kind {
             2 => {
-                fuse.reset();
+                fuse.reset()?;
                 *self = Waiting::default();
             }
             3 if self.ack.is_none() => self.ack = Some(listed(body[0], 2, Body(body).ack())?),
@@ -165,28 +219,28 @@ impl Waiting {
                 *self = Waiting::default();
                 return Ok(Some(verdict));
             }
-            _ => return Err(9),
+            _ => return Err(Stop::Refused(9)),
         }
         Ok(None)
     }
 
-    fn value(&mut self, list: u8, x: f64) -> Result<(), Refusal> {
+    fn value(&mut self, list: u8, x: f64) -> Result<(), Stop> {
         let room = if usize::from(list) == CHUNK { 512 } else { 16 };
         let list = self.lists.get_mut(usize::from(list)).ok_or(1)?;
         if list.len() == room {
-            return Err(7);
+            return Err(Stop::Refused(7));
         }
         list.push(x);
         Ok(())
     }
 
-    fn tick(&self, fuse: &mut Fuse, mut body: Body) -> Result<Verdict, Refusal> {
+    fn tick(&self, fuse: &mut Recorded, mut body: Body) -> Result<Verdict, Stop> {
         let (t, idx, missed_ticks, schema, vel) = (body.u32(), body.u16(), body.u8(), body.u8(), body.u8());
         listed(schema.max(vel), 1, ())?;
         let of = |list: usize| self.lists[list].as_slice();
         let outcome = self.outcome.ok_or(10)?;
         if !of(CHUNK).is_empty() && self.head.is_none() || !of(VEL).is_empty() && vel == 0 {
-            return Err(10);
+            return Err(Stop::Refused(10));
         }
         Ok(fuse.tick(&Tick {
             t,
@@ -200,16 +254,16 @@ impl Waiting {
             chunk: self.head.map(|head| (head, of(CHUNK))),
             ack: self.ack,
             outcome,
-        }))
+        })?)
     }
 }
 
 /// A code or a flag up to the last that is listed.
-fn listed<T>(code: u8, last: u8, it: T) -> Result<T, Refusal> {
+fn listed<T>(code: u8, last: u8, it: T) -> Result<T, Stop> {
     if code <= last {
         Ok(it)
     } else {
-        Err(1)
+        Err(Stop::Refused(1))
     }
 }
 
@@ -315,36 +369,70 @@ fn trace(out: &mut String, v: &Verdict, rt: &ffi::RunState) {
         terminal_state;);
 }
 
-/// All lines for a journal.
-fn run(bytes: &[u8], traced: bool, mut write: impl FnMut(&str) -> io::Result<()>) -> io::Result<()> {
-    let mut host = Host::default();
+/// All lines for a journal, and the record of the calls where one is wanted.
+fn run(
+    bytes: &[u8],
+    traced: bool,
+    record: Option<File>,
+    mut write: impl FnMut(&str) -> io::Result<()>,
+) -> io::Result<()> {
+    let mut host = Host { record, ..Host::default() };
     let mut at = 0;
+    let mut refused = None;
     while at < bytes.len() {
         let (used, verdict) = match host.record(&bytes[at..]) {
             Ok(done) => done,
-            Err(number) => return write(&format!("refused {number} {at}\n")),
+            Err(Stop::Refused(number)) => {
+                refused = Some(number);
+                break;
+            }
+            Err(Stop::Failed(error)) => return Err(error),
         };
         at += used;
-        if let (Some(v), Some(fuse)) = (verdict, &host.fuse) {
+        if let (Some(v), Some(it)) = (verdict, &host.fuse) {
             let mut lines = tick_line(&v);
             if traced {
-                trace(&mut lines, &v, fuse.state());
+                trace(&mut lines, &v, it.fuse.state());
             }
             write(&lines)?;
         }
     }
-    write(&end_line(&host.fuse.map(|f| f.state().tally).unwrap_or_default()))
+    match refused {
+        Some(number) => write(&format!("refused {number} {at}\n"))?,
+        None => write(&end_line(&host.fuse.as_ref().map(|it| it.fuse.state().tally).unwrap_or_default()))?,
+    }
+    if let Some(record) = host.fuse.and_then(|it| it.record) {
+        record.into_inner().flush()?;
+    }
+    Ok(())
 }
 
-fn main() -> io::Result<()> {
-    let mut args: Vec<String> = std::env::args().skip(1).collect();
-    let traced = args.first().is_some_and(|a| a == "--trace");
+fn work() -> io::Result<()> {
+    let (mut traced, mut record, mut name) = (false, None, None);
+    let mut args = std::env::args().skip(1);
+    while let Some(arg) = args.next() {
+        match arg.as_str() {
+            "--trace" => traced = true,
+            "--record" => record = args.next().map(File::create).transpose()?,
+            _ => name = Some(arg),
+        }
+    }
     let mut bytes = Vec::new();
-    match args.drain(usize::from(traced)..).next() {
+    match name {
         Some(name) => bytes = std::fs::read(name)?,
         None => drop(io::stdin().lock().read_to_end(&mut bytes)?),
     }
     let mut out = io::BufWriter::new(io::stdout().lock());
-    run(&bytes, traced, |text| out.write_all(text.as_bytes()))?;
+    run(&bytes, traced, record, |text| out.write_all(text.as_bytes()))?;
     out.flush()
+}
+
+fn main() -> ExitCode {
+    match work() {
+        Ok(()) => ExitCode::SUCCESS,
+        Err(error) => {
+            eprintln!("host: {error}");
+            ExitCode::from(2)
+        }
+    }
 }

@@ -2,12 +2,28 @@
 //! `Fuse` does the host's part of it: it owns the run state, lets nobody change it, and keeps one settings record.
 
 pub mod ffi;
+pub mod recorder;
 
 pub use ffi::{Ack, Answer, Chunk, Input, Outcome, RunState, Settings, Verdict};
 
 /// The settings are refused: 1 a code that is not listed, 2 a size, 3 a float that is not finite, 4 a lower side of the box above its upper side.
 #[derive(Clone, Copy, Debug, PartialEq, Eq)]
 pub struct Refused(pub u8);
+
+impl std::fmt::Display for Refused {
+    fn fmt(&self, f: &mut std::fmt::Formatter<'_>) -> std::fmt::Result {
+        let cause = match self.0 {
+            1 => "a code that is not listed: mode, kind, clamp or rearm",
+            2 => "a size out of range: dim or pos_dim not 1 to 8, horizon not 1 to 64, exec not 1 to horizon",
+            3 => "a float that is not finite (tau: a NaN)",
+            4 => "a box_lo above its box_hi, in one of the 8 pairs",
+            _ => "a cause that is not known",
+        };
+        write!(f, "the settings are refused, number {}: {cause}", self.0)
+    }
+}
+
+impl std::error::Error for Refused {}
 
 /// The lists of a tick. Any lengths are taken: a wrong one is a fault of the tick, which the verdict tells.
 #[derive(Clone, Copy, Debug, Default)]

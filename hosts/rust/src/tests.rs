@@ -264,6 +264,13 @@ fn tick_has_what_was_given() {
 }
 
 #[test]
+fn refusals_say_their_cause() {
+    let refused = Fuse::new(Settings { dim: 9, ..settings() }).expect_err("a dim of 9 is refused");
+    let error: Box<dyn std::error::Error> = Box::new(refused);
+    assert!(error.to_string().starts_with("the settings are refused, number 2: a size out of range"));
+}
+
+#[test]
 fn sqrt_is_the_nearest() {
     let mut numbers = Numbers(3);
     for _ in 0..100000 {

@@ -1,0 +1,24 @@
+/* Writes a host's calls as a journal, which the program `fuse` replays to the same verdicts.
+ *
+ * The settings come first, once the library has accepted them; then each reset and each tick.
+ * New settings need a new file.
+ * Each function answers 0, or -1 where writing failed.
+ * A file whose writing failed is cut within a record, and all before it is good. */
+#ifndef RECORDER_H
+#define RECORDER_H
+
+#include "disklorva.h"
+
+#include <stdio.h>
+
+int record_settings(FILE *to, const disklorva_settings *settings);
+
+int record_reset(FILE *to);
+
+/* Takes what disklorva_tick is given.
+ * What the library does not look at is not written, and a flag is written as it is taken.
+ * A list that is too long for a journal is cut so that the tick is the same fault. */
+int record_tick(FILE *to, const disklorva_input *input, const disklorva_outcome *outcome, const double *pos, size_t pos_n, const double *vel, size_t vel_n,
+                const double *aux, size_t aux_n, const double *ext, size_t ext_n, const double *chunk, size_t chunk_n);
+
+#endif

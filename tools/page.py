@@ -1,0 +1,323 @@
+"""The picture of tools/explain: one self-contained page.
+
+For each episode it has a band of states over t, the stops, margin, score, trips and acknowledgements.
+"""
+
+import html
+import json
+import math
+
+MOST = 20000  # ticks that a page takes; of a longer journal it shows the last ones
+LANE = 16
+PLOT = 60
+LABELS = 112  # width of the names at the left
+
+# colours in light and in dark; a state's lane tells it too, so that none is told by colour alone
+COLOURS = {
+    "paper": ("#ffffff", "#14171a"),
+    "ink": ("#1c1f23", "#e6e8ea"),
+    "faint": ("#667080", "#98a2ae"),
+    "line": ("#e1e5ea", "#2b3138"),
+    "state1": ("#2f9e62", "#3fbf7a"),
+    "state2": ("#b8860b", "#d9a520"),
+    "state3": ("#d9730d", "#f08c2e"),
+    "state4": ("#c92a2a", "#ff6b6b"),
+    "state5": ("#7048b6", "#a583e8"),
+    "state6": ("#1c6fc4", "#58a6ff"),
+    "state7": ("#8b0f0f", "#ff4d4d"),
+    "state8": ("#4b5563", "#9aa5b1"),
+    "state0": ("#9aa5b1", "#5d6772"),
+    "span": ("#f3d9d9", "#4a2326"),
+}
+
+
+def style(scope):
+    light = ";".join(f"--{name}:{pair[0]}" for name, pair in COLOURS.items())
+    dark = ";".join(f"--{name}:{pair[1]}" for name, pair in COLOURS.items())
+    states = "".join(f".s{i}{{fill:var(--state{i})}}" for i in range(9))
+    return (
+        f"{scope}{{{light}}}@media(prefers-color-scheme:dark){{{scope}{{{dark}}}}}"
+        "text{font:11px system-ui,sans-serif;fill:var(--ink)}.faint{fill:var(--faint)}.rule{stroke:var(--line)}"
+        ".curve{fill:none;stroke:var(--state6);stroke-width:1.5}.dot{fill:var(--state6)}.limit{stroke:var(--state4);stroke-dasharray:4 3}"
+        f".hit,.trip{{fill:var(--state4)}}.span{{fill:var(--span)}}.spent{{fill:var(--state1)}}.lost{{fill:none;stroke:var(--state4);stroke-width:1.5}}{states}"
+    )
+
+
+class Episode:
+    def __init__(self, name):
+        self.name, self.ticks, self.totals, self.left_out = name, [], [], 0
+
+
+class Shown:
+    """What a picture needs of a tick."""
+
+    __slots__ = ("seq", "t", "state", "margin", "s", "tau", "trips", "ack", "opens", "closes", "text")
+
+
+class Pages:
+    """Collects the events of a journal for its page, the last MOST ticks of it."""
+
+    def __init__(self, names):
+        self.states, self.trips = names
+        self.episodes, self.count, self.bare, self.left_out = [], 0, 0, 0
+        self.settings, self.limit, self.last = "", 0, []
+
+    def begin(self, name):
+        if self.episodes and not self.episodes[-1].ticks:
+            self.episodes.pop()
+            self.bare += 1
+        self.episodes.append(Episode(name))
+
+    def tick(self, it, text):
+        one = Shown()
+        one.seq, one.t, one.state, one.margin, one.s, one.tau, one.trips = it.seq, it.t, it.state, it.margin, it.s, it.tau, it.trips
+        one.ack = None if it.ack is None else it.consumed
+        one.opens, one.closes, one.text = it.opens, it.closes, text
+        self.episodes[-1].ticks.append(one)
+        self.count += 1
+        if self.count >= 2 * MOST:
+            self.shorten()
+
+    def shorten(self):
+        while self.count > MOST:
+            first = self.episodes[0]
+            n = min(len(first.ticks), self.count - MOST)
+            del first.ticks[:n]
+            first.left_out += n
+            self.left_out += n
+            self.count -= n
+            if not first.ticks and len(self.episodes) > 1:
+                self.episodes.pop(0)
+
+
+# ---- one episode
+
+
+def stops_of(ticks):
+    """(first, last, length) of each stop; no first where it began earlier, no last where it is open."""
+    found, first = [], None
+    for i, it in enumerate(ticks):
+        if it.opens:
+            first = i
+        if it.closes is not None:
+            found.append((first, i, it.closes))
+            first = None
+    return found + ([(first, None, len(ticks) - 1 - first)] if first is not None else [])
+
+
+def number(x):
+    return f"{x:.4g}"
+
+
+class Picture:
+    """The shapes of an episode: names at the left, and the plot."""
+
+    def __init__(self, episode, limit, names):
+        self.ticks, self.limit = episode.ticks, limit
+        self.states, self.trip_names = names
+        n = len(self.ticks)
+        self.step = max(4.0, min(28.0, 860 / n))
+        self.width = math.ceil(n * self.step)
+        self.left, self.right, self.y = [], [], 4
+        self.band()
+        self.stops()
+        self.curve("margin, m", [it.margin for it in self.ticks], 0.0, "0", False)
+        tau = self.ticks[-1].tau
+        if any(math.isfinite(it.s) for it in self.ticks):
+            self.curve("score s", [it.s for it in self.ticks], tau if math.isfinite(tau) else None, "tau", True)
+        self.trips()
+        self.acks()
+        self.axis()
+
+    def x(self, i):
+        return round(i * self.step, 1)
+
+    def name(self, text, y, kind=""):
+        self.left.append(f'<text x="{LABELS - 8}" y="{y + 12}" text-anchor="end"{kind}>{html.escape(text)}</text>')
+
+    def rule(self, y):
+        self.right.append(f'<line class="rule" x1="0" x2="{self.width}" y1="{y}" y2="{y}"/>')
+
+    def runs(self, at):
+        """Neighbours with the same value: (first, number, value)."""
+        first = 0
+        for i in range(1, len(self.ticks) + 1):
+            if i == len(self.ticks) or at(self.ticks[i]) != at(self.ticks[first]):
+                yield first, i - first, at(self.ticks[first])
+                first = i
+
+    def band(self):
+        lanes = [state for state in range(9) if state or any(it.state == 0 for it in self.ticks)]
+        for row, state in enumerate(lanes):
+            self.name(self.states[state], self.y + row * LANE)
+            self.rule(self.y + row * LANE + LANE - 0.5)
+        for first, n, state in self.runs(lambda it: it.state):
+            y = self.y + lanes.index(state) * LANE + 2
+            self.right.append(f'<rect class="s{state}" data-n="{n}" x="{self.x(first)}" y="{y}" width="{round(n * self.step, 1)}" height="{LANE - 5}" rx="2"/>')
+        self.y += len(lanes) * LANE + 8
+
+    def stops(self):
+        found = stops_of(self.ticks)
+        if not found:
+            return
+        self.name("stops", self.y + 6)
+        free = -1.0
+        for first, last, length in found:
+            begin = self.x(first if first is not None else 0)
+            end = self.x((last if last is not None else len(self.ticks) - 1) + 1)
+            whole = min(self.width - begin, round((self.limit + 1) * self.step, 1)) if first is not None else end - begin
+            self.right.append(f'<rect class="span" x="{begin}" y="{self.y}" width="{max(whole, 0)}" height="9" rx="2"/>')
+            self.right.append(f'<rect class="s4" x="{begin}" y="{self.y}" width="{round(end - begin, 1)}" height="9" rx="2"/>')
+            text = f"{length} of {self.limit} ticks" + (", open" if last is None else "")
+            at = min(begin, self.width - 7.0 * len(text))
+            if at > free:
+                self.right.append(f'<text class="faint" x="{round(max(at, 0), 1)}" y="{self.y + 20}">{text}</text>')
+                free = at + 7.0 * len(text)
+        self.y += 32
+
+    def curve(self, what, values, limit, limit_name, dots):
+        known = [x for x in values if math.isfinite(x)] + ([limit] if limit is not None else [])
+        if not known:
+            return
+        low, high = min(known), max(known)
+        room = high - low
+        if not math.isfinite(room) or room == 0:
+            room = 1.0 if room == 0 else math.inf
+        place = lambda x: round(self.y + 4 + (PLOT - 8) * (1 - (0.5 if room == math.inf else min(max((x - low) / room, 0), 1))), 1)  # noqa: E731
+        self.name(what, self.y + PLOT / 2 - 8)
+        for x in {low, high}:
+            self.name(number(x), place(x) - 8, ' class="faint"')
+        if limit is not None:
+            y = place(limit)
+            self.right.append(f'<line class="limit" x1="0" x2="{self.width}" y1="{y}" y2="{y}"><title>{limit_name} {number(limit)}</title></line>')
+            self.right.append(f'<text class="faint" x="2" y="{y - 3}">{limit_name} {number(limit)}</text>' if dots else "")
+        path, marks, pen = [], [], "M"
+        for i, x in enumerate(values):
+            if not math.isfinite(x):
+                pen = "M"
+                continue
+            at = round(self.x(i) + self.step / 2, 1)
+            path.append(f"{pen}{at} {place(x)}")
+            pen = "L"
+            if dots or len(values) <= 200:
+                hit = dots and limit is not None and x > limit
+                marks.append(f'<circle class="{"hit" if hit else "dot"}" cx="{at}" cy="{place(x)}" r="{3 if hit else 2}"/>')
+        self.right += [f'<path class="curve" d="{"".join(path)}"/>', *marks]
+        self.y += PLOT + 8
+
+    def trips(self):
+        every = 0
+        for it in self.ticks:
+            every |= it.trips
+        for bit in range(32):
+            if every >> bit & 1:
+                self.name(self.trip_names[bit] if bit < len(self.trip_names) else f"bit {bit}", self.y)
+                self.rule(self.y + LANE - 0.5)
+                for first, n, on in self.runs(lambda it: it.trips >> bit & 1):
+                    if on:
+                        self.right.append(f'<rect class="trip" x="{self.x(first)}" y="{self.y + 3}" width="{round(n * self.step, 1)}" height="{LANE - 7}"/>')
+                self.y += LANE
+        self.y += 4 if every else 0
+
+    def acks(self):
+        if all(it.ack is None for it in self.ticks):
+            return
+        self.name("acknowledged", self.y)
+        for i, it in enumerate(self.ticks):
+            if it.ack is not None:
+                self.right.append(f'<circle class="{"spent" if it.ack else "lost"}" cx="{round(self.x(i) + self.step / 2, 1)}" cy="{self.y + 8}" r="4"/>')
+        self.y += LANE + 4
+
+    def axis(self):
+        self.rule(self.y)
+        self.name("t", self.y + 2, ' class="faint"')
+        free = -1.0
+        for i, it in enumerate(self.ticks):
+            if self.x(i) > free and i % 5 == 0:
+                wide = 7.0 * len(str(it.t))
+                if self.x(i) + wide > self.width and i:
+                    break
+                self.right.append(f'<text class="faint" x="{self.x(i)}" y="{self.y + 14}">{it.t}</text>')
+                free = self.x(i) + wide + 40
+        self.y += 22
+
+
+# ---- the page
+
+SCRIPT = """
+for (const figure of document.querySelectorAll('figure')) {
+  const ticks = JSON.parse(figure.querySelector('script').textContent);
+  const plot = figure.querySelector('svg.plot'), mark = plot.querySelector('.mark'), said = figure.querySelector('output');
+  const step = Number(plot.dataset.step);
+  let at = -1;
+  const show = (i) => {
+    at = Math.max(0, Math.min(ticks.length - 1, i));
+    mark.setAttribute('x', at * step);
+    mark.setAttribute('visibility', 'visible');
+    said.textContent = ticks[at];
+  };
+  const point = (event) => show(Math.floor((event.clientX - plot.getBoundingClientRect().left) / step));
+  plot.addEventListener('pointermove', point);
+  plot.addEventListener('pointerdown', point);
+  plot.addEventListener('keydown', (event) => {
+    const by = { ArrowLeft: -1, ArrowRight: 1, PageUp: -20, PageDown: 20 }[event.key];
+    if (by === undefined) return;
+    event.preventDefault();
+    show(at + by);
+    const box = plot.parentElement, x = at * step;
+    if (x < box.scrollLeft || x + step > box.scrollLeft + box.clientWidth) box.scrollLeft = x - box.clientWidth / 2;
+  });
+}
+"""
+
+LOOKS = """
+body{margin:0 auto;padding:16px;max-width:1080px;font:15px/1.45 system-ui,sans-serif;background:var(--paper);color:var(--ink)}
+h1{font-size:20px;margin:0 0 4px}h2{font-size:16px;margin:28px 0 8px}p{margin:4px 0}
+figure{margin:0}.picture{display:flex;border:1px solid var(--line);border-radius:6px}.picture>svg{flex:none}
+.scroll{overflow-x:auto;flex:1}svg{display:block}svg.plot{cursor:crosshair;touch-action:pan-x pan-y}svg.plot:focus{outline:2px solid var(--state6);outline-offset:-2px}
+.mark{fill:var(--ink);opacity:.14;pointer-events:none}
+output{display:block;min-height:3em;padding:6px 2px;font-size:14px;overflow-wrap:anywhere}
+ul{margin:0;padding-left:18px;color:var(--faint);font-size:14px}pre{white-space:pre-wrap;overflow-wrap:anywhere;font-size:13px}
+.key{color:var(--faint);font-size:13px}
+"""
+
+
+def figure(episode, limit, names):
+    it = Picture(episode, limit, names)
+    data = json.dumps([tick.text for tick in episode.ticks], ensure_ascii=False, separators=(",\n", ":")).replace("<", "\\u003c")
+    yield f'<figure><div class="picture"><svg width="{LABELS}" height="{it.y}" aria-hidden="true">{"".join(it.left)}</svg><div class="scroll">'
+    yield f'<svg class="plot" tabindex="0" role="img" aria-label="{len(episode.ticks)} ticks" data-step="{it.step}" width="{it.width}" height="{it.y}">'
+    yield from it.right
+    yield f'<rect class="mark" visibility="hidden" x="0" y="0" width="{it.step}" height="{it.y}"/></svg></div></div>'
+    yield f'<output>Point at a tick, tap it, or use the arrow keys.</output><script type="application/json">{data}</script></figure>'
+
+
+def page(pages, name):
+    """The text of the page, part by part."""
+    pages.shorten()
+    names = (pages.states, pages.trips)
+    title = html.escape(f"Journal {name}" if name else "Journal")
+    yield f'<!DOCTYPE html>\n<html lang="en"><head><meta charset="utf-8"><meta name="viewport" content="width=device-width,initial-scale=1"><title>{title}</title>'
+    yield f"<style>:root{{color-scheme:light dark}}{style(':root')}{LOOKS}</style></head><body>\n<h1>{title}</h1>\n<p>{html.escape(pages.settings)}</p>\n"
+    yield '<p class="key">Stops: the dark bar is the stop, the light one the ticks that it may take at most. Acknowledgements: a disc was consumed, a ring was not. '
+    yield "Dashes: margin 0, and tau.</p>\n"
+    if pages.left_out:
+        yield f"<p>The first {pages.left_out} ticks are left out: a page shows the last {MOST}. tools/explain without --html says all of them.</p>\n"
+    for episode in pages.episodes:
+        if not episode.ticks:
+            continue
+        more = f", without its first {episode.left_out} ticks" if episode.left_out else ""
+        yield f"<section><h2>{html.escape(episode.name)}{more}</h2>\n"
+        yield from figure(episode, pages.limit, names)
+        yield "<ul>" + "".join(f"<li>{html.escape(line)}</li>" for line in episode.totals) + "</ul></section>\n"
+    if pages.bare:
+        yield f"<p>Resets without a tick: {pages.bare}</p>\n"
+    yield "<h2>The end of the journal</h2>\n<pre>" + html.escape("\n".join(pages.last)) + f"</pre>\n<script>{SCRIPT}</script></body></html>\n"
+
+
+def svg(episode, limit, names):
+    """The picture of one episode alone."""
+    it = Picture(episode, limit, names)
+    yield f'<svg xmlns="http://www.w3.org/2000/svg" viewBox="0 0 {LABELS + it.width + 8} {it.y + 4}" width="{LABELS + it.width + 8}" height="{it.y + 4}">'
+    yield f'<style>{style("svg")}</style><rect width="100%" height="100%" fill="var(--paper)"/>\n'
+    yield "\n".join(it.left) + f'\n<g transform="translate({LABELS} 0)">\n' + "\n".join(it.right) + "\n</g></svg>\n"

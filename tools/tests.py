@@ -1,0 +1,589 @@
+"""The tests of tools/explain, tools/journal and tools/settings; tools/run runs them."""
+
+import html.parser
+import importlib.machinery
+import importlib.util
+import json
+import os
+import pathlib
+import random
+import re
+import shutil
+import subprocess
+import sys
+import tempfile
+
+TOP = pathlib.Path(__file__).resolve().parent.parent
+OUT = TOP / "target/tools"
+sys.dont_write_bytecode = True
+sys.path.insert(0, str(TOP / "tools"))
+import records  # noqa: E402
+
+STORY = (TOP / "examples/story.journal").read_bytes()
+STATES = "Idle Armed Watching Clamped Braking Held Escalated Fault Terminated".split()
+
+
+class Wrong(Exception):
+    """What a check found wrong."""
+
+
+class Skipped(Exception):
+    """What a check lacks."""
+
+
+def run(*words, given=b"", **more):
+    return subprocess.run([str(word) for word in words], input=given, capture_output=True, cwd=TOP, timeout=120, **more)
+
+
+def explain(journal, *words, **more):
+    done = run("tools/explain", *words, given=journal, **more)
+    return done.returncode, done.stdout.decode(), done.stderr.decode()
+
+
+def fuse(journal):
+    return run("target/bin/fuse", given=journal).stdout.decode().splitlines()
+
+
+def made(text):
+    """The journal of a text."""
+    words = (line.split("#")[0].split() for line in text.splitlines())
+    return b"".join(records.record(one) for one in words if one)
+
+
+def expect(true, what):
+    if not true:
+        raise Wrong(what)
+
+
+def has(text, *parts):
+    for part in parts:
+        expect(part in text, f"'{part}' is not in:\n{text}")
+
+
+def module(name):
+    loader = importlib.machinery.SourceFileLoader(name, str(TOP / "tools" / name))
+    found = importlib.util.module_from_spec(importlib.util.spec_from_loader(name, loader))
+    loader.exec_module(found)
+    return found
+
+
+# ---- tools/explain
+
+# settings, a reset and a first clean tick; more follows
+BEGIN = "settings horizon=2 exec=2 watchdog=1\nreset\n"
+CHUNK = "chunk horizon=2 exec=2\nvalue chunk 0\nvalue chunk 0\n"
+FIRST = CHUNK + "value pos 0\noutcome\ntick\n"
+NEXT = "value pos 0\noutcome\n"
+
+# What makes a tick clean (docs/JOURNAL.md): a text that breaks a rule, and the words for it
+FAULTS = [
+    (FIRST + NEXT + "tick t=1 idx=1 schema=1", "the host told a fault itself (schema_fault 1)"),
+    (CHUNK + NEXT + "tick t=1 idx=1", "t is 1, the first one after a reset is 0"),
+    (FIRST + NEXT + "tick t=2 idx=1", "t is 2, and 1 is due (the last was 0)"),
+    (FIRST + NEXT + "tick t=1 idx=1 missed=1", "t is 1, and 2 is due (the last was 0, 1 missed)"),
+    (CHUNK + NEXT + "tick t=4294967295\n" + NEXT + "tick t=0", "the clock ended: after t 4294967295 no t is right, and a reset is due"),
+    (NEXT + "tick", "no chunk came, and none was taken since the reset"),
+    (CHUNK.replace("chunk h", "chunk seq=1 h") + NEXT + "tick", "the chunk's number is 1, the next one is 0"),
+    (FIRST + CHUNK.replace("chunk h", "chunk t_emit=1 h") + NEXT + "tick t=1", "the chunk's number is 0, the next one is 1"),
+    ("chunk horizon=1 exec=2\nvalue chunk 0\n" + NEXT + "tick", "the chunk's horizon is 1, the settings' 2"),
+    ("chunk horizon=2 exec=2 dim=2\n" + "value chunk 0\n" * 4 + NEXT + "tick", "the chunk's dim is 2, the settings' 1"),
+    (CHUNK.replace("exec=2", "exec=1") + NEXT + "tick", "the chunk's exec_steps is 1, the settings' 2"),
+    ("chunk horizon=2 exec=2\nvalue chunk 0\n" + NEXT + "tick", "the chunk has 1 value, its horizon x dim is 2"),
+    (CHUNK.replace("chunk h", "chunk t_emit=1 h") + NEXT + "tick", "the chunk's t_emit 1 is after t 0"),
+    (FIRST + CHUNK.replace("chunk h", "chunk seq=1 t_emit=1 h") + NEXT + "tick t=1 idx=1", "idx is 1, t - t_emit is 0"),
+    (FIRST + NEXT + "tick t=1 idx=2", "idx is 2, not below horizon 2"),
+    (CHUNK + "outcome\ntick", "0 values of pos, pos_dim is 1"),
+    (CHUNK + "value vel 0\nvalue vel 0\n" + NEXT + "tick vel=1", "2 values of vel, pos_dim is 1"),
+    (CHUNK + "value aux 0\n" * 9 + NEXT + "tick", "9 values of aux, at most 8 are taken"),
+    (CHUNK + "value ext 0\n" * 5 + NEXT + "tick", "5 values of ext, at most 4 are taken"),
+    (CHUNK + "value pos inf\noutcome\ntick", "pos 0 is inf"),
+    (CHUNK + "value vel nan\n" + NEXT + "tick vel=1", "vel 0 is nan"),
+    (CHUNK + "value aux 0\nvalue aux -inf\n" + NEXT + "tick", "aux 1 is -inf"),
+    (CHUNK + "value ext nan\n" + NEXT + "tick", "ext 0 is nan"),
+    ("chunk horizon=2 exec=2\nvalue chunk 0\nvalue chunk nan\n" + NEXT + "tick", "row 1 of the chunk, component 0, is nan"),
+    (FIRST + NEXT + "tick t=3 idx=1 missed=2", "2 missed, watchdog_ticks is 1"),
+]
+
+# why an acknowledgement was not consumed; the story is held at t 5 and escalated, handoff 1, at t 7
+ACKS = [
+    (1, "ack", "the state was Armed, and only Held and Escalated take one"),
+    (5, "ack slot=8", "a slot is 0 to 7"),
+    (5, "ack handoff=1", "the current handoff number is 0"),
+    (5, "ack nonce=0", "the nonce must be above 0"),
+    (5, "ack decision=retune", "Retune has no effect in Held"),
+    (8, "ack handoff=0", "the current handoff number is 1"),
+    (10, "ack", "the tick has a fault bit"),
+]
+
+# the ten refusals: a text, and the words of the cause
+REFUSALS = [
+    (1, "settings mode=7", "mode is 7, and 0 to 1 are listed"),
+    (1, "settings\nack decision=3", "decision is 3, and 0 to 2 are listed"),
+    (1, "settings\nvalue list=5", "list is 5, and 0 to 4 are listed"),
+    (1, "settings\noutcome feasible=2", "feasible is 2, and 0 to 1 are listed"),
+    (1, "settings\noutcome\ntick vel=255", "vel is 255, and 0 to 1 are listed"),
+    (2, "settings dim=9", "dim is 9, not 1 to 8"),
+    (2, "settings horizon=4 exec=5", "exec is 5, not 1 to 4"),
+    (3, "settings inv_dt=inf", "inv_dt is inf"),
+    (3, "settings box_hi=1,1,inf,1", "box_hi 2 is inf"),
+    (3, "settings tau=nan", "tau is nan"),
+    (4, "settings box_lo=-1,-1,2,-1", "pair 2: box_lo 2 is above box_hi 1"),
+    (5, "settings\nreset\nraw 0800", "the kind is 8"),
+    (6, "settings\nreset\nraw 0700", "tick has 9 bytes of body, and 1 byte came"),
+    (7, "settings\nreset\n" + "value pos 0\n" * 17, "pos has its 16 values already"),
+    (8, "reset", "reset came first"),
+    (8, "outcome", "outcome came first"),
+    (2, "settings pos_dim=0\nreset\nreset\noutcome\ntick", "pos_dim is 0, not 1 to 8"),
+    (9, "settings\nack\nack\nreset\n" + "value pos 0\nreset\n" * 9, "ack came already, and no tick since"),
+    (9, "settings\nreset\nsettings", "settings came already"),
+    (9, "settings\nack\nvalue pos 0\nack", "ack came already, and no tick since"),
+    (10, "settings\nreset\ntick", "no outcome came since the last tick or reset"),
+    (10, "settings\nreset\noutcome\nvalue chunk 0\ntick", "1 chunk value but no chunk head"),
+    (10, "settings\nreset\noutcome\nvalue vel 0\ntick", "1 vel value but has_vel is 0"),
+]
+
+
+def lines_as_fuse(text, lines):
+    """Every line `tick` of fuse has its line in the text, with the same number, time and state."""
+    told = [(int(m[1]), int(m[2]), m[3]) for m in re.finditer(r"^ *(\d+) +(\d+)  (\w+) ", text, re.M)]
+    given = [line.split() for line in lines if line.startswith("tick ")]
+    expect(told == [(int(w[1]), int(w[2]), STATES[int(w[3])]) for w in given], f"other ticks than fuse:\n{text[-1500:]}\n{lines[-3:]}")
+
+
+def explain_story():
+    status, text, said = explain(STORY)
+    expect(status == 0 and not said, f"status {status}, said {said}")
+    expect(text == (TOP / "examples/story.words").read_text(), "other words than examples/story.words:\n" + text)
+
+
+def explain_every_reason():
+    journal = (TOP / "crates/trace/stdin").read_bytes()
+    status, text, said = explain(journal)
+    expect(status == 0 and not said and "other fault bits" not in text, f"status {status}, said {said}")
+    lines_as_fuse(text, fuse(journal))
+
+
+def explain_causes():
+    for more, words in FAULTS:
+        text = explain(made(BEGIN + more))[1]
+        last = [line for line in text.splitlines() if "fault tick: " in line][-1]
+        has(last, words)
+        expect("other fault bits" not in text, text)
+
+
+def explain_outcomes_fault():
+    text = explain(made(BEGIN + CHUNK + "value pos 0\noutcome trips=256\ntick"))[1]
+    has(text, "clean; chunk 0; trips SCHEMA; the outcome itself brought the fault bit")
+
+
+def explain_acknowledgements():
+    for t, ack, words in ACKS:
+        text = (TOP / "examples/story.txt").read_text()
+        text = re.sub(r"ack .*\n", "", text).replace("value pos nan", "ACK10\nvalue pos nan")
+        ticks = list(re.finditer(r"^tick t=%d\b" % t, text, re.M))
+        text = text[: ticks[0].start()] + ack + "\n" + text[ticks[0].start() :]
+        has(explain(made(text.replace("ACK10\n", "")))[1], "not consumed: " + words, "acknowledgements: 1 came, 0 consumed")
+
+
+def explain_refusals():
+    for number, text, words in REFUSALS:
+        journal = made(text)
+        last = fuse(journal)[-1].split()
+        expect(last[:2] == ["refused", str(number)], f"fuse says {last}")
+        status, said, _ = explain(journal)
+        expect(status == 1, f"status {status}")
+        at = sum(1 for place, _ in records.stream([journal]) if place <= int(last[2]))
+        has(said, f"refused {number}: ", words, f"record {at} of the journal, its kind byte is byte {last[2]}", "look for: ")
+        has(said, "the record: " + records.text(journal[int(last[2]) :][: records.SIZE.get(journal[int(last[2])], 300)], True))
+
+
+def explain_what_waits():
+    text = explain(made("settings\nreset\nack\nchunk\nvalue chunk 0\nvalue pos 0\noutcome\noutcome"))[1]
+    has(text, "what waits for a tick: 1 chunk, 1 pos, acknowledgement, chunk head, outcome")
+
+
+def explain_failures():
+    status, _, said = explain(b"")
+    expect((status, said) == (2, "explain: the journal is empty\n"), f"empty: {status} {said}")
+    status, _, said = explain(b"", "target/tools/there-is-no-such-file")
+    expect(status == 2 and "No such file" in said, said)
+    status, _, said = explain(b"", "target")
+    expect(status == 2 and "directory" in said, said)
+    status, _, said = explain(STORY, "--what")
+    expect(status == 2 and "--what is not known" in said, said)
+    status, text, _ = explain(b"", "--help")
+    expect(status == 0 and "Exit status" in text, text)
+    for program, words in (("/bin/false", "not whole"), ("target/tools/there-is-no-such-file", "No such file")):
+        status, _, said = explain(STORY, "--trace", program)
+        expect(status == 2 and words in said and "Traceback" not in said, said)
+    cut = OUT / "cut-trace"
+    cut.write_text("#!/bin/sh\ntarget/bin/trace | head -n 100\n")
+    cut.chmod(0o755)
+    status, _, said = explain(STORY, "--trace", cut)
+    expect(status == 2 and "not whole" in said and "Traceback" not in said, said)
+    cut.write_text("#!/bin/sh\ntarget/bin/trace | sed '$d'\necho 'trace: reading failed' >&2\n")
+    status, _, said = explain(STORY, "--trace", cut)
+    expect(status == 2 and "reading failed" in said and "Traceback" not in said, said)
+
+
+def explain_outputs():
+    if os.path.exists("/dev/full"):
+        with open("/dev/full", "w") as full:
+            done = subprocess.run(["tools/explain"], input=STORY, stdout=full, stderr=subprocess.PIPE, cwd=TOP, timeout=60)
+        expect(done.returncode == 2 and b"No space" in done.stderr and b"Traceback" not in done.stderr, done.stderr)
+    reader, writer = os.pipe()
+    os.close(reader)
+    done = subprocess.run(["tools/explain"], input=STORY, stdout=writer, stderr=subprocess.PIPE, cwd=TOP, timeout=60)
+    os.close(writer)
+    expect(done.returncode == 2 and b"Traceback" not in done.stderr, done.stderr)
+
+
+def peak(command, parts):
+    """The most memory that a command takes whose input comes in parts, in kB."""
+    with open(os.devnull, "wb") as sink:
+        child = subprocess.Popen([str(word) for word in command], stdin=subprocess.PIPE, stdout=sink, cwd=TOP)
+        for part in parts:
+            child.stdin.write(part)
+        child.stdin.close()
+        _, status, used = os.wait4(child.pid, 0)
+    child.returncode = status
+    expect(status == 0, f"status {status}")
+    return used.ru_maxrss
+
+
+def explain_memory():
+    head, episode = STORY[:221], STORY[221:]
+    small = peak(["tools/explain"], [head, episode * 30])
+    large = peak(["tools/explain"], [head, *[episode * 100] * 30])
+    expect(large < small + 4096, f"{small} kB for 100 kB, {large} kB for 10 MB")
+
+
+def explain_damaged():
+    """Journals with changed, lost and doubled bytes: the ticks and the end of fuse."""
+    tool, rng = module("explain"), random.Random(29)
+    for base in (STORY, (TOP / "crates/trace/stdin").read_bytes()):
+        for _ in range(120):
+            journal = bytearray(base)
+            for _ in range(rng.randrange(1, 4)):
+                at = rng.randrange(len(journal))
+                how = rng.randrange(3)
+                journal[at : at + rng.choice((1, 9, 10))] = [bytes([rng.randrange(256)]), b"", journal[at : at + 10] * 2][how]
+            with tempfile.TemporaryFile() as file:
+                file.write(journal)
+                file.seek(0)
+                said = []
+                trace = tool.Trace(str(TOP / "target/bin/trace"), file.fileno())
+                status = tool.tell(tool.Story(trace), said.append)
+                trace.feeder.join()  # it reads on after a refusal, and the file is closed next
+            text, lines = "".join(said), fuse(bytes(journal))
+            lines_as_fuse(text, lines)
+            expect("other fault bits" not in text, text)
+            last = lines[-1].split()
+            expect(status == (last[0] == "refused"), f"status {status} for {lines[-1]}")
+            if status:
+                has(text, f"refused {last[1]}: ", f"is byte {last[2]}\n")
+
+
+class Page(html.parser.HTMLParser):
+    """The ticks' texts, the lengths of the states' runs, and whatever a page would fetch."""
+
+    def __init__(self, text):
+        super().__init__()
+        self.figures, self.runs, self.fetched, self.open = [], [], [], []
+        self.json = False
+        self.feed(text)
+        self.close()
+
+    def handle_starttag(self, tag, attrs):
+        of = dict(attrs)
+        self.fetched += [value for key, value in attrs if key in ("src", "href") and value]
+        self.json = tag == "script" and of.get("type") == "application/json"
+        if "data-n" in of:
+            self.runs.append((int(of["class"][1:]), int(of["data-n"])))
+        if tag not in ("meta",):
+            self.open.append(tag)
+
+    def handle_endtag(self, tag):
+        expect(self.open and self.open.pop() == tag, f"</{tag}> closes another element")
+
+    def handle_data(self, data):
+        if self.json:
+            self.figures.append(json.loads(data))
+            self.json = False
+
+
+def explain_page():
+    for given in (STORY, (TOP / "crates/trace/stdin").read_bytes(), made("settings\nreset\noutcome\ntick\noutcome\noutcome")):
+        file = OUT / "page.html"
+        status, out, said = explain(given, "--html", file)
+        lines = fuse(given)
+        expect(status == lines[-1].startswith("refused") and not out + said, f"status {status}, said {out}{said}")
+        page = Page(file.read_text())
+        expect(not page.open and not page.fetched, f"open {page.open}, fetched {page.fetched}")
+        ticks = [line.split() for line in lines if line.startswith("tick ")]
+        heads = [f"seq {w[1]}, t {w[2]}: {STATES[int(w[3])]}, " for w in ticks]
+        texts = [text for figure in page.figures for text in figure]
+        expect(len(heads) == len(texts) and all(text.startswith(head) for head, text in zip(heads, texts)), "other ticks than fuse")
+        states = [state for state, n in page.runs for _ in range(n)]
+        expect(states == [int(w[3]) for w in ticks], "another band of states than fuse")
+        has(file.read_text(), "refused 9: a second one" if status else "end: ")
+
+
+# What a browser gives the page's script: here each figure with its ticks, and what it listens to.
+STAGE = """
+const text = require('fs').readFileSync(0, 'utf8');
+const listens = {}, mark = { set: {}, setAttribute(k, v) { this.set[k] = v; } }, said = { textContent: '' };
+const plot = { dataset: { step: text.match(/data-step="([^"]+)"/)[1] }, querySelector: () => mark, parentElement: { scrollLeft: 0, clientWidth: 50 },
+  addEventListener: (name, f) => { listens[name] = f; }, getBoundingClientRect: () => ({ left: 100 }) };
+const data = { textContent: text.match(/<script type="application\\/json">([^]*?)<\\/script>/)[1] };
+const figure = { querySelector: (q) => ({ script: data, 'svg.plot': plot, output: said })[q] };
+global.document = { querySelectorAll: () => [figure] };
+eval(text.match(/<script>([^]*?)<\\/script>/)[1]);
+const step = Number(plot.dataset.step), told = [];
+const tell = () => told.push(said.textContent.split(':')[0], Math.round(mark.set.x / step));
+listens.pointermove({ clientX: 100 + 8.5 * step }); tell();
+listens.pointerdown({ clientX: 100 + 2.5 * step }); tell();
+listens.keydown({ key: 'ArrowRight', preventDefault() {} }); tell();
+listens.pointermove({ clientX: 99999 }); tell();
+listens.keydown({ key: 'PageUp', preventDefault() {} }); tell();
+console.log(JSON.stringify(told));
+"""
+
+
+def explain_page_shows_a_tick():
+    """The page's script, with node in place of a browser: pointing, tapping and keys show the tick."""
+    if not shutil.which("node"):
+        raise Skipped("no node")
+    file = OUT / "page.html"
+    explain(STORY, "--html", file)
+    done = run("node", "-e", STAGE, given=file.read_bytes())
+    expect(done.returncode == 0, done.stderr.decode())
+    told = [part for n in (8, 2, 3, 11, 0) for part in (f"seq {n}, t {n}", n)]
+    expect(json.loads(done.stdout) == told, done.stdout)
+
+
+def explain_page_of_a_long_journal():
+    file = OUT / "page.html"
+    status, _, said = explain(STORY[:221] + STORY[221:] * 3400, "--html", file)
+    texts = [text for figure in Page(file.read_text()).figures for text in figure]
+    expect(status == 0 and len(texts) == 20000, f"{len(texts)} ticks, {said}")
+    has(file.read_text(), "The first 20800 ticks are left out")
+
+
+def explain_page_that_fails():
+    file = OUT / "kept.html"
+    file.write_text("as before")
+    status, _, said = explain(STORY, "--html", file, "--trace", "/bin/false")
+    expect(status == 2 and file.read_text() == "as before" and sorted(OUT.glob("kept*")) == [file], said)
+    status, _, said = explain(STORY, "--html", "/dev/full/page.html")
+    expect(status == 2 and "Traceback" not in said, said)
+
+
+def explain_picture():
+    file = OUT / "story.svg"
+    status, _, said = explain(STORY, "--svg", file)
+    expect(status == 0 and not said, said)
+    expect(file.read_text() == (TOP / "docs/story.svg").read_text(), "another picture than docs/story.svg: tools/explain examples/story.journal --svg docs/story.svg makes it")
+
+
+# ---- tools/journal
+
+
+def journal(words, given):
+    done = run("tools/journal", *words.split(), given=given)
+    expect(b"Traceback" not in done.stderr, done.stderr)
+    return done.returncode, done.stdout, done.stderr.decode()
+
+
+def journal_all_or_nothing():
+    status, out, said = journal("write", b"settings\nreset\nwhat\ntick t=x\nvalue pos .5\nack nonse=1\n")
+    expect((status, out) == (1, b""), f"status {status}, {len(out)} bytes")
+    has(said, "line 3: expected one of settings, reset,", "line 4: tick t: expected a number, found 'x'", "line 6: ack: expected NAME=VALUE with NAME one of decision, slot, nonce, handoff")
+    has(said, "3 wrong lines, nothing is written")
+    status, out, said = journal("write", b"what\n" * 1000)
+    expect((status, out) == (1, b"") and said.count("\n") == 21, said)
+
+
+def journal_numbers():
+    for text, x in ((".5", "0.5"), ("+1", "1"), ("1.", "1"), ("-.25e1", "-2.5"), ("+inf", "inf")):
+        expect(made("value pos " + text) == made("value pos " + x), text)
+    expect(made("tick t=+7") == made("tick t=7"), "+7")
+    for text, words in (
+        ("value pos 1e999", "value x: 1e999 is too large for a float"),
+        ("value pos -1e999", "value x: -1e999 is too large for a float"),
+        ("value pos .", "expected a float"),
+        ("settings mode=enforced", "settings mode: expected one of observe, enforce, or a number; found 'enforced'"),
+        ("settings mode=256", "settings mode: expected a number below 256, found 256"),
+        ("value hand 0", "value list: expected one of chunk, pos, vel, aux, ext, or a number; found 'hand'"),
+        ("tick t=-1", "tick t: expected a number, found '-1'"),
+    ):
+        status, _, said = journal("write", text.encode())
+        expect(status == 1, text)
+        has(said, "line 1: ", words)
+
+
+def journal_places():
+    _, out, _ = journal("read --places", STORY)
+    lines = out.decode().splitlines()
+    places = [int(line.rpartition("byte ")[2]) for line in lines]
+    expect(places == [place for place, _ in records.stream([STORY])], "other places")
+    has(lines[-1], f"# record {len(lines)}, byte {len(STORY) - 10}")
+    expect(journal("write", out)[1] == STORY, "read with places and written again")
+
+
+def journal_defaults():
+    _, out, _ = journal("read --defaults", STORY)
+    has(out.decode(), "tick t=0 idx=0 missed=0 schema=0 vel=0\n", "value list=pos x=0.1\n", " tau=3.0 ")
+    expect(journal("write", out)[1] == STORY, "read with defaults and written again")
+    usage = run("tools/journal", "--help").stdout.decode()
+    for name, fields in records.RECORDS.values():
+        has(usage, f"\n  {name}", *(f"{key}={default}" for key, _, default in fields))
+
+
+def journal_any_bytes():
+    """Whatever the bytes are, read and written again they are the same."""
+    rng = random.Random(3)
+    for base in (STORY, (TOP / "crates/trace/stdin").read_bytes(), bytes(rng.randrange(256) for _ in range(300)), STORY + b"\x08" + STORY * 40):
+        for _ in range(10):
+            given = bytearray(base[: rng.randrange(len(base)) or 1])
+            given[rng.randrange(len(given))] = rng.randrange(256)
+            _, out, _ = journal("read", bytes(given))
+            expect(journal("write", out)[1] == given, "other bytes")
+
+
+def journal_outputs():
+    for words, given in (("read", STORY), ("write", (TOP / "examples/story.txt").read_bytes())):
+        reader, writer = os.pipe()
+        os.close(reader)
+        done = subprocess.run(["tools/journal", words], input=given, stdout=writer, stderr=subprocess.PIPE, cwd=TOP, timeout=60)
+        os.close(writer)
+        expect(done.returncode == 2 and done.stderr == b"", done.stderr)
+        if os.path.exists("/dev/full"):
+            with open("/dev/full", "w") as full:
+                done = subprocess.run(["tools/journal", words], input=given, stdout=full, stderr=subprocess.PIPE, cwd=TOP, timeout=60)
+            expect(done.returncode == 2 and b"No space" in done.stderr and b"Traceback" not in done.stderr, done.stderr)
+
+
+def journal_memory():
+    head, episode = STORY[:221], STORY[221:]
+    small = peak(["tools/journal", "read"], [head, episode])
+    large = peak(["tools/journal", "read"], [head, *[episode * 100] * 8])
+    expect(large < small + 4096, f"read: {small} kB for 4 kB, {large} kB for 3 MB")
+    text = (TOP / "examples/story.txt").read_bytes()
+    small = peak(["tools/journal", "write"], [text])
+    large = peak(["tools/journal", "write"], [text * 100] * 5)
+    expect(large < small + 4096, f"write: {small} kB for 2 kB of text, {large} kB for 700 kB")
+
+
+# ---- tools/settings
+
+GOOD = "settings watchdog=1 "
+WARNINGS = [
+    ("mode=observe", "mode is Observe"),
+    ("dt=0", "dt is 0.0"),
+    ("dt=-0.05 inv_dt=-20 kind=ee_delta", "braking speeds the arm up"),
+    ("inv_dt=50", "dt x inv_dt is 2.5 and not 1"),
+    ("a_max=-1", "a_max is -1.0: a negative deceleration"),
+    ("a_max=0 kind=joint_velocity", "never slows the arm"),
+    ("v_stop_eps=-0.01", "no standstill is ever found"),
+    ("warn_margin=-1", "no warning ever comes"),
+    ("tau=inf", "no score is a hit"),
+    ("tau=-inf", "every score is a hit"),
+    ("watchdog=2", "watchdog is 2"),
+    ("brake=0", "every stop ends in Fault at its second tick"),
+    ("brake=3 confirm=4", "confirm is 4, above brake (B) 3"),
+    ("max_rearms=0", "with max_rearms 0"),
+    ("rearm_hold=31", "rearm_hold 31 above hold (H) 30"),
+    ("hold=0 rearm=ack_only", "Held escalates at its first tick"),
+    ("handoff=0", "Escalated terminates at its first tick"),
+    ("k=0", "k is 0"),
+    ("k=6", "k is 6, and the window keeps 5 ticks"),
+    ("window=0x1d", "window is 0x1d"),
+    ("streak=0", "streak is 0"),
+    ("tier0=0x7e", "tier0 lacks workspace:"),
+    ("pos_dim=2", "dim is 1 and pos_dim 2: axes from dim on"),
+    ("dim=2", "dim is 2 and pos_dim 1: components of a hold"),
+    ("box_lo=0 box_hi=0", "no room in axis 0:"),
+]
+
+
+def settings(text, *words):
+    done = run("tools/settings", *words, given=text if isinstance(text, bytes) else text.encode())
+    expect(b"Traceback" not in done.stderr, done.stderr)
+    return done.returncode, done.stdout.decode(), done.stderr.decode()
+
+
+def settings_good():
+    for given in (GOOD, "# a comment\n\n" + GOOD + "# one\nreset\nnonsense", made(GOOD + "\nreset")):
+        status, out, said = settings(given, "--strict", "--start", "2026-03-01T06:30")
+        expect(status == 0 and "warning" not in out and not said, out + said)
+        has(out, "accepted", "= 30 + 30 + 200 + 2 = 262 ticks, 13.1 s\n", "6.805 years after a reset: 2032-12-19 18:49;")
+
+
+def settings_warnings():
+    for text, words in WARNINGS:
+        line = "settings " + ("" if "watchdog" in text else "watchdog=1 ") + text
+        status, out, _ = settings(line)
+        found = [one for one in out.splitlines() if one.startswith("warning: ")]
+        expect(status == 0 and len(found) == 1, f"{text}: status {status}, {found}")
+        has(found[0], words)
+        expect(settings(line, "--strict")[0] == 1, f"{text}: --strict")
+
+
+def settings_that_warnings_tell_true():
+    """With standstill from the first tick on, fuse does what the warnings say, and not one tick off."""
+    stop = "chunk\nvalue chunk 0\nvalue pos 0\noutcome feasible=0\ntick\n"
+
+    def states(line, ticks):
+        rest = "".join(f"chunk seq={t} t_emit={t}\nvalue chunk 0\nvalue pos 0\noutcome\ntick t={t}\n" for t in range(1, ticks))
+        return [one.split()[3] for one in fuse(made(line + "\nreset\n" + stop + rest))[:-1]]
+
+    expect(states("settings brake=3 confirm=4", 9) == list("444477777"), "confirm above B")
+    expect(states("settings brake=3 confirm=3", 5)[3] == "5", "confirm at B")
+    expect(states("settings brake=0", 3) == list("477"), "B 0")
+    expect("1" in states("settings confirm=1 hold=3 rearm_hold=3", 9), "rearm_hold at H")
+    expect("1" not in states("settings confirm=1 hold=3 rearm_hold=4", 9), "rearm_hold above H")
+
+
+def settings_refused():
+    for number, text in ((1, "kind=9"), (2, "horizon=0"), (3, "dt=nan"), (3, "inv_dt=inf"), (4, "box_lo=2"), (1, "mode=2 dim=0 dt=nan")):
+        status, out, _ = settings("settings " + text)
+        expect(status == 1, f"{text}: status {status}")
+        has(out, f"refused {number}: ")
+
+
+def settings_failures():
+    for given, words, what in (
+        (b"", (), "there is no line `settings`"),
+        (b"settings dimm=1", (), "line 1: settings: expected NAME=VALUE"),
+        (STORY[:100], (), "the settings record is cut: 100 of 221 bytes"),
+        (b"\xff\xfe", (), "neither text nor a journal"),
+        (b"settings", ("--start", "tomorrow"), "expected a date"),
+        (b"settings", ("--fuse", "/bin/false"), "neither end nor refused"),
+        (b"", ("target/tools/there-is-no-such-file",), "No such file"),
+    ):
+        status, _, said = settings(given, *words)
+        expect(status == 2, f"status {status}, {said}")
+        has(said, what)
+
+
+def main(words):
+    failed = 0
+    checks = [(name, it) for name, it in globals().items() if callable(it) and name.startswith(("explain_", "journal_", "settings_"))]
+    for name, check in checks:
+        what = name.replace("_", ": ", 1).replace("_", " ")
+        if words and not any(word in what for word in words):
+            continue
+        try:
+            check()
+            print(f"tools: ok, {what}", flush=True)
+        except Skipped as e:
+            print(f"tools: SKIPPED, {what}: {e}", flush=True)
+        except Exception as e:  # a check that ends in any other way failed too
+            failed = 1
+            print(f"tools: FAILED, {what}\n{type(e).__name__}: {e}", flush=True)
+    return failed
+
+
+if __name__ == "__main__":
+    sys.exit(main(sys.argv[1:]))
