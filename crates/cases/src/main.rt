@@ -38,8 +38,7 @@ use lictor_core::state::ENFORCE;
 use lictor_core::verdict::BRAKE;
 use lictor_core::verdict::TIER0_SOFT;
 use lictor_fuse::Ticked;
-use report::render::LINES;
-use report::render::tick_text;
+use report::render::show_tick;
 use text::Line;
 
 // ---- what a tick is given
@@ -225,8 +224,7 @@ fn run(out: &mut [u8], last: u32, missed: u8, t: u32) {
     write(named(last, missed, t));
     let done = after(last, missed, t);
     let v = done.verdict;
-    let rt = done.rt;
-    let n = tick_text(LINES, v, rt, out, 0);
+    let n = show_tick(v, out, 0);
     write_part(out, n);
 }
 

@@ -78,8 +78,8 @@ stands t = storyCall t 0 true NoChunk [] NoAck
 abbrev pub delivers : ℕ → ℕ → Call
 delivers n t = storyCall t 0 true (Delivered (numberedChunk n t)) (zeroFloat ∷ []) NoAck
 
-abbrev pub answers : ℕ → Call
-answers t = storyCall t 0 true NoChunk [] (Given (record { decision = Resume; «operator_slot» = 3; nonce = 1; «handoff_seq» = 0 }))
+abbrev pub resumes : ℕ → Call
+resumes t = storyCall t 0 true NoChunk [] (Given (record { decision = Resume; «operator_slot» = 3; nonce = 1; «handoff_seq» = 0 }))
 
 abbrev pub faulted : ℕ → Call
 faulted t = storyCall t nonfinite true NoChunk [] NoAck
@@ -90,8 +90,8 @@ unfoldable pub story : List Call
 story =
     firstCall ∷ stands 1 ∷ delivers 1 2
     ∷ brakes 3 ∷ stands 4 ∷ delivers 2 5
-    ∷ brakes 6 ∷ stands 7 ∷ delivers 3 8 ∷ answers 9
-    ∷ brakes 10 ∷ stands 11 ∷ answers 12 ∷ faulted 13 ∷ stands 14 ∷ []
+    ∷ brakes 6 ∷ stands 7 ∷ delivers 3 8 ∷ resumes 9
+    ∷ brakes 10 ∷ stands 11 ∷ resumes 12 ∷ faulted 13 ∷ stands 14 ∷ []
 
 -- ---- what is said of it
 

@@ -1,149 +1,312 @@
 -- A run: what was read so far, and how it ends.
-use Prim.Native.Nat.{ℕ, zero, suc, _+_, _-_, _*_, _≤_, _<_}
-use mathlib.Core.Path.{_≡_, refl, sym, ap, _∙_}
-use mathlib.Core.List.{List, [], _∷_, _++_, append-nil}
+use Prim.Native.Nat.{ℕ, zero, suc, _+_, _-_, _*_, _≤_, _<_, _%_, _^_}
+use mathlib.Core.Path.{_≡_, refl, sym, ap, ap₂, subst, _∙_}
+use mathlib.Core.List.{List, [], _∷_, _++_, append-nil, append-assoc}
 use mathlib.Core.Bool.{Bool, true, false, cond}
 use native.Mathlib.Omega.{arith}
-use lib.Dec.{eqb}
-use lib.ListN.{length, take, drop, length-append}
+use lib.ListN.{length, take, length-append}
 use lib.Seq.{length-take-le}
 use lib.Ieee.{Float}
 use borrow.Author.Tests.{eq-eqb, ne-eqb}
-use Rattle.lictor_core.specs.declared.tally.Tally.{Tally}
 use Rattle.lictor_core.specs.Initial.{zeros}
-use Rattle.lictor_fuse.specs.declared.decide.Decided.{Decided}
 use Rattle.journal_refusals.specs.declared.Refusal.{Refusal}
 use Rattle.journal_refusals.specs.declared.Refusal.the-variants.{CutBody}
 use Rattle.journal_refusals.specs.Table.{numberOf}
 use Rattle.journal_refusals.proofs.Exactly.{numbers}
-use Rattle.journal_reader.specs.declared.waiting.Reader.{Reader}
-use Rattle.journal_reader.specs.State.{places, startReader}
 use Rattle.stream.specs.Stream.{End, awaits, halted, Settled, telling, settled}
+use Rattle.stream.proofs.Stream.{impossible, telling-telling}
+use Rattle.journal_frames.specs.Frames.{ShortRecords}
+use Rattle.journal_reader.specs.declared.waiting.Reader.{Reader}
+use Rattle.journal_reader.specs.State.{State, places, startReader}
+use Rattle.journal_reader.specs.Reading.{Instruction, onBytes}
+use Rattle.journal_reader.proofs.Reading.{journal-short}
 use Rattle.journal.specs.declared.tick.Run.{Run}
-use Rattle.journal.specs.Tick.{Whole, wholeOf}
-use Rattle.journal.specs.Journal.{replayOf, startRun, startWhole, Ending, ended, refused, Meaning, endingOf, journalOf}
-use Rattle.report.specs.Lines.{endText, refusedText}
+use Rattle.journal.specs.Events.{runAfterAll, Event, eventsFrom}
+use Rattle.journal.specs.Journal.{startState, startRun, Ending, ended, refused, Meaning, endingOf, journalOf}
+use Rattle.journal.proofs.Events.{run-joined, events-joined}
+use Rattle.journal.proofs.Parts.{meaning-is}
+use Rattle.channels.specs.declared.intake.Reads.{Reads}
+use Rattle.channels.specs.declared.intake.Supply.the-variants.{More, Over, Failed}
+use Rattle.channels.specs.declared.outlet.Written.{Written}
+use Rattle.channels.specs.Intake.{mostReads}
+use Rattle.printer.specs.declared.Memory.{Memory}
+use Rattle.printer.specs.Printer.{Shows, Printer, atStart, kindsTaken, meaningFor, printed, printerAfterAll, endingText, textFrom, textOf, endingBy}
+use Rattle.printer.proofs.Parts.{after-append, text-append}
+use Rattle.printer.proofs.Rooms.{ended-by, refused-by}
+use Rattle.text.specs.Memory.{Put}
+use Rattle.text.proofs.Puts.{put-shows}
+use Rattle.player.specs.Play.{textBy, numberAt, Rests}
+use Rattle.player.proofs.Feeding as F
+use Rattle.console.specs.declared.Phase.{Phase}
+use Rattle.console.specs.declared.Phase.the-variants.{Plays, Waits, Refused, InputOver, ReadFailed, ReadsOver, WriteFailed}
 use Rattle.console.specs.declared.Round.{Round}
 use Rattle.console.specs.declared.Ended.{Ended}
-use Rattle.player.specs.Play.{eventsText}
-use Rattle.console.specs.Console.{bufferRoom, mostReads, numberAt, Rests, lastText, Rounded, textOf, endedOf, endNumber, endPlace, Ran, lastLineOf}
-use Rattle.stream.proofs.Stream.{impossible, telling-telling}
+use Rattle.console.specs.Phases.{isGoing, isUnwritten, hasEnding, phaseEnded, numberLeft, numberEnded}
+use Rattle.console.specs.Console.{readerIn, printerIn, startingWith, atHand, KnownIn, Fits, Sound, Rounded, Past, Through, numberIn, endingIn, EndingPut, endedOf, Closed, endNumber, endPlace, Answers, Halts, Pauses, StartsWith, EndsBy, Ran}
+use Rattle.console.proofs.Phases.{wrote-ended}
 use Rattle.console.proofs.Rounds.{more-bytes}
 
--- the bytes that came so far: those before `place` were taken, those at the front of memory wait
-pub record Before (rd : Reader) (run : Run) (l : List Float) (b : List ℕ) (have place reads : ℕ) : Type 0 where
-  pub past : List ℕ
-  pub told : List Decided
-  pub within : have ≤ length b
-  pub goes : settled replayOf startWhole past ≡ telling told (settled replayOf (wholeOf rd run l) (take have b))
-  pub count : place + have ≡ length past
-  pub bound : place + have + reads * bufferRoom ≤ mostReads * bufferRoom
+-- a count of bytes, and that of more bytes
+counts-on : (n m : ℕ) (s t : List ℕ) → n ≡ length s % 2 ^ 64 → m ≡ (n + length t) % 2 ^ 64 → m ≡ length (s ++ t) % 2 ^ 64
+counts-on n m s t e f = omega (arith, e, f, length-append s t)
 
--- after a round
-pub record Come (b₀ : List ℕ) (r : Round) (l : List Float) (b : List ℕ) (place : ℕ) : Type 0 where
-  pub long : length b ≡ length b₀
-  pub before : Before (r .reader) (r .run) l b (r .have) place (r .reads)
-  pub over : r .more ≡ false → Rests (wholeOf (r .reader) (r .run) l) (take (r .have) b) (r .refused)
-
-module _ (code : ℕ) (rd : Reader) (run : Run) (l : List Float) (b : List ℕ) (have place reads : ℕ) (c : Before rd run l b have place reads)
-    (r : Round) (l' : List Float) (b' out' : List ℕ) (n : Rounded code (wholeOf rd run l) (take have b) reads r l' b' out') where
-  abbrev v : Whole
-  v = wholeOf (r .reader) (r .run) l'
-
-  counts : place + r .taken + r .have ≡ length (c .past ++ n .came)
-  counts = omega (arith, c .count, n .count, length-append (c .past) (n .came), length-append (take have b) (n .came), length-take-le have b (c .within))
-
-  pub bounds : place + r .taken + r .have + r .reads * bufferRoom ≤ mostReads * bufferRoom
-  bounds = omega (arith, c .bound, c .count, counts, n .few, length-append (c .past) (n .came))
-
-  pub come-on : (b₀ : List ℕ) → length b' ≡ length b₀ → Come b₀ r l' b' (place + r .taken)
-  come-on b₀ k = record {
-    long = k;
-    before = record {
-      past = c .past ++ n .came;
-      told = c .told ++ n .told;
-      within = n .within;
-      goes =
-          more-bytes startWhole (c .past) (c .told) (wholeOf rd run l) (take have b) (n .came) (c .goes)
-          ∙ ap (telling (c .told)) (n .goes)
-          ∙ telling-telling (c .told) (n .told) (settled replayOf v (take (r .have) b'));
-      count = counts;
-      bound = bounds;
-    };
-    over = n .over;
-  }
+-- ---- round after round
 
 -- before the first round
-abbrev first : Reader → Run → Round
-first rd run = record { reader = rd; run = run; taken = 0; have = 0; n = 0; refused = 0; reads = mostReads; more = true }
+abbrev first : Reader → Run → Memory → Reads → Written → Round
+first rd run m k w = record { reader = rd; run = run; memory = m; place = 0; have = 0; refused = 0; reads = k; written = w; phase = Plays }
 
-pub come-first : (b : List ℕ) (rd : Reader) (run : Run) (l : List Float) → rd ≡ startReader → run ≡ startRun → l ≡ zeros places → Come b (first rd run) l b 0
-unfolding startWhole
-come-first b rd run l e f g = record {
-  long = refl;
-  before = record { past = []; told = []; within = omega arith; goes = rw (e, f, g) refl; count = refl; bound = omega arith };
-  over = λ y. impossible cc;
-}
+pub past-first : (kinds : List ℕ) (sh : Shows) (b : List ℕ) (rd : Reader) (run : Run) (m : Memory) (k : Reads) (w : Written) (l : List Float) → rd ≡ startReader → run ≡ startRun → m ≡ atStart
+    → k ≡ record { made = 0; bytes = 0; last = More } → w ≡ record { bytes = 0; failed = false } → l ≡ zeros places → Past kinds sh (first rd run m k w) l b
+unfolding startState textBy printed printerAfterAll
+past-first kinds sh b rd run m k w l e f n z h g =
+    rw (e, f, n, z, h, g) (record { past = []; told = []; goes = refl; run-is = refl; printer-is = refl; count = refl; brought = refl; handed = refl })
+
+pub sound-first : (kinds b : List ℕ) (rd : Reader) (run : Run) (m : Memory) (l : List Float) {k : Reads} {w : Written} → k ≡ record { made = 0; bytes = 0; last = More } → w ≡ record { bytes = 0; failed = false }
+    → Sound kinds (first rd run m k w) l b
+sound-first kinds b rd run m l z h = rw (z, h) (record {
+  fits = record { within = omega arith; bytes = omega arith; text = omega arith; bound = omega arith; most = omega arith };
+  wrote = refl;
+  stops = tt;
+})
+
+pub past-on : (kinds : List ℕ) (sh : Shows) (r : Round) (l : List Float) (b : List ℕ) (q : Round) (l' : List Float) (b' : List ℕ) → Past kinds sh r l b → Rounded kinds sh r l b q l' b' → Past kinds sh q l' b'
+past-on kinds sh r l b q l' b' c n =
+    let text = rw (c .printer-is, c .run-is) at (n .handed) in
+    record {
+      past = c .past ++ n .came;
+      told = c .told ++ n .told;
+      goes =
+          more-bytes kinds startState (c .past) (c .told) (readerIn r l) (atHand r b) (n .came) (c .goes)
+          ∙ ap (telling (c .told)) (n .goes)
+          ∙ telling-telling (c .told) (n .told) (settled (onBytes kinds) (readerIn q l') (atHand q b'));
+      run-is = n .run-is ∙ ap (λ (u : Run). runAfterAll u (n .told)) (c .run-is) ∙ sym (run-joined startRun (c .told) (n .told));
+      printer-is =
+          n .printer-is
+          ∙ ap₂ (λ (u : Printer) (v : Run). printerAfterAll u (eventsFrom v (n .told))) (c .printer-is) (c .run-is)
+          ∙ sym (after-append (startingWith sh) (eventsFrom startRun (c .told)) (eventsFrom (runAfterAll startRun (c .told)) (n .told)))
+          ∙ ap (printerAfterAll (startingWith sh)) (sym (events-joined startRun (c .told) (n .told)));
+      count = omega (arith, n .count, c .count, length-append (c .past) (n .came));
+      brought = counts-on (r .reads .bytes) (q .reads .bytes) (c .past) (n .came) (c .brought) (n .brought);
+      handed =
+          rw (F.text-append (startingWith sh) startRun (c .told) (n .told))
+          (counts-on (r .written .bytes) (q .written .bytes) (textBy (startingWith sh) startRun (c .told)) _ (c .handed) text);
+    }
 
 -- ---- the end
 
-module _ (b₀ : List ℕ) (r : Round) (l : List Float) (b : List ℕ) (place : ℕ) (c : Come b₀ r l b place) where
-  abbrev last : Whole
-  last = wholeOf (r .reader) (r .run) l
+-- the text of an ending, by its numbers
+ending-is : (p : Printer) (run : Run) (s : List ℕ) (e : Ending) → endingBy p run (endNumber e) (endPlace s e) ≡ endingText p run e
+unfolding endNumber endPlace
+ending-is p run s ended = ended-by p run (length s)
+ending-is p run s (refused r place) = refused-by p run place r
+
+module _ (sh : Shows) (r : Round) (l : List Float) (b : List ℕ) (t : Through (kindsTaken sh) sh r l b) where
+  abbrev kinds : List ℕ
+  kinds = kindsTaken sh
+
+  abbrev p : Printer
+  p = startingWith sh
 
   abbrev s : List ℕ
-  s = c .before .past
+  s = t .past .past
+
+  abbrev told : List Instruction
+  told = t .past .told
+
+  abbrev events : List Event
+  events = eventsFrom startRun told
 
   abbrev rest : List ℕ
-  rest = take (r .have) b
+  rest = atHand r b
+
+  abbrev text : List ℕ
+  text = textBy p startRun told
 
   have-is : length rest ≡ r .have
-  have-is = length-take-le (r .have) b (c .before .within)
+  have-is = length-take-le (r .have) b (t .sound .fits .within)
 
-  settles : (x : End Refusal) → settled replayOf last rest ≡ record { state = last; rest = rest; told = []; end = x }
-      → journalOf s ≡ record { events = c .before .told; ending = endingOf place rest x; left = last }
-  unfolding journalOf
+  abbrev meant : Ending → Meaning
+  meant e = record { events = events; ending = e; left = record { state = readerIn r l; run = r .run } }
+
+  -- where the reader rests, it comes to this
+  comes : (x : End Refusal) → settled (onBytes kinds) (readerIn r l) rest ≡ record { state = readerIn r l; rest = rest; told = []; end = x }
+      → settled (onBytes kinds) startState s ≡ record { state = readerIn r l; rest = rest; told = told; end = x }
+  comes x e =
+      t .past .goes ∙ ap (telling told) e ∙ ap (λ (u : List Instruction). record { state = readerIn r l; rest = rest; told = u; end = x }) (append-nil told)
+
+  -- where the reader rests, this is what the bytes mean
+  settles : (x : End Refusal) → settled (onBytes kinds) (readerIn r l) rest ≡ record { state = readerIn r l; rest = rest; told = []; end = x } → meaningFor p s ≡ meant (endingOf (r .place) rest x)
   settles x e =
-      let p : length s - length rest ≡ place = omega (arith, c .before .count, have-is) in
-      rw (c .before .goes ∙ ap (telling (c .before .told)) e, append-nil (c .before .told), p) refl
+      let k : length s - length rest ≡ r .place = omega (arith, t .past .count, have-is) in
+      let a : Settled State Instruction Refusal = record { state = readerIn r l; rest = rest; told = told; end = x } in
+      meaning-is kinds s a (comes x e)
+      ∙ ap₂ (λ (j : ℕ) (u : Run). record { events = events; ending = endingOf j rest x; left = record { state = readerIn r l; run = u } }) k (sym (t .past .run-is))
 
-  ended-by : (x : End Refusal) (u : List ℕ) → rest ≡ u → r .refused ≡ numberAt x → (e : Ended) → e ≡ endedOf (r .run) (r .refused) (r .have) place
-      → journalOf s ≡ record { events = c .before .told; ending = endingOf place u x; left = last } → Ran e
-  unfolding endedOf endNumber endPlace
-  ended-by awaits [] h m e q j =
-      let k : r .have ≡ 0 = sym have-is ∙ ap length h in
-      record { journal = s; refused-is = rw (q, j, m, k) refl; place-is = rw (q, j) (omega (arith, c .before .count, k)); run-is = rw (q, j) refl }
-  ended-by awaits (x ∷ u) h m e q j =
-      let k : r .have ≡ suc (length u) = sym have-is ∙ ap length h in
-      record { journal = s; refused-is = rw (q, j, m, k, ne-eqb (suc (length u)) 0 (λ z. omega (arith, z))) refl; place-is = rw (q, j) refl; run-is = rw (q, j) refl }
-  ended-by (halted f) [] h m e q j =
-      record { journal = s; refused-is = rw (q, j, m, ne-eqb (numberOf f) 0 (λ z. omega (arith, z, numbers f .0))) refl; place-is = rw (q, j) refl; run-is = rw (q, j) refl }
-  ended-by (halted f) (x ∷ u) h m e q j =
-      record { journal = s; refused-is = rw (q, j, m, ne-eqb (numberOf f) 0 (λ z. omega (arith, z, numbers f .0))) refl; place-is = rw (q, j) refl; run-is = rw (q, j) refl }
+  module _ (e : Ended) (w : Written) (z : e ≡ endedOf r w) where
+    -- an answer that fits the ending of the journal
+    answers : (x : Ending) → meaningFor p s ≡ meant x → numberIn r ≡ endNumber x → r .place ≡ endPlace s x → Answers p e s
+    unfolding endedOf
+    answers x j n k = rw z (record { refused-is = rw j n; place-is = rw j k; run-is = rw j refl })
 
-  pub come-end : r .more ≡ false → (e : Ended) → e ≡ endedOf (r .run) (r .refused) (r .have) place → Ran e
-  come-end y e q =
-      let o = c .over y in
-      ended-by (o .end) rest refl (o .number-is) e q (settles (o .end) (o .rests))
+    all-text : (x : Ending) → meaningFor p s ≡ meant x → numberIn r ≡ endNumber x → r .place ≡ endPlace s x → text ++ endingBy (printerIn sh r) (r .run) (numberIn r) (r .place) ≡ textOf p s
+    unfolding textOf textFrom textBy
+    all-text x j n k =
+        let ending : endingBy (printerIn sh r) (r .run) (numberIn r) (r .place) ≡ endingText (printerAfterAll p events) (r .run) x
+        = ap₂ (endingBy (printerIn sh r) (r .run)) n k ∙ ending-is (printerIn sh r) (r .run) s x ∙ ap (λ (q : Printer). endingText q (r .run) x) (t .past .printer-is) in
+        ap (λ (u : List ℕ). printed p events ++ u) ending ∙ sym (ap (λ (m : Meaning). textFrom p (m .events) (m .left .run) (m .ending)) j)
 
--- there are fewer reads or fewer bytes left, or no more rounds
-pub round-less : (code : ℕ) (w : Whole) (u : List ℕ) (have reads : ℕ) (r : Round) (l' : List Float) (b' out' : List ℕ) (before : Bool) → length u ≡ have → before ≡ true
-    → Rounded code w u reads r l' b' out' → (m : Bool) → r .more ≡ m → cond m (1 + r .have + r .reads * (bufferRoom + 1)) 0 < cond before (1 + have + reads * (bufferRoom + 1)) 0
-round-less code w u have reads r l' b' out' before k e n true y = rw e (omega (arith, n .less y))
-round-less code w u have reads r l' b' out' before k e n false y = rw e (omega arith)
+    run-is : (x : Ending) → meaningFor p s ≡ meant x → e .run ≡ meaningFor p s .left .run
+    unfolding endedOf
+    run-is x j = rw (z, j) refl
 
--- ---- the last line
+    events-text : (x : Ending) → meaningFor p s ≡ meant x → text ++ [] ≡ printed p (meaningFor p s .events)
+    unfolding textBy
+    events-text x j = append-nil text ∙ rw j refl
 
-last-by : (e : Ended) (t : Tally) (x : Ending) (s : List ℕ) → e .refused ≡ endNumber x → e .place ≡ endPlace s x → e .run .rt .tally ≡ t → lastLineOf e ≡ lastText t x
-unfolding lastLineOf lastText endNumber endPlace
-last-by e t ended s p q m = rw (p, m) refl
-last-by e t (refused r k) s p q m = rw (p, q, ne-eqb (numberOf r) 0 (λ z. omega (arith, z, numbers r .0))) refl
+    -- what was handed over so far is how the text begins
+    begins : StartsWith (text ++ []) (textOf p s)
+    unfolding textOf journalOf textBy
+    begins =
+        let a = settled (onBytes kinds) (readerIn r l) rest in
+        let m = meaningFor p s in
+        let later = eventsFrom (runAfterAll startRun told) (a .told) in
+        record {
+          later = textFrom (printerAfterAll p events) later (m .left .run) (m .ending);
+          is =
+              ap (λ (u : List Event). textFrom p u (m .left .run) (m .ending))
+              (ap (λ (u : Settled State Instruction Refusal). eventsFrom startRun (u .told)) (t .past .goes) ∙ events-joined startRun told (a .told))
+              ∙ text-append p events later (m .left .run) (m .ending)
+              ∙ ap (λ (u : List ℕ). u ++ textFrom (printerAfterAll p events) later (m .left .run) (m .ending)) (sym (append-nil (printed p events)));
+        }
 
--- it is that of the journal
-pub last-is : (e : Ended) → (r : Ran e) → lastLineOf e ≡ lastText (journalOf (r .journal) .left .run .rt .tally) (journalOf (r .journal) .ending)
-last-is e r = last-by e _ _ (r .journal) (r .refused-is) (r .place-is) (ap (λ (x : Run). x .rt .tally) (r .run-is))
+    -- the reader halted, or it waits
+    halts : (x : End Refusal) → settled (onBytes kinds) (readerIn r l) rest ≡ record { state = readerIn r l; rest = rest; told = []; end = x } → 0 < r .refused → r .refused ≡ numberAt x → Halts p s
+    halts awaits q h m = absurd (omega (arith, h, m))
+    halts (halted f) q h m = record { why = f; end = ap (λ (u : Settled State Instruction Refusal). u .end) (comes (halted f) q) }
 
--- what is printed for a journal: the text of its verdicts, and this line
-pub text-is : (code : ℕ) (e : Ended) → (r : Ran e) → textOf code (r .journal) ≡ eventsText code (journalOf (r .journal) .events) ++ lastLineOf e
-unfolding textOf
-text-is code e r = ap (λ (t : List ℕ). eventsText code (journalOf (r .journal) .events) ++ t) (sym (last-is e r))
+    pauses : (x : End Refusal) → settled (onBytes kinds) (readerIn r l) rest ≡ record { state = readerIn r l; rest = rest; told = []; end = x } → r .refused ≡ 0 → r .refused ≡ numberAt x
+        → e .refused ≡ r .refused → Pauses p e s
+    unfolding endedOf
+    pauses (halted f) q h m n = absurd (omega (arith, h, m, numbers f .0))
+    pauses awaits q h m n =
+        let c = comes awaits q in
+        let k : r .place ≡ length s - length rest = omega (arith, t .past .count, have-is) in
+        record {
+          end = ap (λ (u : Settled State Instruction Refusal). u .end) c;
+          place-is = ap (λ (u : Ended). u .place) z ∙ k ∙ ap (λ (u : Settled State Instruction Refusal). length s - length (u .rest)) (sym c);
+          refused-is = n ∙ h;
+          run-is = run-is _ (settles awaits q);
+        }
+
+    -- a refusal: its number, and its place
+    refused-ends : (x : End Refusal) → 0 < r .refused → r .refused ≡ numberAt x → (numberEnded Refused (r .refused) (r .have) ≡ endNumber (endingOf (r .place) rest x)) × (r .place ≡ endPlace s (endingOf (r .place) rest x))
+    unfolding endNumber endPlace
+    refused-ends awaits h m = absurd (omega (arith, h, m))
+    refused-ends (halted f) h m = (m, refl)
+
+    -- the end of the input: what is left over is a record that is cut
+    over-ends : (x : End Refusal) → r .refused ≡ 0 → r .refused ≡ numberAt x
+        → (numberEnded InputOver (r .refused) (r .have) ≡ endNumber (endingOf (r .place) rest x)) × (r .place ≡ endPlace s (endingOf (r .place) rest x))
+    unfolding endNumber endPlace numberLeft
+    over-ends (halted f) h m = absurd (omega (arith, h, m, numbers f .0))
+    over-ends awaits h m = by rest refl
+      where
+        by : (u : List ℕ) → rest ≡ u → (numberLeft (r .have) ≡ endNumber (endingOf (r .place) u awaits)) × (r .place ≡ endPlace s (endingOf (r .place) u awaits))
+        by [] y = let k : r .have ≡ 0 = sym have-is ∙ ap length y in (rw k refl, omega (arith, t .past .count, k))
+        by (c ∷ u) y =
+            let k : r .have ≡ suc (length u) = sym have-is ∙ ap length y in
+            (rw (k, ne-eqb (suc (length u)) 0 (λ o. omega (arith, o))) refl, refl)
+
+    abbrev ending : Phase → List ℕ
+    ending x = cond (hasEnding x) (endingBy (printerIn sh r) (r .run) (numberIn r) (r .place)) []
+
+    number-by : (x : Phase) → r .phase ≡ x → numberIn r ≡ numberEnded x (r .refused) (r .have)
+    number-by x y = ap (λ (u : Phase). numberEnded u (r .refused) (r .have)) y
+
+    -- nothing is left of a whole text
+    whole : (u : List ℕ) → u ≡ textOf p s → StartsWith u (textOf p s)
+    whole u h = record { later = []; is = sym (append-nil u ∙ h) }
+
+    -- why it is over, by the phase before the ending, and whether a write failed
+    ends-by : (x : Phase) → r .phase ≡ x → isGoing x ≡ false → KnownIn kinds x (readerIn r l) rest (r .refused) (r .reads) → (hasEnding x ≡ false → isUnwritten x ≡ false → w .failed ≡ false)
+        → (f : Bool) → w .failed ≡ f → EndsBy p e s (text ++ ending x) (phaseEnded x f)
+    unfolding endedOf
+    ends-by Plays y g h v f k = impossible cc
+    ends-by Waits y g h v f k = impossible cc
+    ends-by Refused y g h v f k =
+        let j = settles (h .0 .end) (h .0 .rests) in
+        let n = refused-ends (h .0 .end) (h .1) (h .0 .number-is) in
+        let m = number-by Refused y in
+        by f k (all-text _ j (m ∙ n .0) (n .1), answers _ j (m ∙ n .0) (n .1), halts (h .0 .end) (h .0 .rests) (h .1) (h .0 .number-is))
+      where
+        by : (f : Bool) → w .failed ≡ f → (text ++ ending Refused ≡ textOf p s) × Answers p e s × Halts p s → EndsBy p e s (text ++ ending Refused) (phaseEnded Refused f)
+        by true k' q = whole _ (q .0)
+        by false k' q = q
+    ends-by InputOver y g h v f k =
+        let j = settles (h .0 .end) (h .0 .rests) in
+        let n = over-ends (h .0 .end) (h .1) (h .0 .number-is) in
+        let m = number-by InputOver y in
+        by f k (all-text _ j (m ∙ n .0) (n .1), answers _ j (m ∙ n .0) (n .1), rw z (h .2))
+      where
+        by : (f : Bool) → w .failed ≡ f → (text ++ ending InputOver ≡ textOf p s) × Answers p e s × (e .reads .last ≡ Over) → EndsBy p e s (text ++ ending InputOver) (phaseEnded InputOver f)
+        by true k' q = whole _ (q .0)
+        by false k' q = q
+    ends-by ReadFailed y g h v true k = let o : true ≡ false = sym k ∙ v refl refl in impossible cc
+    ends-by ReadFailed y g h v false k =
+        let n = ap (λ (u : Ended). u .refused) z ∙ number-by ReadFailed y in
+        (events-text _ (settles (h .0 .end) (h .0 .rests)), pauses (h .0 .end) (h .0 .rests) (h .1) (h .0 .number-is) n, rw z (h .2))
+    ends-by ReadsOver y g h v true k = let o : true ≡ false = sym k ∙ v refl refl in impossible cc
+    ends-by ReadsOver y g h v false k =
+        let n = ap (λ (u : Ended). u .refused) z ∙ number-by ReadsOver y in
+        (events-text _ (settles (h .0 .end) (h .0 .rests)), pauses (h .0 .end) (h .0 .rests) (h .1) (h .0 .number-is) n, rw z (h .2))
+    ends-by WriteFailed y g h v true k = begins
+    ends-by WriteFailed y g h v false k = begins
+
+-- ---- the text of the ending
+
+pub ending-put : (sh : Shows) (r : Round) (number : ℕ) (w : Written) (n : ℕ) (out out' : List ℕ) → hasEnding (r .phase) ≡ true
+    → Put out 0 (endingBy (printerIn sh r) (r .run) number (r .place)) n out' → w .bytes ≡ (r .written .bytes + n) % 2 ^ 64 → EndingPut sh r number w out'
+ending-put sh r number w n out out' h q k =
+    let s = endingBy (printerIn sh r) (r .run) number (r .place) in
+    let z : 0 + length s ≡ length s = omega arith in
+    record {
+      text = rw h (ap (λ (j : ℕ). take j out') (sym (q .ends ∙ z)) ∙ put-shows out 0 s n out' (omega arith) q);
+      handed = rw h (k ∙ ap (λ (j : ℕ). (r .written .bytes + j) % 2 ^ 64) (q .ends ∙ z));
+      none = λ y. let o : true ≡ false = sym h ∙ y in impossible cc;
+    }
+
+pub ending-none : (sh : Shows) (r : Round) (number : ℕ) (out' : List ℕ) → hasEnding (r .phase) ≡ false → r .written .bytes < 2 ^ 64 → EndingPut sh r number (r .written) out'
+ending-none sh r number out' h k = record {
+  text = rw h refl;
+  handed = rw h (let c : r .written .bytes ≡ (r .written .bytes + 0) % 2 ^ 64 = omega (arith, k) in c);
+  none = λ y. refl;
+}
+
+-- ---- the whole run
+
+ran : (sh : Shows) (r : Round) (l : List Float) (b : List ℕ) → Through (kindsTaken sh) sh r l b → (e : Ended) (out' : List ℕ) → Closed sh r e out' → Ran (startingWith sh) e
+unfolding endedOf
+ran sh r l b t e out' c =
+    let w = e .written in
+    let text = textBy (startingWith sh) startRun (t .past .told) in
+    let reads-are : e .reads ≡ r .reads = ap (λ (x : Ended). x .reads) (c .is) in
+    let phase-is : e .phase ≡ phaseEnded (r .phase) (w .failed) = ap (λ (x : Ended). x .phase) (c .is) in
+    record {
+      journal = t .past .past;
+      text = text ++ endingIn sh r (numberIn r);
+      brought = rw reads-are (t .past .brought);
+      handed = counts-on (r .written .bytes) (w .bytes) text (endingIn sh r (numberIn r)) (t .past .handed) (c .put .handed);
+      wrote = wrote-ended (r .phase) (w .failed) (λ h. ap (λ (x : Written). x .failed) (c .put .none h) ∙ t .sound .wrote) ∙ sym (ap isUnwritten phase-is);
+      ends =
+          subst (λ (x : Phase). EndsBy (startingWith sh) e (t .past .past) (text ++ endingIn sh r (numberIn r)) x) (sym phase-is)
+          (ends-by sh r l b t e w (c .is) (r .phase) refl (t .over) (t .sound .stops) (λ h u. ap (λ (x : Written). x .failed) (c .put .none h) ∙ t .sound .wrote ∙ u) (w .failed) refl);
+    }
+
+-- the kinds that a program takes have no record that memory has no room for
+pub taken-short : (sh : Shows) (kinds : List ℕ) → kinds ≡ kindsTaken sh → ShortRecords kinds
+unfolding kindsTaken
+taken-short sh kinds k = rw k journal-short
+
+pub ran-taking : (sh : Shows) (kinds : List ℕ) → kinds ≡ kindsTaken sh → (r : Round) (l : List Float) (b : List ℕ) → Through kinds sh r l b → (e : Ended) (out' : List ℕ) → Closed sh r e out' → Ran (startingWith sh) e
+ran-taking sh kinds k r l b t = ran sh r l b (rw k at t)

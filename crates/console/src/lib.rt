@@ -1,218 +1,364 @@
 // Plays a journal from standard input to its end or its first refusal, in constant memory, and
-// writes the text of its ticks and its last line.
-mod intake; // the bytes that are at hand
-
+// writes the text of its events and of its ending.
+ghost use mathlib.Core.Bool.{true, false};
 ghost use mathlib.Core.Path.{_≡_};
-ghost use Prim.Native.Nat.{_<_, _≤_};
-ghost use lib.ListN.{length, take};
+ghost use Prim.Native.Nat.{_+_, _%_, _^_, _<_, _≤_};
+ghost use lib.ListN.{length};
 ghost use Rattle.lictor_core.specs.Initial.{zeros};
-ghost use Rattle.text.specs.Line.{lineOf};
 ghost use Rattle.journal_reader.specs.State.{places};
-ghost use Rattle.journal.specs.Tick.{wholeOf};
-ghost use Rattle.console.specs.Intake.{Came};
-ghost use Rattle.report.specs.Text.{tickRoom};
-ghost use Rattle.console.specs.Console.{bufferRoom, Taken, roundOf, Rounded, endedOf, Ran, lastLineOf};
+ghost use Rattle.console.specs.Phases.{isGoing, isWaiting, hasEnding, phasePlayed, phaseRead, phaseEnded, numberLeft, numberEnded};
+ghost use Rattle.journal_frames.specs.Frames.{ShortRecords};
+ghost use Rattle.printer.specs.Printer.{showsBy, printerBy, atStart, eventRoom, endingRoom};
+ghost use Rattle.console.specs.Console.{bufferRoom, Fits, Sound, PlayedRound, ReadRound, Rounded, Through, EndingPut, Closed, Ran};
+use channels::intake::Reads;
+use channels::intake::Supply;
+use channels::intake::last;
+use channels::intake::move_down;
+use channels::intake::no_reads;
+use channels::intake::read_more;
+use channels::outlet::Written;
+use channels::outlet::has_failed;
+use channels::outlet::nothing;
+use channels::outlet::say;
+use channels::outlet::say_failed;
 use journal::tick::Run;
 use journal_reader::waiting::PLACES;
 use journal_reader::waiting::Reader;
 use journal_refusals::Refusal;
-use libc::STDOUT_FILENO;
-use player::Played;
-use text::Line;
+use printer::Memory;
 
-// ---- part by part
+// ---- whether it goes on, or why not
 
-fn write_part(out: &[u8], n: usize)
-    requires { ⌜ n ≤ length (now out) ⌝ }
-{
-    io::write_all(STDOUT_FILENO, &out[..n]);
+pub enum Phase {
+    // there may be records to play
+    Plays,
+    // bytes have to come first
+    Waits,
+    // a record was refused
+    Refused,
+    // the last read said that the input is over
+    InputOver,
+    // the last read failed
+    ReadFailed,
+    // no read is left
+    ReadsOver,
+    // a write failed
+    WriteFailed,
 }
 
-// Plays what is to be had of the first `have` bytes, writes its text, and moves the rest down.
-fn take_in(
-    code: u8,
-    rd: Reader,
-    run: Run,
-    lists: &mut [f64; PLACES],
-    buf: &mut [u8],
-    have: usize,
-    out: &mut [u8],
-) -> Played
-    requires { ⌜ have ≤ length (now buf) ⌝ }
-    ensures { λ r. ⌜ Taken code (wholeOf rd run (now (lists .entry))) (take have (now (buf .entry))) (now (out .entry)) r (now (lists .exit)) (now (buf .exit)) (now (out .exit)) ⌝ }
+fn is_going(phase: Phase) -> bool
+    ensures { λ r. ⌜ r ≡ isGoing phase ⌝ }
 {
-    let played = player::feed(code, rd, run, lists, &buf[..have], out);
-    write_part(out, played.n);
-    crate::intake::move_down(buf, played.at, have);
-    played
+    match phase {
+        Phase::Plays => true,
+        Phase::Waits => true,
+        Phase::Refused => false,
+        Phase::InputOver => false,
+        Phase::ReadFailed => false,
+        Phase::ReadsOver => false,
+        Phase::WriteFailed => false,
+    }
 }
 
-// Reads once after the first `have` bytes, where there is room.
-fn read_on(buf: &mut [u8], have: usize) -> usize
-    requires { ⌜ have < length (now buf) ⌝ }
-    ensures { λ r. ⌜ Came (take have (now (buf .entry))) r (now (buf .exit)) ⌝ }
+fn is_waiting(phase: Phase) -> bool
+    ensures { λ r. ⌜ r ≡ isWaiting phase ⌝ }
 {
-    crate::intake::read_more(buf, have)
+    match phase {
+        Phase::Plays => false,
+        Phase::Waits => true,
+        Phase::Refused => false,
+        Phase::InputOver => false,
+        Phase::ReadFailed => false,
+        Phase::ReadsOver => false,
+        Phase::WriteFailed => false,
+    }
 }
+
+// The text of an ending is written at a refusal and at the end of the input.
+fn has_ending(phase: Phase) -> bool
+    ensures { λ r. ⌜ r ≡ hasEnding phase ⌝ }
+{
+    match phase {
+        Phase::Plays => false,
+        Phase::Waits => false,
+        Phase::Refused => true,
+        Phase::InputOver => true,
+        Phase::ReadFailed => false,
+        Phase::ReadsOver => false,
+        Phase::WriteFailed => false,
+    }
+}
+
+// After records were played: whether a write failed, the room for text is full, one was refused.
+fn phase_played(failed: bool, full: bool, refused: u8) -> Phase
+    ensures { λ r. ⌜ r ≡ phasePlayed failed full refused ⌝ }
+{
+    if failed {
+        return Phase::WriteFailed;
+    }
+    if full {
+        return Phase::Plays;
+    }
+    if refused != 0 {
+        return Phase::Refused;
+    }
+    Phase::Waits
+}
+
+// After a read.
+fn phase_read(last: Supply) -> Phase
+    ensures { λ r. ⌜ r ≡ phaseRead last ⌝ }
+{
+    match last {
+        Supply::More => Phase::Plays,
+        Supply::Over => Phase::InputOver,
+        Supply::Failed => Phase::ReadFailed,
+        Supply::Spent => Phase::ReadsOver,
+    }
+}
+
+// After the text of the ending, if there is one.
+fn phase_ended(phase: Phase, failed: bool) -> Phase
+    ensures { λ r. ⌜ r ≡ phaseEnded phase failed ⌝ }
+{
+    if failed {
+        return Phase::WriteFailed;
+    }
+    phase
+}
+
+// ---- round by round
 
 struct Round {
     reader: Reader,
     run: Run,
-    // the bytes that were taken, those that wait at the front, and those of text
-    taken: usize,
+    // what the printer remembers
+    memory: Memory,
+    // the bytes that were taken, and those that wait at the front of memory
+    place: u64,
     have: usize,
-    n: usize,
     // the number of a refusal, or 0
     refused: u8,
-    // the reads that are left
-    reads: u64,
-    // there may be more: neither the end of the input nor a refusal was met
-    more: bool,
+    reads: Reads,
+    written: Written,
+    phase: Phase,
 }
 
-// A round that played this, with so many bytes at hand and reads left.
-fn round_of(played: Played, have: usize, reads: u64, more: bool) -> Round
-    ensures { λ r. ⌜ r ≡ roundOf played have reads more ⌝ }
+// Hands over the first n bytes.
+fn put_part(w: Written, out: &[u8], n: usize) -> Written
+    requires { ⌜ n ≤ length (now out) ⌝ }
+    ensures { λ r. ⌜ r .bytes ≡ (w .bytes + n) % 2 ^ 64 ⌝ }
 {
+    channels::outlet::put(w, &out[..n])
+}
+
+// Plays what is to be had of the bytes at hand, writes its text, and moves the rest to the front.
+fn play_round(
+    kinds: &[u16],
+    shows: u8,
+    r: Round,
+    lists: &mut [f64; PLACES],
+    buf: &mut [u8],
+    out: &mut [u8],
+) -> Round
+    requires { ⌜ Fits r (now buf) ⌝ }
+    ensures { λ q. ⌜ PlayedRound (now (kinds .entry)) (showsBy shows) r (now (lists .entry)) (now (buf .entry)) (now (out .entry)) q (now (lists .exit)) (now (buf .exit)) (now (out .exit)) ⌝ }
+{
+    let have = r.have;
+    let played = player::feed(
+        kinds,
+        shows,
+        r.memory,
+        r.reader,
+        r.run,
+        lists,
+        &buf[..have],
+        out,
+    );
+    let written = put_part(r.written, out, played.n);
+    move_down(buf, played.at, have);
     let reader = played.reader;
     let run = played.run;
+    let memory = played.memory;
+    let reads = r.reads;
+    let phase = phase_played(has_failed(written), played.more, played.refused);
+    let place = r.place + played.at as u64;
+    let left = have - played.at;
     Round {
         reader,
         run,
-        taken: played.at,
-        have,
-        n: played.n,
+        memory,
+        place,
+        have: left,
         refused: played.refused,
         reads,
-        more,
+        written,
+        phase,
     }
 }
 
-// Plays what is there, and reads once where that was all.
-// Where no read is left, the input counts as ended.
-fn play_round(
-    code: u8,
-    rd: Reader,
-    run: Run,
+// Reads once after the bytes that wait.
+fn read_round(r: Round, buf: &mut [u8]) -> Round
+    requires { ⌜ r .have < length (now buf) ⌝ }
+    ensures { λ q. ⌜ ReadRound r (now (buf .entry)) q (now (buf .exit)) ⌝ }
+{
+    let got = read_more(buf, r.have, r.reads);
+    let reads = got.reads;
+    let phase = phase_read(last(reads));
+    let reader = r.reader;
+    let run = r.run;
+    let memory = r.memory;
+    let written = r.written;
+    Round {
+        reader,
+        run,
+        memory,
+        place: r.place,
+        have: got.have,
+        refused: r.refused,
+        reads,
+        written,
+        phase,
+    }
+}
+
+// Plays, or reads where nothing more is to be had of the bytes at hand.
+fn go_on(
+    kinds: &[u16],
+    shows: u8,
+    r: Round,
     lists: &mut [f64; PLACES],
     buf: &mut [u8],
-    have: usize,
     out: &mut [u8],
-    reads: u64,
 ) -> Round
-    requires { ⌜ (have ≤ length (now buf)) × (bufferRoom ≡ length (now buf)) × (tickRoom ≤ length (now out)) ⌝ }
-    ensures { λ r. ⌜ Rounded code (wholeOf rd run (now (lists .entry))) (take have (now (buf .entry))) reads r (now (lists .exit)) (now (buf .exit)) (now (out .exit)) ⌝ }
+    requires { ⌜ (ShortRecords (now kinds)) × (Sound (now kinds) r (now lists) (now buf)) × (isGoing (r .phase) ≡ true) × (bufferRoom ≡ length (now buf)) × (eventRoom ≤ length (now out)) ⌝ }
+    ensures { λ q. ⌜ Rounded (now (kinds .entry)) (showsBy shows) r (now (lists .entry)) (now (buf .entry)) q (now (lists .exit)) (now (buf .exit)) ⌝ }
 {
-    let played = take_in(code, rd, run, lists, buf, have, out);
-    let left = have - played.at;
-    if played.more {
-        return round_of(played, left, reads, true);
+    let phase = r.phase;
+    if is_waiting(phase) {
+        return read_round(r, buf);
     }
-    if played.refused != 0 {
-        return round_of(played, left, reads, false);
-    }
-    if reads == 0 {
-        return round_of(played, left, reads, false);
-    }
-    let then = read_on(buf, left);
-    round_of(played, then, reads - 1, left < then)
+    play_round(kinds, shows, r, lists, buf, out)
 }
 
-// ---- the whole
+// Round by round to the end of the input, to the first refusal, or to a failure.
+fn run_rounds(
+    kinds: &[u16],
+    shows: u8,
+    lists: &mut [f64; PLACES],
+    buf: &mut [u8],
+    out: &mut [u8],
+) -> Round
+    requires { ⌜ (ShortRecords (now kinds)) × (now lists ≡ zeros places) × (bufferRoom ≡ length (now buf)) × (eventRoom ≤ length (now out)) ⌝ }
+    ensures { λ r. ⌜ Through (now (kinds .entry)) (showsBy shows) r (now (lists .exit)) (now (buf .exit)) ⌝ }
+{
+    let reader = journal_reader::waiting::start();
+    let run = journal::start();
+    let memory = printer::start();
+    let reads = no_reads();
+    let written = nothing();
+    let mut round = Round {
+        reader,
+        run,
+        memory,
+        place: 0,
+        have: 0,
+        refused: 0,
+        reads,
+        written,
+        phase: Phase::Plays,
+    };
+    let mut more = true;
+    while more {
+        let before = round;
+        round = go_on(kinds, shows, before, lists, buf, out);
+        let phase = round.phase;
+        more = is_going(phase);
+    }
+    round
+}
+
+// ---- the ending
 
 // How a journal ended.
 pub struct Ended {
     pub run: Run,
-    // the place of the record that was refused, or the number of bytes
+    // the place of the record that was refused; elsewhere the bytes that were taken
     pub place: u64,
     // the number of its refusal, or 0
     pub refused: u8,
+    // the reads that were made, and what was handed over to be written
+    pub reads: Reads,
+    pub written: Written,
+    pub phase: Phase,
 }
 
-// The end, with so many bytes left over: these are a record that the end of the input cut.
-fn finish(run: Run, refused: u8, have: usize, place: u64) -> Ended
-    ensures { λ r. ⌜ r ≡ endedOf run refused have place ⌝ }
+// Bytes that are left over when the input is over are a record that its end cut.
+fn number_left(have: usize) -> u8
+    ensures { λ r. ⌜ r ≡ numberLeft have ⌝ }
 {
-    if refused != 0 {
-        return Ended {
-            run,
-            place,
-            refused,
-        };
+    if have == 0 {
+        return 0;
     }
-    if have != 0 {
-        return Ended {
-            run,
-            place,
-            refused: journal_refusals::number(Refusal::CutBody),
-        };
+    journal_refusals::number(Refusal::CutBody)
+}
+
+// The number of the refusal, or 0.
+fn number_ended(phase: Phase, refused: u8, have: usize) -> u8
+    ensures { λ r. ⌜ r ≡ numberEnded phase refused have ⌝ }
+{
+    match phase {
+        Phase::Plays => refused,
+        Phase::Waits => refused,
+        Phase::Refused => refused,
+        Phase::InputOver => number_left(have),
+        Phase::ReadFailed => refused,
+        Phase::ReadsOver => refused,
+        Phase::WriteFailed => refused,
     }
+}
+
+// Hands over the text of the ending, if there is one.
+fn put_ending(shows: u8, r: Round, refused: u8, out: &mut [u8]) -> Written
+    requires { ⌜ (endingRoom ≤ length (now out)) × (r .written .bytes < 2 ^ 64) ⌝ }
+    ensures { λ w. ⌜ EndingPut (showsBy shows) r refused w (now (out .exit)) ⌝ }
+{
+    let phase = r.phase;
+    if has_ending(phase) {
+        let n = printer::ended(shows, r.memory, r.run, refused, r.place, out);
+        return put_part(r.written, out, n);
+    }
+    let written = r.written;
+    written
+}
+
+fn close(shows: u8, r: Round, out: &mut [u8]) -> Ended
+    requires { ⌜ (endingRoom ≤ length (now out)) × (r .written .bytes < 2 ^ 64) ⌝ }
+    ensures { λ e. ⌜ Closed (showsBy shows) r e (now (out .exit)) ⌝ }
+{
+    let before = r.phase;
+    let refused = number_ended(before, r.refused, r.have);
+    let written = put_ending(shows, r, refused, out);
+    let phase = phase_ended(before, has_failed(written));
+    let run = r.run;
+    let reads = r.reads;
     Ended {
         run,
-        place,
-        refused: 0,
+        place: r.place,
+        refused,
+        reads,
+        written,
+        phase,
     }
 }
 
-// The reads that a run makes at most: 2^47, more than a thousand years of one each millisecond.
-const READS: u64 = 140737488355328;
-
-// Round by round to the end of the input or to the first refusal.
-fn run_rounds(code: u8, lists: &mut [f64; PLACES], buf: &mut [u8], out: &mut [u8]) -> Ended
-    requires { ⌜ (now lists ≡ zeros places) × (bufferRoom ≡ length (now buf)) × (tickRoom ≤ length (now out)) ⌝ }
-    ensures { λ r. ⌜ Ran r ⌝ }
-{
-    let rd = journal_reader::waiting::start();
-    let run = journal::start();
-    let mut round = Round {
-        reader: rd,
-        run,
-        taken: 0,
-        have: 0,
-        n: 0,
-        refused: 0,
-        reads: READS,
-        more: true,
-    };
-    let mut place: u64 = 0;
-    while round.more {
-        let reader = round.reader;
-        let before = round.run;
-        round = play_round(
-            code,
-            reader,
-            before,
-            lists,
-            buf,
-            round.have,
-            out,
-            round.reads,
-        );
-        place += round.taken as u64;
-    }
-    let after = round.run;
-    finish(after, round.refused, round.have, place)
-}
-
-// The last line of a journal.
-fn last_line(ended: Ended) -> Line
-    ensures { λ r. ⌜ r ≡ lineOf (lastLineOf ended) ⌝ }
-{
-    let refused = ended.refused;
-    if refused != 0 {
-        return report::refused_line(refused, ended.place);
-    }
-    let run = ended.run;
-    let rt = run.rt;
-    let tally = rt.tally;
-    report::end_line(tally)
-}
-
-fn write_line(l: Line) {
-    let text = l.text;
-    let t: &[u8] = &text;
-    if l.n <= t.len() {
-        write_part(t, l.n);
+// Says on standard error what failed outside the journal.
+fn say_why(name: &[u8], phase: Phase) {
+    match phase {
+        Phase::ReadFailed => say_failed(name, b": reading failed"),
+        Phase::ReadsOver => say(name, b": too many reads\n"),
+        Phase::WriteFailed => say_failed(name, b": writing failed"),
+        Phase::Plays | Phase::Waits | Phase::Refused | Phase::InputOver => {}
     }
 }
 
@@ -222,14 +368,18 @@ fn no_lists() -> [f64; PLACES]
     [0.0; PLACES]
 }
 
-// Plays the journal on standard input; LINES or TRACE of `report::render` chooses the text.
-pub fn play(code: u8) -> Ended
-    ensures { λ r. ⌜ Ran r ⌝ }
+// Plays the journal on standard input; LINES or TRACE of `printer` says what is shown. `name` is
+// that of the program, for what it says of input and output that fail.
+pub fn play(name: &[u8], shows: u8) -> Ended
+    ensures { λ r. ⌜ Ran (printerBy shows atStart) r ⌝ }
 {
+    let kinds = printer::kinds_taken(shows);
     let mut lists = no_lists();
     let mut buf = io::large_buffer();
     let mut out = io::large_buffer();
-    let ended = run_rounds(code, &mut lists, &mut buf, &mut out);
-    write_line(last_line(ended));
+    let round = run_rounds(&kinds, shows, &mut lists, &mut buf, &mut out);
+    let ended = close(shows, round, &mut out);
+    let phase = ended.phase;
+    say_why(name, phase);
     ended
 }

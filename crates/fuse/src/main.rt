@@ -3,5 +3,5 @@
 //
 // All that matters is in the libraries (crates/console).
 fn main() {
-    console::play(report::render::LINES);
+    console::play(b"fuse", printer::LINES);
 }

@@ -1,4 +1,4 @@
 -- Laws that belong to no one function, and demand 1.
-pub mod Replay
-pub mod Steps
+pub mod Events
+pub mod Parts
 pub mod Ends

@@ -2,10 +2,10 @@
 ghost use mathlib.Core.Path.{_≡_};
 ghost use Prim.Native.Nat.{_<_};
 ghost use lib.ListN.{length};
-ghost use Rattle.journal_refusals.specs.Causes.{capacities};
+ghost use Rattle.journal_refusals.specs.Causes.{capacities, posList};
 ghost use Rattle.journal_reader.specs.State.{places, valuesOf};
 ghost use Rattle.journal_reader.specs.Reading.{broughtOf};
-ghost use Rattle.journal.specs.Tick.{decidedOf, wholeOf, journalTick};
+ghost use Rattle.journal.specs.Events.{reportedOf};
 use journal_reader::waiting::PLACES;
 use journal_reader::waiting::Reader;
 use journal_refusals::AUX;
@@ -18,8 +18,7 @@ use lictor_core::envelope::FuseConfig;
 use lictor_core::fuse::FuseRt;
 use lictor_core::fuse::TickInput;
 use lictor_core::verdict::SafetyVerdict;
-use lictor_fuse::decide::Decided;
-use lictor_fuse::decide::decide;
+use lictor_fuse::decide::decide_by;
 
 // The fuse: its configuration and its run state.
 pub struct Run {
@@ -27,10 +26,13 @@ pub struct Run {
     pub rt: FuseRt,
 }
 
-pub struct JournalTicked {
-    pub reader: Reader,
-    pub run: Run,
+// What a tick gives, besides what came for it.
+pub struct Reported {
+    // the bits that the guard found
+    pub guard: u32,
     pub verdict: SafetyVerdict,
+    // the fuse after the tick
+    pub run: Run,
 }
 
 // The values of a list.
@@ -45,41 +47,43 @@ fn values(seen: Seen, lists: &[f64], c: usize) -> &[f64]
     &lists[from..end]
 }
 
-fn decide_on(rd: Reader, run: Run, lists: &[f64; PLACES], inp: TickInput) -> Decided
-    ensures { λ r. ⌜ r ≡ decidedOf run (broughtOf (record { reader = rd; lists = now (lists .entry) }) inp) ⌝ }
+// The positions that were collected.
+pub fn lent_positions(seen: Seen, lists: &[f64; PLACES]) -> &[f64]
+    ensures { λ r. ⌜ now r ≡ valuesOf seen (now (lists .entry)) posList ⌝ }
+{
+    values(seen, &lists[..], POS)
+}
+
+// The tick that comes next, on all that was collected.
+pub fn tick(rd: Reader, run: Run, lists: &[f64; PLACES], inp: TickInput) -> Reported
+    ensures { λ r. ⌜ r ≡ reportedOf run (broughtOf (record { reader = rd; lists = now (lists .entry) }) inp) ⌝ }
 {
     let waiting = rd.waiting;
     let seen = waiting.seen;
     let outcome = rd.outcome;
     let config = run.config;
-    let rt = run.rt;
+    let before = run.rt;
+    let clock = before.clock;
     let lent = &lists[..];
-    decide(
+    let pos = values(seen, lent, POS);
+    let vel = values(seen, lent, VEL);
+    let guard = lictor_guard::guard(
         config,
-        rt,
+        clock,
         inp,
-        outcome,
-        values(seen, lent, POS),
-        values(seen, lent, VEL),
+        pos,
+        vel,
         values(seen, lent, AUX),
         values(seen, lent, EXT),
         values(seen, lent, CHUNK),
-    )
-}
-
-// The tick that comes next, on all that was collected.
-pub fn tick(rd: Reader, run: Run, lists: &[f64; PLACES], inp: TickInput) -> JournalTicked
-    ensures { λ r. ⌜ r ≡ journalTick (wholeOf rd run (now (lists .entry))) inp ⌝ }
-{
-    let decided = decide_on(rd, run, lists, inp);
-    let config = run.config;
+    );
+    let decided = decide_by(config, before, inp, outcome, guard, pos, vel);
     let rt = decided.rt;
     let verdict = decided.verdict;
     let after = Run { config, rt };
-    let reader = journal_reader::waiting::emptied(rd);
-    JournalTicked {
-        reader,
-        run: after,
+    Reported {
+        guard,
         verdict,
+        run: after,
     }
 }

@@ -4,6 +4,7 @@ use mathlib.Core.Bool.{Bool, true, false, cond, not, _&&_}
 use mathlib.Core.List.{List, [], _∷_}
 use Prim.Native.Nat.{ℕ, zero, suc, _<_}
 use native.Mathlib.Omega.{arith}
+use borrow.Author.Tests.{eq-eqb}
 use lib.Dec.{eqb}
 use lib.ListN.{take, drop}
 use Rattle.lictor_core.specs.declared.envelope.Settings as S
@@ -12,25 +13,29 @@ use Rattle.lictor_core.specs.FirstThat.{firstThat}
 use Rattle.lictor_settings.specs.Settings.{settingsTable, checkOf}
 use Rattle.claims.specs.Runs.{All}
 use Rattle.claims.specs.Demand3.{Sized}
-use Rattle.journal_records.specs.Little.{byteAt, floatAt}
+use Rattle.journal_records.specs.Little.{byteAt}
 use Rattle.journal_records.proofs.Laws.{leAt-under}
-use Rattle.journal_records.specs.declared.Record.the-variants.{Settings, Reset, Ack, Head, Value, Outcome, Tick}
-use Rattle.journal_records.specs.Kinds.{journalKinds, bodyLen, settingsKind, resetKind, ackKind, headKind, valueKind, outcomeKind}
+use Rattle.journal_frames.specs.declared.Frame.{Frame}
+use Rattle.journal_frames.specs.declared.Frame.the-variants as F
+use Rattle.journal_frames.specs.Frames.{bodyOf, frameOf, onFrame}
+use Rattle.journal_records.specs.declared.Record.the-variants.{Settings}
+use Rattle.journal_records.specs.Kinds.{settingsKind}
+use Rattle.journal_records.proofs.Decoded.{decoded}
 use Rattle.journal_records.specs.Long.{limitsOf, settingsOf}
-use Rattle.journal_records.specs.Body.{ackOf, headOf, tickNumbers, decodeOf}
+use Rattle.journal_records.specs.Body.{decodeOf}
 use Rattle.journal_refusals.specs.declared.Refusal.{Refusal}
+use Rattle.journal_refusals.specs.declared.Refusal.the-variants.{UnknownKind, BeforeSettings, Again, BadCode, BadSize, NotFinite, BoxCrossed}
 use Rattle.journal_refusals.specs.declared.Seen.{Seen}
 use Rattle.journal_refusals.specs.declared.Judged.{Judged}
 use Rattle.journal_refusals.specs.declared.Judged.the-variants.{Accepted, Refused}
 use Rattle.journal_refusals.specs.Causes.{beforeSettings, again, codeNotListed, sizeOutside, floatNotFinite, boxCrossed}
-use Rattle.journal_refusals.specs.Table.{isCutBody, refusalTable, judgedOf}
-use Rattle.journal_refusals.specs.Exactly.{Passes, not-this-row}
-use Rattle.journal_refusals.proofs.Exactly.{accepted-so}
+use Rattle.journal_refusals.specs.Table.{orderRows, contentRows, wholeRows, wholeOf}
+use Rattle.journal_refusals.proofs.Exactly.{causeOf, no-cause}
 use Rattle.stream.specs.Stream.{Next, wait, halt, go, tell, after, settle, settled}
-use Rattle.journal_reader.specs.State.{State, ackWaits, headWaits, valueWaits, outcomeWaits, settingsCame, emptied, startReader}
-use Rattle.journal_reader.specs.Reading.{Instruction, begin, restart, tick, onRecord, onBytes}
-use Rattle.journal_reader.proofs.Reading.{machine, next-refused, next-accepted}
-use Rattle.journal.specs.Journal.{startWhole}
+use Rattle.journal_reader.specs.State.{State, seenIn, ackWaits, headWaits, valueWaits, outcomeWaits, settingsCame, emptied, startReader}
+use Rattle.journal_reader.specs.Reading.{Instruction, begin, restart, tick, onRecord, onJudged, onWhole, onBytes}
+use Rattle.journal_reader.proofs.Reading.{next-frame}
+use Rattle.journal.specs.Journal.{startState}
 use Rattle.stream.proofs.Stream.{impossible}
 use Rattle.journal_claims.specs.Instructions.{instructionsOf}
 use Rattle.journal_claims.specs.JournalStops.{Bytes, NoSettings, SettledBy}
@@ -82,20 +87,28 @@ Moves st (halt r) = Unit {0}
 Moves st (go st' n) = came st' ≡ came st
 Moves st (tell st' n i) = Told st st' i
 
+not-both : {x : Bool} → x ≡ true → x ≡ false → ⊥
+not-both p q = impossible cc
+
 module _ (st : State) (b : List ℕ) (n : ℕ) where
   settings-move : came st ≡ false → checkOf (settingsOf b) ≡ K.Accepted → Sized (settingsOf b) → Moves st (onRecord st b n Settings)
   unfolding onRecord settingsCame
   settings-move e c z = (e, (refl, (c, z)))
 
-  others-move : came st ≡ true → (p q r s t : Bool)
-      → Moves st (onRecord st b n (cond p Reset (cond q (Ack (ackOf b)) (cond r (Head (headOf b)) (cond s (Value (byteAt b 0) (floatAt b 1)) (cond t Outcome (Tick (tickNumbers b))))))))
+  -- after the settings, the other kinds leave them there
+  others-move : (k : ℕ) → eqb k settingsKind ≡ false → came st ≡ true → Moves st (onRecord st b n (decodeOf k b))
   unfolding onRecord emptied ackWaits headWaits valueWaits outcomeWaits
-  others-move e true q r s t = (e, e)
-  others-move e false true r s t = refl
-  others-move e false false true s t = refl
-  others-move e false false false true t = refl
-  others-move e false false false false true = refl
-  others-move e false false false false false = (e, e)
+  others-move k e c =
+      decoded k b (λ x. Moves st (onRecord st b n x))
+      (record {
+        settings = λ p. absurd (not-both (eq-eqb k settingsKind p) e);
+        reset = λ p. (c, c);
+        ack = λ p. refl;
+        head = λ p. refl;
+        value = λ p. refl;
+        outcome = λ p. refl;
+        tick = (c, c);
+      })
 
 -- what the rows about the order and the settings say of a record that is accepted
 record Passed (seen : Seen) (k : ℕ) (b : List ℕ) : Type 0 where
@@ -106,50 +119,50 @@ record Passed (seen : Seen) (k : ℕ) (b : List ℕ) : Type 0 where
   floats : floatNotFinite seen k b ≡ false
   box : boxCrossed seen k b ≡ false
 
-passed-by : (seen : Seen) (k : ℕ) (b : List ℕ) → Passes seen k b (refusalTable journalKinds) → Passed seen k b
-unfolding refusalTable
-passed-by seen k b (not-this-row _ (not-this-row _ (not-this-row o (not-this-row t (not-this-row c (not-this-row s (not-this-row f (not-this-row x _)))))))) =
-    record { order = o; twice = t; codes = c; sizes = s; floats = f; box = x }
+passed-by : (seen : Seen) (k : ℕ) (b : List ℕ) → wholeOf seen k b ≡ Accepted → Passed seen k b
+unfolding wholeOf wholeRows orderRows contentRows causeOf
+passed-by seen k b e =
+    let none = no-cause seen k b wholeRows e in
+    record {
+      order = none BeforeSettings;
+      twice = none Again;
+      codes = none BadCode;
+      sizes = none BadSize;
+      floats = none NotFinite;
+      box = none BoxCrossed;
+    }
 
 both-false : (x : Bool) → (not false && not x) ≡ false → x ≡ true
 both-false true e = refl
 both-false false e = impossible cc
 
-kind-moves : (st : State) (k : ℕ) (b : List ℕ) (n : ℕ) → Bytes b → Passed (st .reader .waiting .seen) k b → (t : Bool) → eqb k settingsKind ≡ t
+kind-moves : (st : State) (k : ℕ) (b : List ℕ) (n : ℕ) → Bytes b → Passed (seenIn st) k b → (t : Bool) → eqb k settingsKind ≡ t
     → Moves st (onRecord st b n (decodeOf k b))
 unfolding decodeOf beforeSettings again codeNotListed sizeOutside floatNotFinite boxCrossed checkOf settingsTable firstThat
 kind-moves st k b n h p true e =
     let c : checkOf (settingsOf b) ≡ K.Accepted = rw (rw e at (p .codes), rw e at (p .sizes), rw e at (p .floats), rw e at (p .box)) refl in
     rw e (settings-move st b n (rw e at (p .twice)) c (read-sized b h))
-kind-moves st k b n h p false e = rw e (others-move st b n (both-false (came st) (rw e at (p .order))) (eqb k resetKind) (eqb k ackKind) (eqb k headKind) (eqb k valueKind) (eqb k outcomeKind))
+kind-moves st k b n h p false e = others-move st b n k e (both-false (came st) (rw e at (p .order)))
 
-refused-moves : (st : State) (r : Refusal) (t : Bool) → Moves st (cond t wait (halt r))
-refused-moves st r true = tt
-refused-moves st r false = tt
+judged-moves : (st : State) (k : ℕ) (b : List ℕ) (n : ℕ) → Bytes b → (j : Judged) → wholeOf (seenIn st) k b ≡ j → Moves st (onJudged st b n (decodeOf k b) j)
+judged-moves st k b n h (Refused r) e = tt
+judged-moves st k b n h Accepted e = kind-moves st k b n h (passed-by (seenIn st) k b e) (eqb k settingsKind) refl
 
-judged-moves : (st : State) (k : ℕ) (u : List ℕ) → Bytes u → (x : Judged)
-    → judgedOf journalKinds (st .reader .waiting .seen) k (take (bodyLen journalKinds k) u) ≡ x → Moves st (onBytes st (k ∷ u))
-unfolding judgedOf
-judged-moves st k u h (Refused r) e = rw (next-refused st k u r e) (refused-moves st r (isCutBody r))
-judged-moves st k u h Accepted e =
-    let b = take (bodyLen journalKinds k) u in
-    let seen = st .reader .waiting .seen in
-    rw (next-accepted st k u e)
-    (kind-moves st k b _ (some-take (bodyLen journalKinds k) u h) (passed-by seen k b (accepted-so seen k b (refusalTable journalKinds) e)) (eqb k settingsKind) refl)
+frame-moves : (st : State) (s : List ℕ) → Bytes s → (x : Frame) → Moves st (onFrame UnknownKind onWhole st s x)
+unfolding onWhole
+frame-moves st s h F.Waits = tt
+frame-moves st s h F.Unknown = tt
+frame-moves st s h (F.Whole k n) = judged-moves st k (bodyOf n s) (suc n) (some-take n (drop 1 s) (some-drop 1 s h)) _ refl
 
-next-moves : (st : State) (s : List ℕ) → Bytes s → Moves st (onBytes st s)
-next-moves st [] h = rw (machine .idle st) tt
-next-moves st (k ∷ u) h = judged-moves st k u (h .1) _ refl
+next-moves : (kinds : List ℕ) (st : State) (s : List ℕ) → Bytes s → Moves st (onBytes kinds st s)
+next-moves kinds st s h = rw (next-frame kinds st s (frameOf kinds s) refl) (frame-moves st s h (frameOf kinds s))
 
 -- ---- all records
 
-not-both : {x : Bool} → x ≡ true → x ≡ false → ⊥
-not-both p q = impossible cc
-
 -- after the settings
-module _ (f : ℕ) (ih : (st : State) (s : List ℕ) → Bytes s → came st ≡ true → All NoSettings (settle onBytes f st s .told)) where
+module _ (kinds : List ℕ) (f : ℕ) (ih : (st : State) (s : List ℕ) → Bytes s → came st ≡ true → All NoSettings (settle (onBytes kinds) f st s .told)) where
   later-by : (st : State) (s : List ℕ) → Bytes s → came st ≡ true → (x : Next State Instruction Refusal) → Moves st x
-      → All NoSettings (after st s x (λ st' n. settle onBytes f st' (drop n s)) .told)
+      → All NoSettings (after st s x (λ st' n. settle (onBytes kinds) f st' (drop n s)) .told)
   later-by st s h c wait m = tt
   later-by st s h c (halt r) m = tt
   later-by st s h c (go st' n) m = ih st' (drop n s) (some-drop n s h) (m ∙ c)
@@ -157,38 +170,38 @@ module _ (f : ℕ) (ih : (st : State) (s : List ℕ) → Bytes s → came st ≡
   later-by st s h c (tell st' n restart) m = (tt, ih st' (drop n s) (some-drop n s h) (m .1))
   later-by st s h c (tell st' n (tick a)) m = (tt, ih st' (drop n s) (some-drop n s h) (m .1))
 
-later : (f : ℕ) (st : State) (s : List ℕ) → Bytes s → came st ≡ true → All NoSettings (settle onBytes f st s .told)
+later : (kinds : List ℕ) (f : ℕ) (st : State) (s : List ℕ) → Bytes s → came st ≡ true → All NoSettings (settle (onBytes kinds) f st s .told)
 unfolding settle
-later zero st s h c = tt
-later (suc f) st s h c = later-by f (λ st' u h' c'. later f st' u h' c') st s h c (onBytes st s) (next-moves st s h)
+later kinds zero st s h c = tt
+later kinds (suc f) st s h c = later-by kinds f (λ st' u h' c'. later kinds f st' u h' c') st s h c (onBytes kinds st s) (next-moves kinds st s h)
 
 pub data Ordered (is : List Instruction) : Type 0 where
   nothing : is ≡ [] → Ordered is
   under : (w : S.Settings) → SettledBy w is → Ordered is
 
 -- from the first byte on
-module _ (f : ℕ) (ih : (st : State) (s : List ℕ) → Bytes s → came st ≡ false → Ordered (settle onBytes f st s .told)) where
+module _ (kinds : List ℕ) (f : ℕ) (ih : (st : State) (s : List ℕ) → Bytes s → came st ≡ false → Ordered (settle (onBytes kinds) f st s .told)) where
   ordered-by : (st : State) (s : List ℕ) → Bytes s → came st ≡ false → (x : Next State Instruction Refusal) → Moves st x
-      → Ordered (after st s x (λ st' n. settle onBytes f st' (drop n s)) .told)
+      → Ordered (after st s x (λ st' n. settle (onBytes kinds) f st' (drop n s)) .told)
   ordered-by st s h c wait m = nothing refl
   ordered-by st s h c (halt r) m = nothing refl
   ordered-by st s h c (go st' n) m = ih st' (drop n s) (some-drop n s h) (m ∙ c)
   ordered-by st s h c (tell st' n (begin w)) m =
       under w (record {
-        rest = settle onBytes f st' (drop n s) .told;
+        rest = settle (onBytes kinds) f st' (drop n s) .told;
         first = refl;
-        once = later f st' (drop n s) (some-drop n s h) (m .1 .0);
+        once = later kinds f st' (drop n s) (some-drop n s h) (m .1 .0);
         check = m .1 .1 .0;
         sized = m .1 .1 .1;
       })
   ordered-by st s h c (tell st' n restart) m = absurd (not-both (m .0) c)
   ordered-by st s h c (tell st' n (tick a)) m = absurd (not-both (m .0) c)
 
-ordered-at : (f : ℕ) (st : State) (s : List ℕ) → Bytes s → came st ≡ false → Ordered (settle onBytes f st s .told)
+ordered-at : (kinds : List ℕ) (f : ℕ) (st : State) (s : List ℕ) → Bytes s → came st ≡ false → Ordered (settle (onBytes kinds) f st s .told)
 unfolding settle
-ordered-at zero st s h c = nothing refl
-ordered-at (suc f) st s h c = ordered-by f (λ st' u h' c'. ordered-at f st' u h' c') st s h c (onBytes st s) (next-moves st s h)
+ordered-at kinds zero st s h c = nothing refl
+ordered-at kinds (suc f) st s h c = ordered-by kinds f (λ st' u h' c'. ordered-at kinds f st' u h' c') st s h c (onBytes kinds st s) (next-moves kinds st s h)
 
-pub ordered : (s : List ℕ) → Bytes s → Ordered (instructionsOf s)
-unfolding instructionsOf settled startWhole startReader
-ordered s h = ordered-at _ (startWhole .state) s h refl
+pub ordered : (kinds s : List ℕ) → Bytes s → Ordered (instructionsOf kinds s)
+unfolding instructionsOf settled startState startReader
+ordered kinds s h = ordered-at kinds _ startState s h refl

@@ -2,25 +2,26 @@
 -- close, under the journal's one settings record.
 -- The claim is at the end of this file, and is proved in proofs/JournalStops, `journal-stops`.
 -- Of other files it names: demand 3 of a list of calls of `tick` (claims, specs/Demand3, with Calls
--- and Runs); the meaning of a journal (journal, specs/Journal, journalOf); its instructions
--- (Instructions). (00-demands.md, Demand 3; 01-scope.md, The list in demand 3 and Journal.)
+-- and Runs); the meaning of a journal (journal, specs/Journal, journalOf, and specs/Events); its
+-- instructions (Instructions). (00-demands.md, Demand 3; 01-scope.md, The list in demand 3 and
+-- Journal.)
 use mathlib.Core.List.{List, [], _∷_, _++_, map}
 use mathlib.Core.Path.{_≡_}
 use Prim.Native.Nat.{ℕ, _<_}
 use Rattle.lictor_core.specs.declared.envelope.Settings.{Settings}
 use Rattle.lictor_core.specs.declared.fuse.FuseRt.{FuseRt}
 use Rattle.lictor_settings.specs.declared.SettingsCheck.the-variants.{Accepted}
-use Rattle.lictor_settings.specs.Settings.{checkOf}
-use Rattle.lictor_fuse.specs.declared.decide.Decided.{Decided}
+use Rattle.lictor_settings.specs.Settings.{checkOf, configOf}
 use Rattle.lictor_fuse.specs.declared.Ticked.{Ticked}
 use Rattle.claims.specs.Runs.{All, trace}
 use Rattle.claims.specs.Calls as C
-use Rattle.claims.specs.Calls.{stepOf, ticksFrom}
+use Rattle.claims.specs.Calls.{guardBits, stepOf, ticksFrom}
 use Rattle.claims.specs.Demand3.{Sized, Demand3}
 use Rattle.journal_reader.specs.Reading.{Brought, Instruction, begin, restart, tick}
 use Rattle.journal.specs.declared.tick.Run.{Run}
+use Rattle.journal.specs.Events.{runAfter, runAfterAll, Event, ticked, eventOf, eventsFrom}
 use Rattle.journal.specs.Journal.{startRun, journalOf}
-use Rattle.journal_claims.specs.Instructions.{instructionsOf, leaves, leavesAll, verdictsAll}
+use Rattle.journal_claims.specs.Instructions.{instructionsOf}
 
 -- a definition has whole numbers without bounds; the elements of a journal are bytes
 abbrev pub Bytes : List ℕ → Type 0
@@ -63,9 +64,9 @@ pub record In (is : List Instruction) (e : Episode) : Type 0 where
   pub cut : is ≡ e .before ++ (e .opening ∷ (map tick (e .ticks) ++ e .later))
 
 -- the fuse that its first tick gets: of the run state before, what `reset` leaves;
--- after settings, that of `new` (Instructions, leaves)
+-- after settings, that of `new` (journal, specs/Events, runAfter)
 abbrev pub opened : Episode → Run
-opened e = leaves (leavesAll startRun (e .before)) (e .opening)
+opened e = runAfter (runAfterAll startRun (e .before)) (e .opening)
 
 -- a tick of a journal as a call of `tick`, with the settings w
 abbrev pub callUnder : Settings → Brought → C.Call
@@ -84,20 +85,29 @@ callUnder w c =
 abbrev pub callsOf : Settings → Episode → List C.Call
 callsOf w e = map (callUnder w) (e .ticks)
 
--- what `tick` answers to a list of calls: the verdicts, each with the run state that it leaves
--- (ticksFrom has the same ticks by what is seen of each)
-abbrev pub decidedIn : FuseRt → C.Call → Ticked → Decided
-decidedIn r c a = record { rt = a .rt; verdict = a .verdict }
+-- The event of a call of `tick` on the run state r, which was answered a: what the call brings, the
+-- bits that the guard finds, and of the answer the verdict and the run state.
+abbrev pub reportIn : FuseRt → C.Call → Ticked → Event
+reportIn r c a =
+    ticked (record {
+      input = c .input;
+      pos = c .pos;
+      guard = guardBits r c;
+      verdict = a .verdict;
+      run = record { config = configOf (c .settings); rt = a .rt };
+    })
 
-abbrev pub decidedFrom : FuseRt → List C.Call → List Decided
-decidedFrom r cs = trace (stepOf decidedIn) r cs
+-- the events of a list of calls, in order (ticksFrom has the same ticks by what is seen of each)
+abbrev pub reportsFrom : FuseRt → List C.Call → List Event
+reportsFrom r cs = trace (stepOf reportIn) r cs
 
-pub record EpisodeStops (s : List ℕ) (w : Settings) (e : Episode) : Type 0 where
-  -- the journal's verdicts: in the episode's place are the answers of `tick`
-  pub verdicts : journalOf s .events
-      ≡ verdictsAll startRun (e .before)
-      ++ (decidedFrom (opened e .rt) (callsOf w e)
-      ++ verdictsAll (leavesAll (opened e) (map tick (e .ticks))) (e .later))
+pub record EpisodeStops (kinds s : List ℕ) (w : Settings) (e : Episode) : Type 0 where
+  -- the journal's events: in the episode's place are that of the opening and the answers of `tick`
+  pub events : journalOf kinds s .events
+      ≡ eventsFrom startRun (e .before)
+      ++ (eventOf (runAfterAll startRun (e .before)) (e .opening)
+      ∷ (reportsFrom (opened e .rt) (callsOf w e)
+      ++ eventsFrom (runAfterAll (opened e) (map tick (e .ticks))) (e .later)))
   -- and of these calls the four parts of demand 3 hold
   pub closes : Demand3 w (ticksFrom (opened e .rt) (callsOf w e))
 
@@ -111,18 +121,18 @@ pub record EndsWith (is : List Instruction) (c : Brought) (later : List Instruct
 -- ---- the claim
 
 -- of a journal that has settings: every tick is in an episode, and every episode stops close
-pub record StopsUnder (s : List ℕ) (w : Settings) : Type 0 where
-  pub settings : SettledBy w (instructionsOf s)
+pub record StopsUnder (kinds s : List ℕ) (w : Settings) : Type 0 where
+  pub settings : SettledBy w (instructionsOf kinds s)
   pub every-tick : (before : List Instruction) (c : Brought) (later : List Instruction)
-      → instructionsOf s ≡ before ++ (tick c ∷ later)
-      → EndsWith (instructionsOf s) c later
-  pub every-episode : (e : Episode) → In (instructionsOf s) e → EpisodeStops s w e
+      → instructionsOf kinds s ≡ before ++ (tick c ∷ later)
+      → EndsWith (instructionsOf kinds s) c later
+  pub every-episode : (e : Episode) → In (instructionsOf kinds s) e → EpisodeStops kinds s w e
 
--- a journal has settings, or else no instruction and no verdict
-pub data StopsIn (s : List ℕ) : Type 0 where
-  with-settings : (w : Settings) → StopsUnder s w → StopsIn s
-  without : instructionsOf s ≡ [] → journalOf s .events ≡ [] → StopsIn s
+-- a journal has settings, or else no instruction and no event
+pub data StopsIn (kinds s : List ℕ) : Type 0 where
+  with-settings : (w : Settings) → StopsUnder kinds s w → StopsIn kinds s
+  without : instructionsOf kinds s ≡ [] → journalOf kinds s .events ≡ [] → StopsIn kinds s
 
--- every list of bytes, whatever it holds and however it ends
+-- every list of bytes, whatever the kinds are, whatever it holds and however it ends
 abbrev pub JournalStops : Type 0
-JournalStops = (s : List ℕ) → Bytes s → StopsIn s
+JournalStops = (kinds s : List ℕ) → Bytes s → StopsIn kinds s

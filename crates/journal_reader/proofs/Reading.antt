@@ -1,19 +1,20 @@
--- The reader is a machine over bytes that come in parts, and what it leaves over is shorter than a record.
-use Prim.Native.Nat.{ℕ, zero, suc, _+_, _-_, _≤_, _<_}
-use mathlib.Core.Path.{_≡_, refl, sym, ap, _∙_}
-use mathlib.Core.List.{List, [], _∷_, _++_}
-use mathlib.Core.Bool.{Bool, true, false, cond}
+-- The reader is a machine over bytes that come in parts, whatever the kinds are.
+-- What it leaves over is shorter than a record, and it refuses what the table refuses.
+use Prim.Native.Nat.{ℕ, suc, _+_, _-_, _≤_, _<_}
+use mathlib.Core.Path.{_≡_, refl, sym, ap, ap₂, subst, _∙_}
+use mathlib.Core.List.{List, [], _∷_}
+use mathlib.Core.Bool.{Bool, true, false}
 use native.Mathlib.Omega.{arith}
-use native.Mathlib.Decide.{decLe}
-use borrow.Author.Tests.{lt-ltb, le-ltb, leb-true}
-use lib.ListN.{length, take, length-take, getD}
-use lib.Seq.{take-append-le, take-take}
-use lib.Dec.{leb}
+use lib.ListN.{length, take, drop, length-take, length-drop}
+use Rattle.journal_frames.specs.declared.Frame.{Frame}
+use Rattle.journal_frames.specs.declared.Frame.the-variants as F
+use Rattle.journal_frames.specs.Frames.{bodyLen, recordRoom, ShortRecords, bodyOf, frameOf, TakesWhole, onFrame, byFrames}
+use Rattle.journal_frames.proofs.Frames.{FrameAt, unknown, cut, whole, frame-at, frame-is, frame-kind, by-frame, frames-machine, waits-under, rest-under, all-short, short-table}
 use Rattle.journal_records.specs.Little.{byteAt}
 use Rattle.lictor_core.specs.declared.fuse.TickInput.{TickInput}
 use Rattle.journal_records.specs.declared.Record.{Record}
 use Rattle.journal_records.specs.declared.Record.the-variants.{Settings, Reset, Ack, Head, Value, Outcome, Tick}
-use Rattle.journal_records.specs.Kinds.{journalKinds, bodyLen}
+use Rattle.journal_records.specs.Kinds.{journalKinds}
 use Rattle.journal_records.specs.Body.{decodeOf}
 use Rattle.journal_records.specs.Long.{settingsOf}
 use Rattle.journal_refusals.specs.declared.Refusal.{Refusal}
@@ -21,315 +22,307 @@ use Rattle.journal_refusals.specs.declared.Refusal.the-variants.{UnknownKind, C
 use Rattle.journal_refusals.specs.declared.Judged.{Judged}
 use Rattle.journal_refusals.specs.declared.Judged.the-variants.{Accepted, Refused}
 use Rattle.journal_refusals.specs.declared.Seen.{Seen}
-use Rattle.journal_refusals.specs.Causes.{unknownKind, bodyCut}
-use Rattle.journal_refusals.specs.Table.{isCutBody, judgedOf}
-use Rattle.journal_refusals.proofs.Exactly.{cut-only}
-use Rattle.journal_refusals.proofs.Framing.{judged-unknown, judged-cut, accepted-whole, whole-not-cut}
-use Rattle.journal_reader.specs.declared.Look.the-variants as L
-use Rattle.stream.specs.Stream.{Next, wait, halt, tell, takes, size, Machine, End, awaits, halted, settled}
+use Rattle.journal_refusals.specs.Table.{judgedOf, wholeOf, framedAs}
+use Rattle.journal_refusals.proofs.Framing.{judged-framed}
+use Rattle.stream.specs.Stream.{Next, wait, halt, go, tell, goesOn, takes, size, Machine, awaits, settled, Advanced, advanced}
 use Rattle.journal_reader.specs.declared.What.{What}
 use Rattle.journal_reader.specs.declared.What.the-variants as W
-use Rattle.journal_reader.specs.State.{State, settingsCame, emptied, inputOf}
-use Rattle.journal_reader.specs.Reading.{Instruction, begin, restart, tick, lookAs, lookOf, broughtOf, withReader, onRecord, bodyOf, onLook, onBytes, whatOf}
-use Rattle.stream.proofs.Stream.{impossible, settled-still}
+use Rattle.journal_reader.specs.State.{State, seenIn, settingsCame, emptied, inputOf}
+use Rattle.journal_reader.specs.Reading.{Instruction, begin, restart, tick, broughtOf, withReader, onRecord, onJudged, onWhole, onBytes, whatOf, readOf}
+use Rattle.stream.proofs.Stream.{impossible, tells-on, ahead}
 
-abbrev Move : Type 0
+abbrev pub Move : Type 0
 Move = Next State Instruction Refusal
 
-record-length : (st : State) (b : List ℕ) (n : ℕ) (r : Record) → size (onRecord st b n r) ≡ n
+-- ---- one record
+
+-- a record that is not refused is taken, all of it
+data Takes (n : ℕ) : Move → Type 0 where
+  goes : (st : State) → Takes n (go st n)
+  tells : (st : State) (i : Instruction) → Takes n (tell st n i)
+
+record-takes : (st : State) (b : List ℕ) (n : ℕ) (x : Record) → Takes n (onRecord st b n x)
 unfolding onRecord
-record-length st b n Settings = refl
-record-length st b n Reset = refl
-record-length st b n (Ack a) = refl
-record-length st b n (Head h) = refl
-record-length st b n (Value c x) = refl
-record-length st b n Outcome = refl
-record-length st b n (Tick t) = refl
+record-takes st b n Settings = tells _ _
+record-takes st b n Reset = tells _ _
+record-takes st b n (Ack a) = goes _
+record-takes st b n (Head h) = goes _
+record-takes st b n (Value c x) = goes _
+record-takes st b n Outcome = goes _
+record-takes st b n (Tick t) = tells _ _
 
--- a record that is not refused does not wait
-record-moves : (st : State) (b : List ℕ) (n : ℕ) (r : Record) → onRecord st b n r ≡ wait → ⊥
-unfolding onRecord
-record-moves st b n Settings e = impossible cc
-record-moves st b n Reset e = impossible cc
-record-moves st b n (Ack a) e = impossible cc
-record-moves st b n (Head h) e = impossible cc
-record-moves st b n (Value c x) e = impossible cc
-record-moves st b n Outcome e = impossible cc
-record-moves st b n (Tick t) e = impossible cc
+takes-size : {n : ℕ} {x : Move} → Takes n x → size x ≡ n
+takes-size (goes st) = refl
+takes-size (tells st i) = refl
 
--- the body of a record of kind k, as far as it came
-abbrev body : ℕ → List ℕ → List ℕ
-body k u = take (bodyLen journalKinds k) u
+takes-moves : {n : ℕ} {x : Move} → Takes n x → x ≡ wait → ⊥
+takes-moves (goes st) e = impossible cc
+takes-moves (tells st i) e = impossible cc
 
-abbrev seenOf : State → Seen
-seenOf st = st .reader .waiting .seen
+takes-on : {n : ℕ} {x : Move} → Takes n x → (r : Refusal) → x ≡ halt r → ⊥
+takes-on (goes st) r e = impossible cc
+takes-on (tells st i) r e = impossible cc
 
-module _ (st : State) (k : ℕ) (u : List ℕ) where
-  abbrev judged : Judged
-  judged = judgedOf journalKinds (seenOf st) k (body k u)
+judged-size : (st : State) (b : List ℕ) (n : ℕ) (x : Record) (j : Judged) → takes (onJudged st b n x j) ≡ true → size (onJudged st b n x j) ≡ n
+judged-size st b n x (Refused r) p = impossible cc
+judged-size st b n x Accepted p = takes-size (record-takes st b n x)
 
-  refused-look : (r : Refusal) (t : Bool) → onLook st (k ∷ u) (cond t L.Waits (L.Refuses r)) ≡ cond t wait (halt r)
-  unfolding onLook
-  refused-look r true = refl
-  refused-look r false = refl
+judged-moves : (st : State) (b : List ℕ) (n : ℕ) (x : Record) (j : Judged) → onJudged st b n x j ≡ wait → ⊥
+judged-moves st b n x (Refused r) e = impossible cc
+judged-moves st b n x Accepted e = takes-moves (record-takes st b n x) e
 
-  -- the move, by what the judge says
-  pub next-refused : (r : Refusal) → judged ≡ Refused r → onBytes st (k ∷ u) ≡ cond (isCutBody r) wait (halt r)
-  unfolding onBytes lookOf lookAs
-  next-refused r e = rw e (refused-look r (isCutBody r))
+takes-whole : TakesWhole onWhole
+unfolding onWhole
+takes-whole = record {
+  sized = λ st k b n p. judged-size st b n (decodeOf k b) (wholeOf (seenIn st) k b) p;
+  moves = λ st k b n e. judged-moves st b n (decodeOf k b) (wholeOf (seenIn st) k b) e;
+}
 
-  pub next-accepted : judged ≡ Accepted → onBytes st (k ∷ u) ≡ onRecord st (body k u) (suc (bodyLen journalKinds k)) (decodeOf k (body k u))
-  unfolding onBytes lookOf lookAs onLook
-  next-accepted e = rw e refl
+-- ---- the machine
 
-  refused-takes : (r : Refusal) (t : Bool) → takes {R = State} {E = Instruction} {H = Refusal} (cond t wait (halt r)) ≡ false
-  refused-takes r true = refl
-  refused-takes r false = refl
+pub machine : (kinds : List ℕ) → Machine (onBytes kinds)
+unfolding onBytes
+machine kinds = frames-machine kinds UnknownKind onWhole takes-whole
 
-  -- what is taken is a record that is accepted
-  taken-length : (x : Judged) → judged ≡ x → takes (onBytes st (k ∷ u)) ≡ true → size (onBytes st (k ∷ u)) ≡ suc (bodyLen journalKinds k)
-  taken-length (Refused r) e p = absurd (let z : _≡_ {A = Bool} true false = sym p ∙ ap takes (next-refused r e) ∙ refused-takes r (isCutBody r) in no z)
-    where
-      no : true ≡ false → ⊥
-      no z = impossible cc
-  taken-length Accepted e p = ap size (next-accepted e) ∙ record-length st (body k u) (suc (bodyLen journalKinds k)) (decodeOf k (body k u))
+-- the move, by the frame
+pub next-frame : (kinds : List ℕ) (st : State) (s : List ℕ) (x : Frame) → frameOf kinds s ≡ x → onBytes kinds st s ≡ onFrame UnknownKind onWhole st s x
+unfolding onBytes
+next-frame kinds st s x e = by-frame kinds UnknownKind onWhole st s x e
 
-  -- and is there whole
-  taken-by : (x : Judged) → judged ≡ x → takes (onBytes st (k ∷ u)) ≡ true → bodyLen journalKinds k ≤ length u
-  taken-by (Refused r) e p = absurd (let z : _≡_ {A = Bool} true false = sym p ∙ ap takes (next-refused r e) ∙ refused-takes r (isCutBody r) in no z)
-    where
-      no : true ≡ false → ⊥
-      no z = impossible cc
-  taken-by Accepted e p = omega (arith, accepted-whole (seenOf st) k (body k u) journalKinds e, length-take (bodyLen journalKinds k) u)
-
-  is-cut : (bodyLen journalKinds k ≤ length u → ⊥) → bodyCut journalKinds (seenOf st) k (body k u) ≡ true
-  unfolding bodyCut
-  is-cut h = lt-ltb (length (body k u)) (bodyLen journalKinds k) (omega (arith, length-take (bodyLen journalKinds k) u))
-
--- a record is judged, and read, by its kind and its body alone
-same-by : (st : State) (k : ℕ) (u v : List ℕ) → body k v ≡ body k u → (x : Judged) → judged st k u ≡ x → onBytes st (k ∷ v) ≡ onBytes st (k ∷ u)
-same-by st k u v q (Refused r) e =
-    next-refused st k v r (ap (judgedOf journalKinds (seenOf st) k) q ∙ e) ∙ sym (next-refused st k u r e)
-same-by st k u v q Accepted e =
-    next-accepted st k v (ap (judgedOf journalKinds (seenOf st) k) q ∙ e)
-    ∙ ap (λ (b : List ℕ). onRecord st b (suc (bodyLen journalKinds k)) (decodeOf k b)) q
-    ∙ sym (next-accepted st k u e)
-
-pub same-record : (st : State) (k : ℕ) (u v : List ℕ) → body k v ≡ body k u → onBytes st (k ∷ v) ≡ onBytes st (k ∷ u)
-same-record st k u v q = same-by st k u v q (judged st k u) refl
-
-more-by : (st : State) (k : ℕ) (u t : List ℕ) → Dec (bodyLen journalKinds k ≤ length u) → (c : Bool) → unknownKind journalKinds (seenOf st) k (body k u) ≡ c
-    → (onBytes st (k ∷ u) ≡ wait → ⊥) → onBytes st (k ∷ u ++ t) ≡ onBytes st (k ∷ u)
-unfolding unknownKind
-more-by st k u t (yes h) c e w = same-record st k u (u ++ t) (take-append-le (bodyLen journalKinds k) u t h)
-more-by st k u t (no h) true e w =
-    next-refused st k (u ++ t) UnknownKind (judged-unknown (seenOf st) k (body k (u ++ t)) journalKinds e)
-    ∙ sym (next-refused st k u UnknownKind (judged-unknown (seenOf st) k (body k u) journalKinds e))
-more-by st k u t (no h) false e w =
-    absurd (w (next-refused st k u CutBody (judged-cut (seenOf st) k (body k u) journalKinds e (is-cut st k u h))))
-
-stands-by : (st : State) (s t : List ℕ) → (onBytes st s ≡ wait → ⊥) → onBytes st (s ++ t) ≡ onBytes st s
-unfolding onBytes lookOf onLook
-stands-by st [] t w = absurd (w refl)
-stands-by st (k ∷ u) t w = more-by st k u t (decLe _ _) (unknownKind journalKinds (seenOf st) k (body k u)) refl w
-
-taken : (st : State) (s : List ℕ) → takes (onBytes st s) ≡ true → (0 < size (onBytes st s)) × (size (onBytes st s) ≤ length s)
-unfolding onBytes lookOf onLook
-taken st [] p = impossible cc
-taken st (k ∷ u) p =
-    let l : size (onBytes st (k ∷ u)) ≡ suc (bodyLen journalKinds k) = taken-length st k u (judged st k u) refl p in
-    (omega arith, omega (arith, taken-by st k u (judged st k u) refl p))
-
--- what is taken is all that was looked at
-enough : (st : State) (s : List ℕ) → takes (onBytes st s) ≡ true → onBytes st (take (size (onBytes st s)) s) ≡ onBytes st s
-unfolding onBytes lookOf onLook
-enough st [] p = impossible cc
-enough st (k ∷ u) p =
-    let n = bodyLen journalKinds k in
-    let l : size (onBytes st (k ∷ u)) ≡ suc n = taken-length st k u (judged st k u) refl p in
-    ap (λ (m : ℕ). onBytes st (take m (k ∷ u))) l ∙ same-record st k u (take n u) (take-take n n u (omega arith))
-
-none-waits : (st : State) → onBytes st [] ≡ wait
-unfolding onBytes lookOf onLook
-none-waits st = refl
-
-pub machine : Machine onBytes
-machine = record { idle = none-waits; there = taken; enough = enough; stands = stands-by }
-
--- ---- what waits for more bytes is shorter than a record
-
--- every number of a list is at most m
-all-under : ℕ → List ℕ → Bool
-all-under m [] = true
-all-under m (x ∷ l) = cond (leb x m) (all-under m l) false
-
-under-by : (m x : ℕ) (l : List ℕ) (t : Bool) → leb x m ≡ t → all-under m (x ∷ l) ≡ true → (x ≤ m) × (all-under m l ≡ true)
-unfolding all-under
-under-by m x l true e a = (leb-true x m e, rw e at a)
-under-by m x l false e a = let f : false ≡ true = rw e at a in impossible cc
-
-under : (m : ℕ) (l : List ℕ) (k : ℕ) → all-under m l ≡ true → getD l k 0 ≤ m
-under m [] k a = omega arith
-under m (x ∷ l) zero a = under-by m x l (leb x m) refl a .0
-under m (x ∷ l) (suc k) a = under m l k (under-by m x l (leb x m) refl a .1)
-
-bodies-short : (k : ℕ) → bodyLen journalKinds k ≤ 257
-unfolding bodyLen all-under
-bodies-short k = under 257 (0 ∷ journalKinds) k refl
-
-not-wait-halt : (x : Move) (r : Refusal) → x ≡ wait → x ≡ halt r → ⊥
-not-wait-halt x r p q = impossible cc
-
--- a record that is there whole does not wait
-whole-moves : (st : State) (k : ℕ) (u : List ℕ) → bodyLen journalKinds k ≤ length u → (x : Judged) → judged st k u ≡ x → onBytes st (k ∷ u) ≡ wait → ⊥
-unfolding bodyCut
-whole-moves st k u h Accepted e w = record-moves st (body k u) (suc (bodyLen journalKinds k)) (decodeOf k (body k u)) (sym (next-accepted st k u e) ∙ w)
-whole-moves st k u h (Refused r) e w =
-    let c : bodyCut journalKinds (seenOf st) k (body k u) ≡ false
-    = le-ltb (length (body k u)) (bodyLen journalKinds k) (omega (arith, length-take (bodyLen journalKinds k) u)) in
-    let q : isCutBody r ≡ false = whole-not-cut (seenOf st) k (body k u) journalKinds r c e in
-    not-wait-halt (onBytes st (k ∷ u)) r w (next-refused st k u r e ∙ rw q refl)
-
-short-by : (st : State) (k : ℕ) (u : List ℕ) → onBytes st (k ∷ u) ≡ wait → Dec (bodyLen journalKinds k ≤ length u) → length u < bodyLen journalKinds k
-short-by st k u w (yes h) = absurd (whole-moves st k u h (judged st k u) refl w)
-short-by st k u w (no h) = omega arith
-
--- what waits for more bytes is no more than 257 of them
-pub waits-short : (st : State) (s : List ℕ) → onBytes st s ≡ wait → length s ≤ 257
-waits-short st [] w = omega arith
-waits-short st (k ∷ u) w = omega (arith, short-by st k u w (decLe _ _), bodies-short k)
+-- what waits for more bytes is shorter than a record
+pub waits-short : (kinds : List ℕ) → ShortRecords kinds → (st : State) (s : List ℕ) → onBytes kinds st s ≡ wait → length s < recordRoom
+unfolding onBytes
+waits-short kinds h st s e = waits-under kinds h UnknownKind onWhole takes-whole st s e
 
 -- so that is all that a reader carries over from one part to the next
-rest-by : (st : State) (s : List ℕ) (x : End Refusal) → settled onBytes st s .end ≡ x → x ≡ awaits → length (settled onBytes st s .rest) ≤ 257
-rest-by st s awaits e p =
-    let w : onBytes (settled onBytes st s .state) (settled onBytes st s .rest) ≡ wait = rw e at (settled-still onBytes machine st s) in
-    waits-short (settled onBytes st s .state) (settled onBytes st s .rest) w
-rest-by st s (halted r) e p = impossible cc
+pub rest-short : (kinds : List ℕ) → ShortRecords kinds → (st : State) (s : List ℕ) → settled (onBytes kinds) st s .end ≡ awaits
+    → length (settled (onBytes kinds) st s .rest) < recordRoom
+unfolding onBytes
+rest-short kinds h st s e = rest-under kinds h UnknownKind onWhole takes-whole st s e
 
-pub rest-short : (st : State) (s : List ℕ) → settled onBytes st s .end ≡ awaits → length (settled onBytes st s .rest) ≤ 257
-rest-short st s e = rest-by st s (settled onBytes st s .end) refl e
+-- the kinds of the paper make short records
+pub journal-short : ShortRecords journalKinds
+unfolding all-short
+journal-short = short-table journalKinds refl
 
--- ---- the other way: what a move says of the judgement
+-- ---- the table: what the reader does with a record, by what the table says of it
 
-record-not-halted : (st : State) (b : List ℕ) (n : ℕ) (x : Record) (r : Refusal) → onRecord st b n x ≡ halt r → ⊥
-unfolding onRecord
-record-not-halted st b n Settings r e = impossible cc
-record-not-halted st b n Reset r e = impossible cc
-record-not-halted st b n (Ack a) r e = impossible cc
-record-not-halted st b n (Head h) r e = impossible cc
-record-not-halted st b n (Value c x) r e = impossible cc
-record-not-halted st b n Outcome r e = impossible cc
-record-not-halted st b n (Tick t) r e = impossible cc
+module _ (kinds : List ℕ) (st : State) (k : ℕ) (u : List ℕ) where
+  -- the body, as far as it came
+  abbrev body : List ℕ
+  body = take (bodyLen kinds k) u
 
-halts-for : (r r' : Refusal) (t : Bool) → _≡_ {A = Move} (cond t wait (halt r')) (halt r) → r' ≡ r
-halts-for r r' true e = impossible cc
-halts-for r r' false e = cc
+  abbrev judged : Judged
+  judged = judgedOf kinds (seenIn st) k body
 
-waits-for : (r : Refusal) (t : Bool) → isCutBody r ≡ t → _≡_ {A = Move} (cond t wait (halt r)) wait → r ≡ CutBody
-waits-for r true c e = cut-only r c
-waits-for r false c e = impossible cc
+  pub data Does : Judged → Type 0 where
+    takes-it : onBytes kinds st (k ∷ u) ≡ onRecord st body (suc (bodyLen kinds k)) (decodeOf k body) → Does Accepted
+    halts : (r : Refusal) → onBytes kinds st (k ∷ u) ≡ halt r → Does (Refused r)
+    waits : onBytes kinds st (k ∷ u) ≡ wait → Does (Refused CutBody)
 
-module _ (st : State) (k : ℕ) (u : List ℕ) where
-  halted-by : (r : Refusal) (x : Judged) → judged st k u ≡ x → onBytes st (k ∷ u) ≡ halt r → judged st k u ≡ Refused r
-  halted-by r Accepted e h = absurd (record-not-halted st (body k u) _ _ r (sym (next-accepted st k u e) ∙ h))
-  halted-by r (Refused r') e h = e ∙ ap Refused (halts-for r r' (isCutBody r') (sym (next-refused st k u r' e) ∙ h))
+  whole-does : frameOf kinds (k ∷ u) ≡ F.Whole k (bodyLen kinds k) → (j : Judged) → wholeOf (seenIn st) k body ≡ j → Does j
+  unfolding onWhole
+  whole-does f (Refused r) e = halts r (next-frame kinds st (k ∷ u) _ f ∙ rw e refl)
+  whole-does f Accepted e = takes-it (next-frame kinds st (k ∷ u) _ f ∙ rw e refl)
 
-  -- a reader that halts does so by the judgement
-  pub halted-judged : (r : Refusal) → onBytes st (k ∷ u) ≡ halt r → judged st k u ≡ Refused r
-  halted-judged r h = halted-by r (judged st k u) refl h
+  frame-does : {x : Frame} → FrameAt kinds k u x → frameOf kinds (k ∷ u) ≡ x → Does (framedAs (seenIn st) u x)
+  frame-does (unknown e) f = halts UnknownKind (next-frame kinds st (k ∷ u) _ f)
+  frame-does (cut e h) f = waits (next-frame kinds st (k ∷ u) _ f)
+  frame-does (whole e h) f = whole-does f (wholeOf (seenIn st) k body) refl
 
-  waiting-by : (x : Judged) → judged st k u ≡ x → onBytes st (k ∷ u) ≡ wait → judged st k u ≡ Refused CutBody
-  waiting-by Accepted e h = absurd (record-moves st (body k u) _ _ (sym (next-accepted st k u e) ∙ h))
-  waiting-by (Refused r) e h = e ∙ ap Refused (waits-for r (isCutBody r) refl (sym (next-refused st k u r e) ∙ h))
+  pub judged-does : Does judged
+  judged-does = subst Does (sym (judged-framed kinds (seenIn st) k u)) (frame-does (frame-at kinds k u) refl)
+
+  accepted-by : {j : Judged} → Does j → j ≡ Accepted → onBytes kinds st (k ∷ u) ≡ onRecord st body (suc (bodyLen kinds k)) (decodeOf k body)
+  accepted-by (takes-it e) q = e
+  accepted-by (halts r e) q = impossible cc
+  accepted-by (waits e) q = impossible cc
+
+  -- a record that the table accepts is taken
+  pub next-accepted : judged ≡ Accepted → onBytes kinds st (k ∷ u) ≡ onRecord st body (suc (bodyLen kinds k)) (decodeOf k body)
+  next-accepted e = accepted-by judged-does e
+
+  -- one that it refuses halts the reader, or is waited for where it is cut
+  pub data RefusedBy (r : Refusal) : Type 0 where
+    halted-for : onBytes kinds st (k ∷ u) ≡ halt r → RefusedBy r
+    waited-for : r ≡ CutBody → onBytes kinds st (k ∷ u) ≡ wait → RefusedBy r
+
+  refused-by : {j : Judged} → Does j → (r : Refusal) → j ≡ Refused r → RefusedBy r
+  refused-by (takes-it e) r q = impossible cc
+  refused-by (halts r' e) r q = let p : r' ≡ r = cc in halted-for (e ∙ ap halt p)
+  refused-by (waits e) r q = let p : CutBody ≡ r = cc in waited-for (sym p) e
+
+  pub next-refused : (r : Refusal) → judged ≡ Refused r → RefusedBy r
+  next-refused r e = refused-by judged-does r e
+
+  halted-by : {j : Judged} → Does j → (r : Refusal) → onBytes kinds st (k ∷ u) ≡ halt r → j ≡ Refused r
+  halted-by (takes-it e) r h = absurd (takes-on (record-takes st body _ _) r (sym e ∙ h))
+  halted-by (halts r' e) r h = let p : _≡_ {A = Move} (halt r') (halt r) = sym e ∙ h in let q : r' ≡ r = cc in ap Refused q
+  halted-by (waits e) r h = let p : _≡_ {A = Move} wait (halt r) = sym e ∙ h in impossible cc
+
+  -- a reader that halts does so by the table
+  pub halted-judged : (r : Refusal) → onBytes kinds st (k ∷ u) ≡ halt r → judged ≡ Refused r
+  halted-judged r h = halted-by judged-does r h
+
+  waiting-by : {j : Judged} → Does j → onBytes kinds st (k ∷ u) ≡ wait → j ≡ Refused CutBody
+  waiting-by (takes-it e) h = absurd (takes-moves (record-takes st body _ _) (sym e ∙ h))
+  waiting-by (halts r e) h = let p : _≡_ {A = Move} (halt r) wait = sym e ∙ h in impossible cc
+  waiting-by (waits e) h = refl
 
   -- and one that waits has a record that is cut
-  pub waiting-judged : onBytes st (k ∷ u) ≡ wait → judged st k u ≡ Refused CutBody
-  waiting-judged h = waiting-by (judged st k u) refl h
+  pub waiting-judged : onBytes kinds st (k ∷ u) ≡ wait → judged ≡ Refused CutBody
+  waiting-judged h = waiting-by judged-does h
+
+-- ---- a refusal goes by what was seen and by the record's bytes alone
+
+-- where one reader waits or is refused, so is the other
+pub record Alike (x y : Move) : Type 0 where
+  pub waits : x ≡ wait → y ≡ wait
+  pub refused : (r : Refusal) → x ≡ halt r → y ≡ halt r
+
+module _ (kinds : List ℕ) (st st' : State) (k : ℕ) (u v : List ℕ) (same-seen : seenIn st ≡ seenIn st') (same-body : body kinds st k u ≡ body kinds st' k v) where
+  same-frame : {x : Frame} → FrameAt kinds k u x → FrameAt kinds k v x
+  same-frame (unknown e) = unknown e
+  same-frame (cut e h) = cut e (omega (arith, length-take (bodyLen kinds k) u, length-take (bodyLen kinds k) v, ap length same-body))
+  same-frame (whole e h) = whole e (omega (arith, length-take (bodyLen kinds k) u, length-take (bodyLen kinds k) v, ap length same-body))
+
+  alike-by : (b c : List ℕ) (n : ℕ) (x y : Record) (j : Judged) → Alike (onJudged st b n x j) (onJudged st' c n y j)
+  alike-by b c n x y (Refused r) = record { waits = λ e. e; refused = λ r' e. e }
+  alike-by b c n x y Accepted = record {
+    waits = λ e. absurd (takes-moves (record-takes st b n x) e);
+    refused = λ r e. absurd (takes-on (record-takes st b n x) r e);
+  }
+
+  alike-at : {x : Frame} → FrameAt kinds k u x → Alike (onFrame UnknownKind onWhole st (k ∷ u) x) (onFrame UnknownKind onWhole st' (k ∷ v) x)
+  unfolding onWhole
+  alike-at (unknown e) = record { waits = λ e. e; refused = λ r e. e }
+  alike-at (cut e h) = record { waits = λ e. e; refused = λ r e. e }
+  alike-at (whole e h) =
+      let b = body kinds st k u in
+      let c = body kinds st' k v in
+      let n = suc (bodyLen kinds k) in
+      subst (λ (j : Judged). Alike (onWhole st k b n) (onJudged st' c n (decodeOf k c) j)) (ap₂ (λ (seen : Seen) (l : List ℕ). wholeOf seen k l) same-seen same-body)
+      (alike-by b c n (decodeOf k b) (decodeOf k c) (wholeOf (seenIn st) k b))
+
+  -- Whatever waits and is collected, and whatever comes after the record.
+  pub judged-alike : Alike (onBytes kinds st (k ∷ u)) (onBytes kinds st' (k ∷ v))
+  judged-alike =
+      let d = frame-at kinds k u in
+      rw (next-frame kinds st (k ∷ u) _ refl, next-frame kinds st' (k ∷ v) _ (frame-is kinds k v (same-frame d))) (alike-at d)
 
 -- ---- what an instruction is, by what the reader says of it
 
-record-begins : (st : State) (b : List ℕ) (n : ℕ) (x : Record) → whatOf (onRecord st b n x) ≡ W.Begins
-    → onRecord st b n x ≡ tell (withReader st (settingsCame (st .reader))) n (begin (settingsOf b))
-unfolding onRecord
-record-begins st b n Settings e = refl
-record-begins st b n Reset e = impossible cc
-record-begins st b n (Ack a) e = impossible cc
-record-begins st b n (Head h) e = impossible cc
-record-begins st b n (Value c v) e = impossible cc
-record-begins st b n Outcome e = impossible cc
-record-begins st b n (Tick t) e = impossible cc
+-- what a move is, by what is said of it
+abbrev Says : State → List ℕ → ℕ → Move → What → Type 0
+Says st b n x W.Waits = Unit {0}
+Says st b n x (W.Refuses r) = Unit {0}
+Says st b n x W.Begins = x ≡ tell (withReader st (settingsCame (st .reader))) n (begin (settingsOf b))
+Says st b n x W.Resets = x ≡ tell (withReader st (emptied (st .reader))) n restart
+Says st b n x (W.Ticks i) = x ≡ tell (withReader st (emptied (st .reader))) n (tick (broughtOf st i))
 
-record-resets : (st : State) (b : List ℕ) (n : ℕ) (x : Record) → whatOf (onRecord st b n x) ≡ W.Resets
-    → onRecord st b n x ≡ tell (withReader st (emptied (st .reader))) n restart
-unfolding onRecord
-record-resets st b n Settings e = impossible cc
-record-resets st b n Reset e = refl
-record-resets st b n (Ack a) e = impossible cc
-record-resets st b n (Head h) e = impossible cc
-record-resets st b n (Value c v) e = impossible cc
-record-resets st b n Outcome e = impossible cc
-record-resets st b n (Tick t) e = impossible cc
-
-record-ticks : (st : State) (b : List ℕ) (n : ℕ) (x : Record) (i : TickInput) → whatOf (onRecord st b n x) ≡ W.Ticks i
-    → onRecord st b n x ≡ tell (withReader st (emptied (st .reader))) n (tick (broughtOf st i))
+record-says : (st : State) (b : List ℕ) (n : ℕ) (x : Record) → Says st b n (onRecord st b n x) (whatOf (onRecord st b n x))
 unfolding onRecord broughtOf
-record-ticks st b n Settings i e = impossible cc
-record-ticks st b n Reset i e = impossible cc
-record-ticks st b n (Ack a) i e = impossible cc
-record-ticks st b n (Head h) i e = impossible cc
-record-ticks st b n (Value c v) i e = impossible cc
-record-ticks st b n Outcome i e = impossible cc
-record-ticks st b n (Tick t) i e =
-    let q : inputOf (st .reader .waiting) t ≡ i = cc in
-    ap (λ (x : TickInput). tell (withReader st (emptied (st .reader))) n (tick (broughtOf st x))) q
+record-says st b n Settings = refl
+record-says st b n Reset = refl
+record-says st b n (Ack a) = tt
+record-says st b n (Head h) = tt
+record-says st b n (Value c v) = tt
+record-says st b n Outcome = tt
+record-says st b n (Tick t) = refl
 
--- these come from records that were accepted
-instructs : What → Bool
+judged-says : (st : State) (b : List ℕ) (n : ℕ) (x : Record) (j : Judged) → Says st b n (onJudged st b n x j) (whatOf (onJudged st b n x j))
+judged-says st b n x (Refused r) = tt
+judged-says st b n x Accepted = record-says st b n x
+
+module _ (kinds : List ℕ) (st : State) (u : List ℕ) where
+  -- the record at the front
+  abbrev pub front-body : List ℕ
+  front-body = bodyOf (bodyLen kinds (byteAt u 0)) u
+
+  abbrev pub front-size : ℕ
+  front-size = suc (bodyLen kinds (byteAt u 0))
+
+  says-by : (x : Frame) → frameOf kinds u ≡ x → Says st front-body front-size (onFrame UnknownKind onWhole st u x) (whatOf (onFrame UnknownKind onWhole st u x))
+  unfolding onWhole
+  says-by F.Waits f = tt
+  says-by F.Unknown f = tt
+  says-by (F.Whole k n) f =
+      let m = frame-kind kinds u k n f in
+      rw (m .1) (judged-says st front-body front-size (decodeOf k front-body) (wholeOf (seenIn st) k front-body))
+
+  front-says : Says st front-body front-size (onBytes kinds st u) (whatOf (onBytes kinds st u))
+  front-says = rw (next-frame kinds st u (frameOf kinds u) refl) (says-by (frameOf kinds u) refl)
+
+  pub begins-is : whatOf (onBytes kinds st u) ≡ W.Begins → onBytes kinds st u ≡ tell (withReader st (settingsCame (st .reader))) front-size (begin (settingsOf front-body))
+  begins-is e = subst (Says st front-body front-size (onBytes kinds st u)) e front-says
+
+  pub resets-is : whatOf (onBytes kinds st u) ≡ W.Resets → onBytes kinds st u ≡ tell (withReader st (emptied (st .reader))) front-size restart
+  resets-is e = subst (Says st front-body front-size (onBytes kinds st u)) e front-says
+
+  pub ticks-is : (i : TickInput) → whatOf (onBytes kinds st u) ≡ W.Ticks i → onBytes kinds st u ≡ tell (withReader st (emptied (st .reader))) front-size (tick (broughtOf st i))
+  ticks-is i e = subst (Says st front-body front-size (onBytes kinds st u)) e front-says
+
+-- ---- where an instruction ends
+
+-- these are instructions
+pub instructs : What → Bool
 instructs W.Waits = false
 instructs (W.Refuses r) = false
 instructs W.Begins = true
 instructs W.Resets = true
 instructs (W.Ticks i) = true
 
-refused-instructs : (r : Refusal) (t : Bool) → instructs (whatOf (cond t wait (halt r))) ≡ false
+-- what tells, tells something
+pub record TellsTo (x : Move) (n : ℕ) : Type 0 where
+  pub state : State
+  pub instruction : Instruction
+  pub is : x ≡ tell state n instruction
+
+told-by : (x : Move) → instructs (whatOf x) ≡ true → TellsTo x (size x)
 unfolding instructs
-refused-instructs r true = refl
-refused-instructs r false = refl
+told-by wait y = impossible cc
+told-by (halt r) y = impossible cc
+told-by (go st n) y = impossible cc
+told-by (tell st n i) y = record { state = st; instruction = i; is = refl }
 
-accepted-by : (st : State) (k : ℕ) (u : List ℕ) (x : Judged) → judged st k u ≡ x → instructs (whatOf (onBytes st (k ∷ u))) ≡ true → judged st k u ≡ Accepted
-accepted-by st k u Accepted e y = e
-accepted-by st k u (Refused r) e y =
-    absurd (let z : _≡_ {A = Bool} true false = sym y ∙ ap (λ (n : Move). instructs (whatOf n)) (next-refused st k u r e) ∙ refused-instructs r (isCutBody r) in no z)
-  where
-    no : true ≡ false → ⊥
-    no z = impossible cc
+-- where the reader comes to an instruction, its record is there whole and ends where `end` says
+module _ (kinds : List ℕ) (st : State) (s : List ℕ) (y : instructs (readOf kinds st s .what) ≡ true) where
+  abbrev come : Advanced State Instruction Refusal
+  come = advanced (onBytes kinds) st s
 
--- the record at the front of u, with its body
-abbrev at-front : State → List ℕ → Move
-at-front st u =
-    let n = bodyLen journalKinds (byteAt u 0) in
-    onRecord st (bodyOf n u) (suc n) (decodeOf (byteAt u 0) (bodyOf n u))
+  told-move : TellsTo (onBytes kinds (come .state) (drop (come .used) s)) (size (come .next))
+  unfolding readOf
+  told-move = rw (ahead (onBytes kinds) (machine kinds) st s .then) (told-by (come .next) y)
 
-instructs-by : (st : State) (u : List ℕ) → instructs (whatOf (onBytes st u)) ≡ true → onBytes st u ≡ at-front st u
-unfolding onBytes lookOf onLook instructs
-instructs-by st [] y = impossible cc
-instructs-by st (k ∷ u) y = next-accepted st k u (accepted-by st k u (judged st k u) refl y)
+  pub told-end : TellsTo (onBytes kinds (come .state) (drop (readOf kinds st s .used) s)) (readOf kinds st s .end - readOf kinds st s .used)
+  unfolding readOf
+  told-end = let e : come .used + size (come .next) - come .used ≡ size (come .next) = omega arith in rw e told-move
 
-module _ (st : State) (u : List ℕ) where
-  abbrev front-body : List ℕ
-  front-body = bodyOf (bodyLen journalKinds (byteAt u 0)) u
+  pub end-within : readOf kinds st s .end ≤ length s
+  unfolding readOf
+  end-within =
+      let t = told-move in
+      omega (
+        arith,
+        tells-on (onBytes kinds) (machine kinds .there) (come .state) (drop (come .used) s) (t .state) (size (come .next)) (t .instruction) (t .is) .1,
+        length-drop (come .used) s,
+        ahead (onBytes kinds) (machine kinds) st s .within,
+      )
 
-  abbrev front-size : ℕ
-  front-size = suc (bodyLen journalKinds (byteAt u 0))
+-- ---- where the reader waits
 
-  pub begins-is : whatOf (onBytes st u) ≡ W.Begins → onBytes st u ≡ tell (withReader st (settingsCame (st .reader))) front-size (begin (settingsOf front-body))
-  unfolding instructs
-  begins-is e = let q = instructs-by st u (ap instructs e) in q ∙ record-begins st front-body front-size _ (ap whatOf (sym q) ∙ e)
+waits-of : (x : Move) → goesOn x ≡ false → whatOf x ≡ W.Waits → x ≡ wait
+waits-of wait g e = refl
+waits-of (halt r) g e = impossible cc
+waits-of (go st n) g e = impossible cc
+waits-of (tell st n (begin s)) g e = impossible cc
+waits-of (tell st n restart) g e = impossible cc
+waits-of (tell st n (tick c)) g e = impossible cc
 
-  pub resets-is : whatOf (onBytes st u) ≡ W.Resets → onBytes st u ≡ tell (withReader st (emptied (st .reader))) front-size restart
-  unfolding instructs
-  resets-is e = let q = instructs-by st u (ap instructs e) in q ∙ record-resets st front-body front-size _ (ap whatOf (sym q) ∙ e)
-
-  pub ticks-is : (i : TickInput) → whatOf (onBytes st u) ≡ W.Ticks i → onBytes st u ≡ tell (withReader st (emptied (st .reader))) front-size (tick (broughtOf st i))
-  unfolding instructs
-  ticks-is i e = let q = instructs-by st u (ap instructs e) in q ∙ record-ticks st front-body front-size _ i (ap whatOf (sym q) ∙ e)
+-- fewer bytes are left over than a record has
+pub read-short : (kinds : List ℕ) → ShortRecords kinds → (st : State) (s : List ℕ) → readOf kinds st s .what ≡ W.Waits → length s < readOf kinds st s .used + recordRoom
+unfolding readOf
+read-short kinds h st s e =
+    let a = advanced (onBytes kinds) st s in
+    let m = ahead (onBytes kinds) (machine kinds) st s in
+    omega (arith, waits-short kinds h (a .state) (drop (a .used) s) (m .then ∙ waits-of (a .next) (m .stops) e), length-drop (a .used) s, m .within)

@@ -1,47 +1,31 @@
 -- What a journal's bytes say, record by record (01-scope.md, Journal): instructions for the fuse.
--- The run state has no part in it.
-use mathlib.Core.Bool.{cond}
-use mathlib.Core.List.{List, [], _∷_}
-use Prim.Native.Nat.{ℕ, suc}
-use lib.ListN.{take, drop}
+-- The run state has no part in it. Which kinds there are, and how long their bodies are, is the
+-- parameter `kinds` (journal_frames, specs/Frames).
+use mathlib.Core.List.{List}
+use Prim.Native.Nat.{ℕ, _+_}
 use lib.Ieee.{Float}
 use Rattle.lictor_core.specs.declared.envelope.Settings as S
 use Rattle.lictor_core.specs.declared.fuse.TickInput.{TickInput}
 use Rattle.lictor_core.specs.declared.outcome.Outcome as O
 use Rattle.journal_records.specs.declared.Record.{Record}
 use Rattle.journal_records.specs.declared.Record.the-variants.{Settings, Reset, Ack, Head, Value, Outcome, Tick}
-use Rattle.journal_records.specs.Kinds.{journalKinds, bodyLen}
+use Rattle.journal_frames.specs.Frames.{OnWhole, byFrames}
 use Rattle.journal_records.specs.Body.{decodeOf}
 use Rattle.journal_records.specs.Long.{settingsOf, outcomeOf}
-use Rattle.journal_refusals.specs.declared.Seen.{Seen}
 use Rattle.journal_refusals.specs.declared.Refusal.{Refusal}
+use Rattle.journal_refusals.specs.declared.Refusal.the-variants.{UnknownKind}
 use Rattle.journal_refusals.specs.declared.Judged.{Judged}
 use Rattle.journal_refusals.specs.declared.Judged.the-variants.{Accepted, Refused}
 use Rattle.journal_refusals.specs.Causes.{chunkList, posList, velList, auxList, extList}
-use Rattle.journal_refusals.specs.Table.{isCutBody, judgedOf}
+use Rattle.journal_refusals.specs.Table.{wholeOf}
 use Rattle.journal_reader.specs.declared.waiting.Reader.{Reader}
-use Rattle.journal_reader.specs.declared.Look.{Look}
-use Rattle.journal_reader.specs.declared.Look.the-variants as L
 use Rattle.journal_reader.specs.declared.What.{What}
 use Rattle.journal_reader.specs.declared.What.the-variants.{Waits, Refuses, Begins, Resets, Ticks}
 use Rattle.journal_reader.specs.declared.Progress.{Progress}
-use Rattle.stream.specs.Stream.{Next, wait, halt, go, tell, advanced}
-use Rattle.journal_reader.specs.State.{State, ackWaits, headWaits, valueWaits, stored, withWaiting, outcomeWaits, settingsCame, emptied, valuesOf, inputOf}
+use Rattle.stream.specs.Stream.{Next, wait, halt, go, tell, size, advanced}
+use Rattle.journal_reader.specs.State.{State, seenIn, ackWaits, headWaits, valueWaits, stored, withWaiting, outcomeWaits, settingsCame, emptied, valuesOf, inputOf}
 
--- ---- the record at the front
-
--- One that is refused, or cut by the end of the bytes at hand, which is no refusal before the
--- journal's end; or a record, and the length of its body.
-unfoldable pub lookAs : ℕ → List ℕ → Judged → Look
-lookAs k b (Refused r) = cond (isCutBody r) L.Waits (L.Refuses r)
-lookAs k b Accepted = L.Found (decodeOf k b) (bodyLen journalKinds k)
-
--- kind k, and its body as far as it came
-unfoldable pub lookOf : Seen → List ℕ → Look
-lookOf seen [] = L.Waits
-lookOf seen (k ∷ s) = let b = take (bodyLen journalKinds k) s in lookAs k b (judgedOf journalKinds seen k b)
-
--- ---- what it does
+-- ---- what a record does
 
 -- what a tick is called with
 pub record Brought : Type 0 where
@@ -92,17 +76,21 @@ onRecord st b n (Value c x) =
 onRecord st b n Outcome = go (withReader st (outcomeWaits (st .reader) (outcomeOf b))) n
 onRecord st b n (Tick t) = tell (withReader st (emptied (st .reader))) n (tick (broughtOf st (inputOf (st .reader .waiting) t)))
 
--- the body of the record at the front of s, of n bytes
-abbrev pub bodyOf : ℕ → List ℕ → List ℕ
-bodyOf n s = take n (drop 1 s)
+-- ---- what bytes do
 
-unfoldable pub onLook : State → List ℕ → Look → Next State Instruction Refusal
-onLook st s L.Waits = wait
-onLook st s (L.Refuses r) = halt r
-onLook st s (L.Found r n) = onRecord st (bodyOf n s) (suc n) r
+-- by what the table says of it
+abbrev pub onJudged : State → List ℕ → ℕ → Record → Judged → Next State Instruction Refusal
+onJudged st b n x (Refused r) = halt r
+onJudged st b n x Accepted = onRecord st b n x
 
-unfoldable pub onBytes : State → List ℕ → Next State Instruction Refusal
-onBytes st s = onLook st s (lookOf (st .reader .waiting .seen) s)
+-- a record of kind k, with body b, that is there whole
+unfoldable pub onWhole : OnWhole State Instruction Refusal
+onWhole st k b n = onJudged st b n (decodeOf k b) (wholeOf (seenIn st) k b)
+
+-- The record at the front of some bytes: one that is not there whole is waited for, which is no
+-- refusal before the journal's end, and a kind that is not listed is refused.
+unfoldable pub onBytes : List ℕ → State → List ℕ → Next State Instruction Refusal
+onBytes kinds = byFrames kinds UnknownKind onWhole
 
 -- ---- what the code answers
 
@@ -115,11 +103,12 @@ whatOf (tell st n (begin s)) = Begins
 whatOf (tell st n restart) = Resets
 whatOf (tell st n (tick c)) = Ticks (c .input)
 
--- all records up to the next instruction: the reader there, the bytes up to there, what comes next
-unfoldable pub readOf : State → List ℕ → Progress
-readOf st s =
-    let a = advanced onBytes st s in
-    record { reader = a .state .reader; used = a .used; what = whatOf (a .next) }
+-- all records up to the next instruction: the reader there, the bytes up to there, what comes next,
+-- and where that ends
+unfoldable pub readOf : List ℕ → State → List ℕ → Progress
+readOf kinds st s =
+    let a = advanced (onBytes kinds) st s in
+    record { reader = a .state .reader; used = a .used; end = a .used + size (a .next); what = whatOf (a .next) }
 
-unfoldable pub listsRead : State → List ℕ → List Float
-listsRead st s = advanced onBytes st s .state .lists
+unfoldable pub listsRead : List ℕ → State → List ℕ → List Float
+listsRead kinds st s = advanced (onBytes kinds) st s .state .lists

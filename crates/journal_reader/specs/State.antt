@@ -24,6 +24,10 @@ pub record State : Type 0 where
   pub reader : Reader
   pub lists : List Float
 
+-- what it has seen, which is all of it that has a part in refusals
+abbrev pub seenIn : State → Seen
+seenIn st = st .reader .waiting .seen
+
 -- where each list begins
 abbrev pub bases : List ℕ
 bases = 0 ∷ chunkRoom ∷ (chunkRoom + listRoom) ∷ (chunkRoom + 2 * listRoom) ∷ (chunkRoom + 3 * listRoom) ∷ []

@@ -2,19 +2,18 @@
 pub mod waiting; // what waits for a tick
 
 ghost use mathlib.Core.Bool.{false};
-ghost use mathlib.Core.List.{[]};
 ghost use mathlib.Core.Path.{_≡_};
 ghost use Prim.Native.Nat.{_+_, _<_, _≤_, _^_};
 ghost use lib.ListN.{length, drop, getD};
-ghost use Rattle.journal_refusals.specs.declared.Judged.the-variants as Judged;
 ghost use Rattle.journal_refusals.specs.Causes.{capacities, countOf};
-ghost use Rattle.journal_refusals.specs.Table.{isCutBody};
+ghost use Rattle.journal_refusals.specs.Table.{wholeOf};
 ghost use Rattle.journal_reader.specs.State.{valueWaits, stored};
-ghost use Rattle.journal_reader.specs.Reading.{lookAs, lookOf, readOf, listsRead};
-ghost use Rattle.journal_reader.specs.Steps.{Room, isSmall, Added, TookOne, Collected, Instructs, TookStretch};
+ghost use Rattle.journal_reader.specs.Reading.{readOf, listsRead};
+ghost use Rattle.journal_reader.specs.Steps.{lookAs, lookOf, Room, isSmall, Added, TookOne, Collected, Instructs, TookStretch};
 use crate::waiting::PLACES;
 use crate::waiting::Reader;
 use crate::waiting::Waiting;
+use journal_frames::Frame;
 use journal_records::Record;
 use journal_refusals::Judged;
 use journal_refusals::Refusal;
@@ -43,51 +42,36 @@ pub struct Progress {
     pub reader: Reader,
     // the bytes up to there
     pub used: usize,
+    // where the record ends that instructs; the same as `used`, where none does
+    pub end: usize,
     pub what: What,
 }
 
-fn is_cut_body(r: Refusal) -> bool
-    ensures { λ t. ⌜ t ≡ isCutBody r ⌝ }
+// A whole record of a listed kind, with its body.
+fn look_in(seen: Seen, k: u8, b: &[u8]) -> Look
+    ensures { λ r. ⌜ r ≡ lookAs k (now (b .entry)) (length (now (b .entry))) (wholeOf seen k (now (b .entry))) ⌝ }
 {
-    journal_refusals::number(r) == journal_refusals::number(Refusal::CutBody)
-}
-
-fn refused_as(r: Refusal) -> Look
-    ensures { λ x. ⌜ x ≡ lookAs 0 [] (Judged.Refused r) ⌝ }
-{
-    if is_cut_body(r) {
-        return Look::Waits;
-    }
-    Look::Refuses(r)
-}
-
-// A record of a kind, with its body as far as it came, by what the judge says.
-fn look_as(k: u8, b: &[u8], j: Judged) -> Look
-    ensures { λ r. ⌜ r ≡ lookAs k (now (b .entry)) j ⌝ }
-{
-    match j {
-        Judged::Refused(r) => refused_as(r),
-        Judged::Accepted => Look::Found(
-            journal_records::decode(k, b),
-            journal_records::body_len(k),
-        ),
+    let judged = journal_refusals::judge(seen, k, b);
+    match judged {
+        Judged::Refused(r) => Look::Refuses(r),
+        Judged::Accepted => Look::Found(journal_records::decode(k, b), b.len()),
     }
 }
 
 // The record at a place.
-fn look_at(seen: Seen, s: &[u8], at: usize) -> Look
-    ensures { λ r. ⌜ r ≡ lookOf seen (drop at (now (s .entry))) ⌝ }
+fn look_at(kinds: &[u16], seen: Seen, s: &[u8], at: usize) -> Look
+    ensures { λ r. ⌜ r ≡ lookOf (now (kinds .entry)) seen (drop at (now (s .entry))) ⌝ }
 {
-    if s.len() <= at {
-        return Look::Waits;
+    let frame = journal_frames::frame_at(kinds, s, at);
+    match frame {
+        Frame::Waits => Look::Waits,
+        Frame::Unknown => Look::Refuses(Refusal::UnknownKind),
+        Frame::Whole(kind, len) => {
+            let from = at + 1;
+            let end = from + len;
+            look_in(seen, kind, &s[from..end])
+        }
     }
-    let kind = s[at];
-    let from = at + 1;
-    let len = journal_records::body_len(kind);
-    let end = from + lictor_core::num::least(len, s.len() - from);
-    let body = &s[from..end];
-    let judged = journal_refusals::judge(seen, kind, body);
-    look_as(kind, body, judged)
 }
 
 // ---- records that only wait
@@ -164,11 +148,11 @@ fn add(w: Waiting, lists: &mut [f64; PLACES], at: usize, n: usize, x: Record) ->
     }
 }
 
-fn take_one(w: Waiting, lists: &mut [f64; PLACES], s: &[u8], at: usize) -> Took
-    ensures { λ r. ⌜ TookOne w (now (lists .entry)) (now (s .entry)) at r (now (lists .exit)) ⌝ }
+fn take_one(kinds: &[u16], w: Waiting, lists: &mut [f64; PLACES], s: &[u8], at: usize) -> Took
+    ensures { λ r. ⌜ TookOne (now (kinds .entry)) w (now (lists .entry)) (now (s .entry)) at r (now (lists .exit)) ⌝ }
 {
     let seen = w.seen;
-    let look = look_at(seen, s, at);
+    let look = look_at(kinds, seen, s, at);
     match look {
         Look::Found(x, n) => add(w, lists, at, n, x),
         Look::Waits | Look::Refuses(_) => Took {
@@ -181,9 +165,9 @@ fn take_one(w: Waiting, lists: &mut [f64; PLACES], s: &[u8], at: usize) -> Took
 }
 
 // Takes all small records from a place on.
-fn collect(w: Waiting, lists: &mut [f64; PLACES], s: &[u8], at: usize) -> Took
+fn collect(kinds: &[u16], w: Waiting, lists: &mut [f64; PLACES], s: &[u8], at: usize) -> Took
     requires { ⌜ at ≤ length (now s) ⌝ }
-    ensures { λ r. ⌜ Collected w (now (lists .entry)) (now (s .entry)) at r (now (lists .exit)) ⌝ }
+    ensures { λ r. ⌜ Collected (now (kinds .entry)) w (now (lists .entry)) (now (s .entry)) at r (now (lists .exit)) ⌝ }
 {
     let mut took = Took {
         waiting: w,
@@ -194,7 +178,7 @@ fn collect(w: Waiting, lists: &mut [f64; PLACES], s: &[u8], at: usize) -> Took
     while took.more {
         let next = took.waiting;
         let i = took.at;
-        took = take_one(next, lists, s, i);
+        took = take_one(kinds, next, lists, s, i);
     }
     took
 }
@@ -204,6 +188,8 @@ fn collect(w: Waiting, lists: &mut [f64; PLACES], s: &[u8], at: usize) -> Took
 struct Stretch {
     reader: Reader,
     at: usize,
+    // where the record at that place ends, if it instructs
+    end: usize,
     what: What,
     more: bool,
 }
@@ -215,14 +201,15 @@ fn instruct(rd: Reader, lists: &[f64; PLACES], s: &[u8], at: usize, n: usize, x:
     ensures { λ r. ⌜ Instructs rd (now (lists .entry)) (now (s .entry)) at n x r ⌝ }
 {
     let waiting = rd.waiting;
+    let from = at + 1;
+    let end = from + n;
     match x {
         Record::Outcome => {
-            let from = at + 1;
-            let end = from + n;
             let outcome = journal_records::long::read_outcome(&s[from..end]);
             Stretch {
                 reader: crate::waiting::with_outcome(rd, outcome),
                 at: end,
+                end,
                 what: What::Waits,
                 more: true,
             }
@@ -230,24 +217,28 @@ fn instruct(rd: Reader, lists: &[f64; PLACES], s: &[u8], at: usize, n: usize, x:
         Record::Settings => Stretch {
             reader: rd,
             at,
+            end,
             what: What::Begins,
             more: false,
         },
         Record::Reset => Stretch {
             reader: rd,
             at,
+            end,
             what: What::Resets,
             more: false,
         },
         Record::Tick(t) => Stretch {
             reader: rd,
             at,
+            end,
             what: What::Ticks(crate::waiting::input_of(waiting, t)),
             more: false,
         },
         Record::Ack(_) | Record::Head(_) | Record::Value(_, _) => Stretch {
             reader: rd,
             at,
+            end: at,
             what: What::Waits,
             more: false,
         },
@@ -255,13 +246,19 @@ fn instruct(rd: Reader, lists: &[f64; PLACES], s: &[u8], at: usize, n: usize, x:
 }
 
 // All small records from a place on, and the one after them.
-fn take_stretch(rd: Reader, lists: &mut [f64; PLACES], s: &[u8], at: usize) -> Stretch
+fn take_stretch(
+    kinds: &[u16],
+    rd: Reader,
+    lists: &mut [f64; PLACES],
+    s: &[u8],
+    at: usize,
+) -> Stretch
     requires { ⌜ at ≤ length (now s) ⌝ }
-    ensures { λ r. ⌜ TookStretch (record { reader = rd; lists = now (lists .entry) }) (now (s .entry)) at r (now (lists .exit)) ⌝ }
+    ensures { λ r. ⌜ TookStretch (now (kinds .entry)) (record { reader = rd; lists = now (lists .entry) }) (now (s .entry)) at r (now (lists .exit)) ⌝ }
 {
     let w = rd.waiting;
     let outcome = rd.outcome;
-    let took = collect(w, lists, s, at);
+    let took = collect(kinds, w, lists, s, at);
     let waiting = took.waiting;
     let next = took.at;
     let look = took.look;
@@ -271,12 +268,14 @@ fn take_stretch(rd: Reader, lists: &mut [f64; PLACES], s: &[u8], at: usize) -> S
         Look::Waits => Stretch {
             reader,
             at: next,
+            end: next,
             what: What::Waits,
             more: false,
         },
         Look::Refuses(r) => Stretch {
             reader,
             at: next,
+            end: next,
             what: What::Refuses(r),
             more: false,
         },
@@ -284,26 +283,28 @@ fn take_stretch(rd: Reader, lists: &mut [f64; PLACES], s: &[u8], at: usize) -> S
 }
 
 // Takes all records up to the next that instructs the fuse, that is refused or that is not
-// there whole, and says what comes there.
-pub fn read(rd: Reader, lists: &mut [f64; PLACES], s: &[u8]) -> Progress
-    ensures { λ r. ⌜ (r ≡ readOf (record { reader = rd; lists = now (lists .entry) }) (now (s .entry))) × (now (lists .exit) ≡ listsRead (record { reader = rd; lists = now (lists .entry) }) (now (s .entry))) ⌝ }
+// there whole, and says what comes there. Which kinds there are is lent.
+pub fn read(kinds: &[u16], rd: Reader, lists: &mut [f64; PLACES], s: &[u8]) -> Progress
+    ensures { λ r. ⌜ (r ≡ readOf (now (kinds .entry)) (record { reader = rd; lists = now (lists .entry) }) (now (s .entry))) × (now (lists .exit) ≡ listsRead (now (kinds .entry)) (record { reader = rd; lists = now (lists .entry) }) (now (s .entry))) ⌝ }
 {
     let mut stretch = Stretch {
         reader: rd,
         at: 0,
+        end: 0,
         what: What::Waits,
         more: true,
     };
     while stretch.more {
         let next = stretch.reader;
         let i = stretch.at;
-        stretch = take_stretch(next, lists, s, i);
+        stretch = take_stretch(kinds, next, lists, s, i);
     }
     let reader = stretch.reader;
     let what = stretch.what;
     Progress {
         reader,
         used: stretch.at,
+        end: stretch.end,
         what,
     }
 }

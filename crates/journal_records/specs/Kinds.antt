@@ -1,11 +1,7 @@
--- The framing of a journal (01-scope.md, Journal): the kind byte tells how long the body after it
--- is. Which kinds there are is a list that everything above takes as a parameter: the lengths of
--- the bodies of kinds 1, 2, 3 and so on.
-use mathlib.Core.Bool.{Bool, _&&_}
+-- The kinds of a journal (01-scope.md, Journal), and how long their bodies are. The framing takes
+-- any such list (journal_frames, specs/Frames); this is the one of the paper.
 use mathlib.Core.List.{List, [], _∷_}
 use Prim.Native.Nat.{ℕ}
-use lib.Dec.{ltb, leb}
-use lib.ListN.{length, getD}
 
 -- settings, reset, ack, chunk head, value, outcome, tick
 abbrev pub journalKinds : List ℕ
@@ -31,11 +27,3 @@ outcomeKind = 6
 
 abbrev pub tickKind : ℕ
 tickKind = 7
-
--- kind k is one of these kinds
-unfoldable pub isKnown : List ℕ → ℕ → Bool
-isKnown kinds k = ltb 0 k && leb k (length kinds)
-
--- the length of a body of kind k; 0 for a kind that is not listed
-unfoldable pub bodyLen : List ℕ → ℕ → ℕ
-bodyLen kinds k = getD (0 ∷ kinds) k 0

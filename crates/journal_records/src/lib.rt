@@ -1,10 +1,10 @@
-// The records of a journal by kind: how long a body is, and what it holds.
+// The records of a journal by kind: how long the bodies are, and what they hold.
 // Each reader takes the body alone, a part of the journal's bytes.
 pub mod little; // little-endian numbers
 pub mod long; // the two long records, settings and outcome
 
 ghost use mathlib.Core.Path.{_≡_};
-ghost use Rattle.journal_records.specs.Kinds.{journalKinds, isKnown, bodyLen};
+ghost use Rattle.journal_records.specs.Kinds.{journalKinds};
 ghost use Rattle.journal_records.specs.Body.{ackOf, headOf, tickNumbers, decodeOf};
 use crate::little::byte;
 use crate::little::f64_at;
@@ -36,7 +36,7 @@ pub enum Record {
     Tick(TickNumbers),
 }
 
-// The kinds, numbered from 1 to KINDS.
+// The kinds, numbered from 1 on.
 pub const SETTINGS: u8 = 1;
 
 pub const RESET: u8 = 2;
@@ -51,28 +51,11 @@ pub const OUTCOME: u8 = 6;
 
 pub const TICK: u8 = 7;
 
-const KINDS: u8 = TICK;
-
-// Whether a kind is listed.
-pub fn is_known(k: u8) -> bool
-    ensures { λ r. ⌜ r ≡ isKnown journalKinds k ⌝ }
+// The kinds of a journal, as the framing takes them: how long the bodies of kinds 1 to 7 are.
+pub fn journal_kinds() -> [u16; 7]
+    ensures { λ r. ⌜ r ≡ journalKinds ⌝ }
 {
-    0 < k && k <= KINDS
-}
-
-// The length of a body of this kind, 0 for a kind that is not listed.
-pub fn body_len(k: u8) -> usize
-    ensures { λ r. ⌜ r ≡ bodyLen journalKinds k ⌝ }
-{
-    match k {
-        SETTINGS => 220,
-        ACK => 14,
-        HEAD => 14,
-        VALUE => 9,
-        OUTCOME => 257,
-        TICK => 9,
-        _ => 0,
-    }
+    [220, 0, 14, 14, 9, 257, 9]
 }
 
 // The body of an ACK.

@@ -1,9 +1,10 @@
--- Exactly the causes of the table refuse a record, in its order; and what that says of framing.
+-- Exactly the causes of the table refuse a record, in its order.
 use mathlib.Core.Bool.{Bool, true, false, cond}
 use mathlib.Core.List.{List, [], _∷_}
 use mathlib.Core.Path.{_≡_, refl, sym, _∙_, subst}
 use Prim.Native.Nat.{ℕ, _≤_}
 use native.Mathlib.Omega.{arith}
+use lib.Dec.{eqb}
 use Rattle.lictor_core.specs.FirstThat.{firstThat}
 use Rattle.lictor_core.proofs.FirstThat.{first-is}
 use Rattle.stream.proofs.Stream.{impossible}
@@ -11,7 +12,7 @@ use Rattle.journal_refusals.specs.declared.Seen.{Seen}
 use Rattle.journal_refusals.specs.declared.Refusal.{Refusal}
 use Rattle.journal_refusals.specs.declared.Refusal.the-variants.{UnknownKind, CutBody, BeforeSettings, Again, BadCode, BadSize, NotFinite, BoxCrossed, ListFull, NotReady}
 use Rattle.journal_refusals.specs.declared.Judged.the-variants.{Accepted, Refused}
-use Rattle.journal_refusals.specs.Table.{Row, numberOf, isCutBody, firstRow}
+use Rattle.journal_refusals.specs.Table.{Row, numberOf, lastNumber, firstRow}
 use Rattle.journal_refusals.specs.Exactly.{Decides, this-row, later-row, Passes, no-row, not-this-row}
 
 module _ (seen : Seen) (k : ℕ) (b : List ℕ) where
@@ -49,8 +50,29 @@ module _ (seen : Seen) (k : ℕ) (b : List ℕ) where
   so-accepted no-row = refl
   so-accepted (not-this-row {w = w} {ws = ws} c p) = first w ws false c ∙ so-accepted p
 
--- the numbers are those from 1 to 10
-pub numbers : (r : Refusal) → (1 ≤ numberOf r) × (numberOf r ≤ 10)
+-- ---- what an accepted record says of a row, by its name
+
+-- the cause of the first row that answers r
+unfoldable pub causeOf : Refusal → List Row → Seen → ℕ → List ℕ → Bool
+causeOf r [] seen k b = false
+causeOf r (w ∷ ws) seen k b = cond (eqb (numberOf (w .answer)) (numberOf r)) (w .cause seen k b) (causeOf r ws seen k b)
+
+module _ (seen : Seen) (k : ℕ) (b : List ℕ) where
+  neither : (t x y : Bool) → x ≡ false → y ≡ false → cond t x y ≡ false
+  neither true x y p q = p
+  neither false x y p q = q
+
+  passes-cause : {t : List Row} → Passes seen k b t → (r : Refusal) → causeOf r t seen k b ≡ false
+  unfolding causeOf
+  passes-cause no-row r = refl
+  passes-cause (not-this-row {w = w} {ws = ws} c p) r = neither (eqb (numberOf (w .answer)) (numberOf r)) (w .cause seen k b) (causeOf r ws seen k b) c (passes-cause p r)
+
+  -- where a record is accepted, no row's cause is there
+  pub no-cause : (t : List Row) → firstRow t seen k b ≡ Accepted → (r : Refusal) → causeOf r t seen k b ≡ false
+  no-cause t e r = passes-cause (accepted-so seen k b t e) r
+
+-- the numbers go from 1 to the last
+pub numbers : (r : Refusal) → (1 ≤ numberOf r) × (numberOf r ≤ lastNumber)
 numbers UnknownKind = (omega arith, omega arith)
 numbers CutBody = (omega arith, omega arith)
 numbers BeforeSettings = (omega arith, omega arith)
@@ -61,16 +83,3 @@ numbers NotFinite = (omega arith, omega arith)
 numbers BoxCrossed = (omega arith, omega arith)
 numbers ListFull = (omega arith, omega arith)
 numbers NotReady = (omega arith, omega arith)
-
--- only the cut body can be undone by more bytes
-pub cut-only : (r : Refusal) → isCutBody r ≡ true → r ≡ CutBody
-cut-only UnknownKind e = impossible cc
-cut-only CutBody e = refl
-cut-only BeforeSettings e = impossible cc
-cut-only Again e = impossible cc
-cut-only BadCode e = impossible cc
-cut-only BadSize e = impossible cc
-cut-only NotFinite e = impossible cc
-cut-only BoxCrossed e = impossible cc
-cut-only ListFull e = impossible cc
-cut-only NotReady e = impossible cc

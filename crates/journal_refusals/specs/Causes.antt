@@ -1,4 +1,4 @@
--- The causes that refuse a record (01-scope.md, Journal, the table). A cause looks at what has been
+-- The causes that refuse a record (01-scope.md, Journal, the table, in its order). A cause looks at what has been
 -- seen, at the record's kind and at its body as far as it came, and at nothing else: at no run
 -- state, at no value of a list (at their counts only) and at no byte after the record.
 use mathlib.Core.Bool.{Bool, false, cond, not, _&&_, _||_}
@@ -9,7 +9,8 @@ use lib.ListN.{length, getD}
 use Rattle.lictor_core.specs.Codes.{decisions, flags}
 use Rattle.journal_records.specs.Little.{byteAt}
 use Rattle.lictor_settings.specs.Settings.{badCode, badSize, badFloat, badBox}
-use Rattle.journal_records.specs.Kinds.{isKnown, bodyLen, settingsKind, ackKind, headKind, valueKind, outcomeKind, tickKind}
+use Rattle.journal_frames.specs.Frames.{isKnown, bodyLen}
+use Rattle.journal_records.specs.Kinds.{settingsKind, ackKind, headKind, valueKind, outcomeKind, tickKind}
 use Rattle.journal_records.specs.Long.{settingsOf}
 use Rattle.journal_refusals.specs.declared.Seen.{Seen}
 
@@ -47,19 +48,19 @@ countOf seen c = getD (seen .counts) c 0
 abbrev pub notBelow : ℕ → ℕ → Bool
 notBelow count n = leb count n
 
--- row 1: a kind that is not listed
+-- a kind that is not listed
 unfoldable pub unknownKind : List ℕ → Seen → ℕ → List ℕ → Bool
 unknownKind kinds seen k b = not (isKnown kinds k)
 
--- row 2: a body that the end cuts
+-- a body that the end cuts
 unfoldable pub bodyCut : List ℕ → Seen → ℕ → List ℕ → Bool
 bodyCut kinds seen k b = ltb (length b) (bodyLen kinds k)
 
--- row 3: a record of another kind comes before the settings
+-- a record of another kind comes before the settings
 unfoldable pub beforeSettings : Seen → ℕ → List ℕ → Bool
 beforeSettings seen k b = not (eqb k settingsKind) && not (seen .settings)
 
--- row 4: a second settings record, or a second acknowledgement, head or outcome while one waits
+-- a second settings record, or a second acknowledgement, head or outcome while one waits
 unfoldable pub again : Seen → ℕ → List ℕ → Bool
 again seen k b =
     cond (eqb k settingsKind) (seen .settings)
@@ -68,7 +69,7 @@ again seen k b =
     (cond (eqb k outcomeKind) (seen .outcome)
     false)))
 
--- row 5: a code or flag that is not listed: those of the settings, the decision, the list, the
+-- a code or flag that is not listed: those of the settings, the decision, the list, the
 -- feasible flag, the schema and the velocity flag
 unfoldable pub codeNotListed : Seen → ℕ → List ℕ → Bool
 codeNotListed seen k b =
@@ -79,23 +80,23 @@ codeNotListed seen k b =
     (cond (eqb k tickKind) (notBelow flags (byteAt b 7) || notBelow flags (byteAt b 8))
     false))))
 
--- row 6, of settings: a size outside its range
+-- of settings: a size outside its range
 unfoldable pub sizeOutside : Seen → ℕ → List ℕ → Bool
 sizeOutside seen k b = cond (eqb k settingsKind) (badSize (settingsOf b)) false
 
--- row 7, of settings: an infinity or a NaN among the floats; tau may be infinite
+-- of settings: an infinity or a NaN among the floats; tau may be infinite
 unfoldable pub floatNotFinite : Seen → ℕ → List ℕ → Bool
 floatNotFinite seen k b = cond (eqb k settingsKind) (badFloat (settingsOf b)) false
 
--- row 8, of settings: one of the 8 pairs of the box is crossed
+-- of settings: one of the 8 pairs of the box is crossed
 unfoldable pub boxCrossed : Seen → ℕ → List ℕ → Bool
 boxCrossed seen k b = cond (eqb k settingsKind) (badBox (settingsOf b)) false
 
--- row 9: a value whose list has no room left
+-- a value whose list has no room left
 unfoldable pub listFull : Seen → ℕ → List ℕ → Bool
 listFull seen k b = cond (eqb k valueKind) (leb (getD capacities (byteAt b 0) 0) (countOf seen (byteAt b 0))) false
 
--- row 10, of a tick: no outcome waits for it, or values wait that it cannot take (a chunk's with no
+-- of a tick: no outcome waits for it, or values wait that it cannot take (a chunk's with no
 -- head, a velocity's with its flag off)
 unfoldable pub notReady : Seen → ℕ → List ℕ → Bool
 notReady seen k b =

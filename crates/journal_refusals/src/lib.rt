@@ -1,13 +1,14 @@
-// Whether a record of a journal is refused, and why: the ten causes in the order of the table.
-// It is judged by its kind, its body and what has been seen before it, never by the run state.
+// Whether a record of a journal is refused, and why: the causes in the order of the table.
+// Those about its frame are found by journal_frames. The others go by its kind, its body and what
+// has been seen before it, never by the run state.
 ghost use mathlib.Core.Bool.{not, _&&_};
 ghost use mathlib.Core.Path.{_≡_};
 ghost use lib.Dec.{eqb, ltb};
 ghost use lib.ListN.{getD};
 ghost use Rattle.journal_records.specs.Little.{byteAt};
-ghost use Rattle.journal_records.specs.Kinds.{journalKinds, settingsKind, ackKind, valueKind, outcomeKind, tickKind};
-ghost use Rattle.journal_refusals.specs.Causes.{capacities, unknownKind, bodyCut, beforeSettings, notBelow, again as Causes·again, listFull, notReady};
-ghost use Rattle.journal_refusals.specs.Table.{numberOf, judgedOf, contentsOf};
+ghost use Rattle.journal_records.specs.Kinds.{settingsKind, ackKind, valueKind, outcomeKind, tickKind};
+ghost use Rattle.journal_refusals.specs.Causes.{capacities, beforeSettings, notBelow, again as Causes·again, listFull, notReady};
+ghost use Rattle.journal_refusals.specs.Table.{numberOf, wholeOf, contentsOf};
 use journal_records::ACK;
 use journal_records::HEAD;
 use journal_records::OUTCOME;
@@ -29,6 +30,13 @@ pub const AUX: usize = 3;
 pub const EXT: usize = 4;
 
 pub const LISTS: usize = 5;
+
+// How many cases a code has: a decision, a list, a flag.
+const DECISIONS: u8 = 3;
+
+const LIST_CODES: u8 = 5;
+
+const FLAGS: u8 = 2;
 
 // How many values the chunk's list can hold, and each of the others.
 pub const CHUNK_ROOM: usize = 512;
@@ -92,18 +100,6 @@ pub fn number(r: Refusal) -> u8
     }
 }
 
-fn is_unknown(seen: Seen, k: u8, b: &[u8]) -> bool
-    ensures { λ r. ⌜ r ≡ unknownKind journalKinds seen k (now (b .entry)) ⌝ }
-{
-    !journal_records::is_known(k)
-}
-
-fn is_cut(seen: Seen, k: u8, b: &[u8]) -> bool
-    ensures { λ r. ⌜ r ≡ bodyCut journalKinds seen k (now (b .entry)) ⌝ }
-{
-    b.len() < journal_records::body_len(k)
-}
-
 fn is_early(seen: Seen, k: u8, b: &[u8]) -> bool
     ensures { λ r. ⌜ r ≡ beforeSettings seen k (now (b .entry)) ⌝ }
 {
@@ -149,7 +145,7 @@ fn is_bad(b: &[u8], at: usize, cases: u8) -> bool
 fn judge_ack(seen: Seen, b: &[u8]) -> Judged
     ensures { λ r. ⌜ r ≡ contentsOf seen ackKind (now (b .entry)) ⌝ }
 {
-    if is_bad(b, 0, 3) {
+    if is_bad(b, 0, DECISIONS) {
         return Judged::Refused(Refusal::BadCode);
     }
     Judged::Accepted
@@ -171,7 +167,7 @@ fn is_full(seen: Seen, b: &[u8]) -> bool
 fn judge_value(seen: Seen, b: &[u8]) -> Judged
     ensures { λ r. ⌜ r ≡ contentsOf seen valueKind (now (b .entry)) ⌝ }
 {
-    if is_bad(b, 0, 5) {
+    if is_bad(b, 0, LIST_CODES) {
         return Judged::Refused(Refusal::BadCode);
     }
     if is_full(seen, b) {
@@ -183,7 +179,7 @@ fn judge_value(seen: Seen, b: &[u8]) -> Judged
 fn judge_outcome(seen: Seen, b: &[u8]) -> Judged
     ensures { λ r. ⌜ r ≡ contentsOf seen outcomeKind (now (b .entry)) ⌝ }
 {
-    if is_bad(b, 8, 2) {
+    if is_bad(b, 8, FLAGS) {
         return Judged::Refused(Refusal::BadCode);
     }
     Judged::Accepted
@@ -218,10 +214,10 @@ fn is_unready(seen: Seen, b: &[u8]) -> bool
 fn judge_tick(seen: Seen, b: &[u8]) -> Judged
     ensures { λ r. ⌜ r ≡ contentsOf seen tickKind (now (b .entry)) ⌝ }
 {
-    if is_bad(b, 7, 2) {
+    if is_bad(b, 7, FLAGS) {
         return Judged::Refused(Refusal::BadCode);
     }
-    if is_bad(b, 8, 2) {
+    if is_bad(b, 8, FLAGS) {
         return Judged::Refused(Refusal::BadCode);
     }
     if is_unready(seen, b) {
@@ -230,7 +226,7 @@ fn judge_tick(seen: Seen, b: &[u8]) -> Judged
     Judged::Accepted
 }
 
-// A record of a known kind, whole, and in its order.
+// A record of a listed kind, whole, and in its order.
 fn judge_contents(seen: Seen, k: u8, b: &[u8]) -> Judged
     ensures { λ r. ⌜ r ≡ contentsOf seen k (now (b .entry)) ⌝ }
 {
@@ -244,16 +240,10 @@ fn judge_contents(seen: Seen, k: u8, b: &[u8]) -> Judged
     }
 }
 
-// What becomes of a record of this kind, whose body came as far as b.
+// What becomes of a record of a listed kind that is there whole: the frame decides before.
 pub fn judge(seen: Seen, k: u8, b: &[u8]) -> Judged
-    ensures { λ r. ⌜ r ≡ judgedOf journalKinds seen k (now (b .entry)) ⌝ }
+    ensures { λ r. ⌜ r ≡ wholeOf seen k (now (b .entry)) ⌝ }
 {
-    if is_unknown(seen, k, b) {
-        return Judged::Refused(Refusal::UnknownKind);
-    }
-    if is_cut(seen, k, b) {
-        return Judged::Refused(Refusal::CutBody);
-    }
     if is_early(seen, k, b) {
         return Judged::Refused(Refusal::BeforeSettings);
     }

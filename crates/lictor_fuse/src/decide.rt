@@ -143,7 +143,7 @@ fn closed(control: Control, before: Motion, end: Closing) -> Decided
 // ---- one tick
 
 // A tick for which the guard found these bits.
-fn decide_by(
+pub fn decide_by(
     cfg: FuseConfig,
     rt: FuseRt,
     inp: TickInput,

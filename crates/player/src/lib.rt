@@ -1,23 +1,29 @@
-// Plays the bytes of a journal that are at hand: its ticks, and their text in lent memory.
-// Nothing here reads or writes a file.
+// Plays the bytes of a journal that are at hand: its instructions are obeyed one after the other,
+// and the text of their events is put into lent memory. Nothing here reads or writes a file.
 ghost use mathlib.Core.Path.{_≡_};
-ghost use mathlib.Core.Bool.{true, false};
-ghost use Prim.Native.Nat.{_+_, _-_, _<_, _≤_};
+ghost use mathlib.Core.Bool.{false};
+ghost use Prim.Native.Nat.{_+_, _≤_};
 ghost use lib.ListN.{length};
-ghost use Rattle.journal.specs.Tick.{wholeOf, journalTick};
-ghost use Rattle.report.specs.Text.{tickRoom};
-ghost use Rattle.player.specs.Play.{PlayedTick, PlayedOn, goesOnOf, Fed};
-use journal::How;
+ghost use Rattle.journal_records.specs.Long.{settingsOf};
+ghost use Rattle.journal_reader.specs.State.{settingsCame, emptied};
+ghost use Rattle.journal_reader.specs.Reading as R;
+ghost use Rattle.printer.specs.Printer.{showsBy, printerBy, eventRoom};
+ghost use Rattle.player.specs.Play.{Obeys, PlayedOn, goesOnOf, playingFrom, Fed};
 use journal::tick::Run;
+use journal_reader::What;
 use journal_reader::waiting::PLACES;
 use journal_reader::waiting::Reader;
 use lictor_core::fuse::TickInput;
+use printer::EVENT_ROOM;
+use printer::Memory;
+use text::memory::has_room;
 
-// ---- from tick to tick
-
+// A journal that is being played.
 pub struct Played {
     pub reader: Reader,
     pub run: Run,
+    // what the printer remembers
+    pub memory: Memory,
     // the bytes that were taken, and those of text
     pub at: usize,
     pub n: usize,
@@ -27,77 +33,135 @@ pub struct Played {
     pub refused: u8,
 }
 
-// The tick whose record ends before place `at`, and its text after n bytes.
-fn play_tick(
-    code: u8,
-    rd: Reader,
-    run: Run,
-    lists: &[f64; PLACES],
-    inp: TickInput,
-    at: usize,
-    out: &mut [u8],
-    n: usize,
-) -> Played
-    requires { ⌜ n + tickRoom ≤ length (now out) ⌝ }
-    ensures { λ r. ⌜ PlayedTick code (journalTick (wholeOf rd run (now (lists .entry))) inp) at (now (out .entry)) n r (now (out .exit)) ⌝ }
+// ---- one instruction; `at` is the place where its record ends
+
+// Settings with this body.
+fn begin(shows: u8, p: Played, body: &[u8], out: &mut [u8]) -> Played
+    requires { ⌜ p .n + eventRoom ≤ length (now out) ⌝ }
+    ensures { λ r. ⌜ Obeys (showsBy shows) p (settingsCame (p .reader)) (R.begin (settingsOf (now (body .entry)))) (now (out .entry)) r (now (out .exit)) ⌝ }
 {
-    let ticked = journal::tick::tick(rd, run, lists, inp);
-    let reader = ticked.reader;
-    let after = ticked.run;
-    let verdict = ticked.verdict;
-    let rt = after.rt;
-    let m = report::render::tick_text(code, verdict, rt, out, n);
+    let before = p.reader;
+    let reader = journal_reader::waiting::begun(before);
+    let run = journal::begin(body);
+    let shown = printer::began(shows, p.memory, run, out, p.n);
+    let memory = shown.memory;
     Played {
         reader,
-        run: after,
-        at,
-        n: m,
-        more: true,
-        refused: 0,
+        run,
+        memory,
+        at: p.at,
+        n: shown.n,
+        more: p.more,
+        refused: p.refused,
     }
 }
 
-// All records from a place on up to the next tick, and the tick.
+// A reset.
+fn restart(shows: u8, p: Played, out: &mut [u8]) -> Played
+    requires { ⌜ p .n + eventRoom ≤ length (now out) ⌝ }
+    ensures { λ r. ⌜ Obeys (showsBy shows) p (emptied (p .reader)) R.restart (now (out .entry)) r (now (out .exit)) ⌝ }
+{
+    let before = p.reader;
+    let reader = journal_reader::waiting::emptied(before);
+    let run = journal::restart(p.run);
+    let shown = printer::restarted(shows, p.memory, run, out, p.n);
+    let memory = shown.memory;
+    Played {
+        reader,
+        run,
+        memory,
+        at: p.at,
+        n: shown.n,
+        more: p.more,
+        refused: p.refused,
+    }
+}
+
+// A tick, on all that was collected.
+fn tick(shows: u8, p: Played, lists: &[f64; PLACES], input: TickInput, out: &mut [u8]) -> Played
+    requires { ⌜ p .n + eventRoom ≤ length (now out) ⌝ }
+    ensures { λ r. ⌜ Obeys (showsBy shows) p (emptied (p .reader)) (R.tick (R.broughtOf (record { reader = p .reader; lists = now (lists .entry) }) input)) (now (out .entry)) r (now (out .exit)) ⌝ }
+{
+    let before = p.reader;
+    let waiting = before.waiting;
+    let seen = waiting.seen;
+    let reported = journal::tick::tick(before, p.run, lists, input);
+    let run = reported.run;
+    let verdict = reported.verdict;
+    let pos = journal::tick::lent_positions(seen, lists);
+    let shown = printer::ticked(
+        shows,
+        p.memory,
+        input,
+        pos,
+        reported.guard,
+        verdict,
+        run,
+        out,
+        p.n,
+    );
+    let reader = journal_reader::waiting::emptied(before);
+    let memory = shown.memory;
+    Played {
+        reader,
+        run,
+        memory,
+        at: p.at,
+        n: shown.n,
+        more: p.more,
+        refused: p.refused,
+    }
+}
+
+// ---- from instruction to instruction
+
+// No more is to be had.
+fn stopped(p: Played, refused: u8) -> Played
+    ensures { λ r. ⌜ r ≡ record { reader = p .reader; run = p .run; memory = p .memory; at = p .at; n = p .n; more = false; refused = refused } ⌝ }
+{
+    let mut over = p;
+    over.more = false;
+    over.refused = refused;
+    over
+}
+
+// All records from a place on up to the next instruction, and that one.
 fn play_on(
-    code: u8,
-    rd: Reader,
-    run: Run,
+    kinds: &[u16],
+    shows: u8,
+    p: Played,
     lists: &mut [f64; PLACES],
     s: &[u8],
-    at: usize,
     out: &mut [u8],
-    n: usize,
 ) -> Played
-    requires { ⌜ (at ≤ length (now s)) × (n + tickRoom ≤ length (now out)) ⌝ }
-    ensures { λ r. ⌜ PlayedOn code (wholeOf rd run (now (lists .entry))) (now (s .entry)) at (now (out .entry)) n r (now (lists .exit)) (now (out .exit)) ⌝ }
+    requires { ⌜ (p .at ≤ length (now s)) × (p .n + eventRoom ≤ length (now out)) ⌝ }
+    ensures { λ r. ⌜ PlayedOn (now (kinds .entry)) (showsBy shows) p (now (lists .entry)) (now (s .entry)) (now (out .entry)) r (now (lists .exit)) (now (out .exit)) ⌝ }
 {
-    let advanced = journal::advance(rd, run, lists, &s[at..]);
-    let reader = advanced.reader;
-    let after = advanced.run;
-    let next = at + advanced.used;
-    let how = advanced.how;
-    match how {
-        How::Waits => Played {
-            reader,
-            run: after,
-            at: next,
-            n,
-            more: false,
-            refused: 0,
-        },
-        How::Refuses(r) => Played {
-            reader,
-            run: after,
-            at: next,
-            n,
-            more: false,
-            refused: journal_refusals::number(r),
-        },
-        How::Ticks(inp) => {
-            let kind = s[next];
-            let end = next + 1 + journal_records::body_len(kind);
-            play_tick(code, reader, after, lists, inp, end, out, n)
+    let at = p.at;
+    let progress = journal_reader::read(kinds, p.reader, lists, &s[at..]);
+    let reader = progress.reader;
+    let run = p.run;
+    let memory = p.memory;
+    let end = at + progress.end;
+    let here = Played {
+        reader,
+        run,
+        memory,
+        at: end,
+        n: p.n,
+        more: true,
+        refused: 0,
+    };
+    let what = progress.what;
+    match what {
+        What::Waits => stopped(here, 0),
+        What::Refuses(r) => stopped(here, journal_refusals::number(r)),
+        What::Begins => {
+            let body = at + progress.used + 1;
+            begin(shows, here, &s[body..end], out)
         }
+        What::Resets => restart(shows, here, out),
+        What::Ticks(input) => tick(shows, here, lists, input, out),
     }
 }
 
@@ -105,30 +169,30 @@ fn play_on(
 fn goes_on(more: bool, n: usize, room: usize) -> bool
     ensures { λ r. ⌜ r ≡ goesOnOf more n room ⌝ }
 {
-    if room < report::render::ROOM {
-        return false;
+    if has_room(EVENT_ROOM, n, room) {
+        return more;
     }
-    if room - report::render::ROOM < n {
-        return false;
-    }
-    more
+    false
 }
 
-// Plays the records at the front of s as long as there is room for the text of one more tick, and
-// puts the text of their ticks to the front of `out`. Where `out` has no room, it does nothing.
+// Plays the records at the front of s as long as there is room for the text of one more event, and
+// puts the text of their events to the front of `out`. Where `out` has no room, it does nothing.
 pub fn feed(
-    code: u8,
+    kinds: &[u16],
+    shows: u8,
+    memory: Memory,
     rd: Reader,
     run: Run,
     lists: &mut [f64; PLACES],
     s: &[u8],
     out: &mut [u8],
 ) -> Played
-    ensures { λ r. ⌜ Fed code (wholeOf rd run (now (lists .entry))) (now (s .entry)) (now (out .entry)) r (now (lists .exit)) (now (out .exit)) ⌝ }
+    ensures { λ r. ⌜ Fed (now (kinds .entry)) (playingFrom (printerBy shows memory) rd run (now (lists .entry))) (now (s .entry)) (now (out .entry)) r (now (lists .exit)) (now (out .exit)) ⌝ }
 {
     let mut played = Played {
         reader: rd,
         run,
+        memory,
         at: 0,
         n: 0,
         more: true,
@@ -136,9 +200,8 @@ pub fn feed(
     };
     let mut more = goes_on(played.more, played.n, out.len());
     while more {
-        let reader = played.reader;
-        let after = played.run;
-        played = play_on(code, reader, after, lists, s, played.at, out, played.n);
+        let before = played;
+        played = play_on(kinds, shows, before, lists, s, out);
         more = goes_on(played.more, played.n, out.len());
     }
     played

@@ -1,4 +1,4 @@
--- The text of a tick in memory: lines that a trace puts, the line of the tick, and the room.
+-- Text in memory: lines that a trace puts, and the line of a tick.
 use Prim.Native.Nat.{ℕ, _≤_, _<_, _+_, _*_, _-_, min}
 use mathlib.Core.Path.{_≡_, refl, sym, ap, ap₂, _∙_}
 use mathlib.Core.List.{List, [], _∷_, _++_, append-assoc, append-nil}
@@ -18,12 +18,11 @@ use Rattle.report.specs.Lines.{marginText}
 use Rattle.margin.specs.declared.Margin.{Margin}
 use Rattle.margin.specs.Margin.{marginOf}
 use Rattle.text.proofs.Lines.{line-text}
-use Rattle.report.proofs.Fits.{tick-fits, margin-21}
+use Rattle.report.proofs.Fits.{margin-21}
 use Rattle.trace_text.specs.Trace.{traceCount, traceText}
-use borrow.Author.Tests.{eq-eqb, ne-eqb, le-leb, lt-leb}
 use Rattle.text.specs.Memory.{Put}
 use Rattle.text.proofs.Puts.{put-none, put-on}
-use Rattle.report.specs.Text.{tickRoom, traceUpTo, eventText, placeAfter, memoryAfter}
+use Rattle.report.specs.Text.{traceUpTo}
 
 -- ---- lines
 
@@ -104,30 +103,3 @@ pub numbers-most : (v : SafetyVerdict) → length (numbersOf v) ≤ 130
 numbers-most v =
     simp length-append
     (omega (arith, decimal-20 (v .seq), decimal-20 (v .t), decimal-20 (stateCode (v .state)), decimal-20 (reasonCode (v .reason)), decimal-20 (v .trips), decimal-20 (sourceCode (v .«action_src»))))
-
-pub tick-end : (out : List ℕ) (n : ℕ) (v : SafetyVerdict) (r : ℕ) (out' : List ℕ) → Put out n (tickText v) r out' → r ≤ n + lineRoom
-tick-end out n v r out' p = omega (arith, p .ends, tick-fits v)
-
-module _ (code : ℕ) (v : SafetyVerdict) (rt : FuseRt) (out : List ℕ) (n : ℕ) (m : ℕ) (out' : List ℕ) (p : Put out n (tickText v) m out') where
-  pub event-trace : code ≡ 1 → n ≤ length out → (r : ℕ) (out'' : List ℕ) → Put out' m (traceUpTo traceCount v rt) r out'' → Put out n (eventText code v rt) r out''
-  unfolding eventText
-  event-trace e h r out'' q = rw (eq-eqb code 1 e) (put-on out n (tickText v) m out' (traceUpTo traceCount v rt) r out'' h p q)
-
-  pub event-line : (code ≡ 1 → ⊥) → Put out n (eventText code v rt) m out'
-  unfolding eventText
-  event-line e = rw (ne-eqb code 1 e, append-nil (tickText v)) p
-
--- where the room is there, and where it is not
-module _ (out : List ℕ) (n : ℕ) (s : List ℕ) where
-  pub no-room : length out < n + tickRoom → (n ≡ placeAfter (length out) n s) × (out ≡ memoryAfter out n s)
-  unfolding placeAfter memoryAfter
-  no-room h = rw (lt-leb (n + tickRoom) (length out) h) (refl, refl)
-
-  pub with-room : n + tickRoom ≤ length out → (r : ℕ) (out' : List ℕ) → Put out n s r out' → (r ≡ placeAfter (length out) n s) × (out' ≡ memoryAfter out n s)
-  unfolding placeAfter memoryAfter
-  with-room h r out' p = rw (le-leb (n + tickRoom) (length out) h) (p .ends, p .memory)
-
-  -- what a caller learns who saw to the room
-  pub put-is : n + tickRoom ≤ length out → (r : ℕ) (out' : List ℕ) → r ≡ placeAfter (length out) n s → out' ≡ memoryAfter out n s → Put out n s r out'
-  unfolding placeAfter memoryAfter
-  put-is h r out' p q = let y = le-leb (n + tickRoom) (length out) h in record { ends = rw y at p; memory = rw y at q }

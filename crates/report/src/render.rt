@@ -1,30 +1,26 @@
-// The text of a tick, put into lent memory. What is written of it is chosen by a code.
+// The line of a tick and the lines of its trace, put into lent memory.
 ghost use mathlib.Core.Path.{_≡_};
 ghost use Prim.Native.Nat.{_+_, _*_, _≤_};
 ghost use lib.ListN.{length};
 ghost use Rattle.text.specs.Line.{lineRoom};
-ghost use Rattle.text.specs.Memory.{Put};
+ghost use Rattle.text.specs.Memory.{Put, placeWith, memoryWith};
 ghost use Rattle.trace_text.specs.Trace.{traceCount};
 ghost use Rattle.report.specs.Lines.{fieldText, fieldsText, numbersIn, numbersOf, tickText};
-ghost use Rattle.report.specs.Text.{tickRoom, traceUpTo, eventText, placeAfter, memoryAfter};
+ghost use Rattle.report.specs.Text.{traceRoom, traceUpTo};
 use lictor_core::fuse::FuseRt;
 use lictor_core::reason::reason_code;
 use lictor_core::state::state_code;
 use lictor_core::verdict::SafetyVerdict;
 use lictor_core::verdict::source_code;
 use margin::margin_of;
+use text::LINE;
+use text::memory::has_room;
 use text::memory::put;
 use text::memory::put_line;
 use trace_text::TRACE_LINES;
 
-// The line of the tick alone, as `fuse` prints it; any other code but TRACE means the same.
-pub const LINES: u8 = 0;
-
-// The line of the tick, and then every field of the verdict, the run state and the tally.
-pub const TRACE: u8 = 1;
-
-// The bytes that the text of a tick can have at most: its line, and those of the trace.
-pub const ROOM: usize = (1 + TRACE_LINES) * text::LINE;
+// The bytes that the lines of the trace can have at most.
+pub const TRACE_ROOM: usize = TRACE_LINES * LINE;
 
 // A blank and a number.
 fn put_field(out: &mut [u8], n: usize, x: u64) -> usize
@@ -78,7 +74,7 @@ fn put_numbers(v: SafetyVerdict, out: &mut [u8], n: usize) -> usize
 }
 
 fn put_tick(v: SafetyVerdict, out: &mut [u8], n: usize) -> usize
-    requires { ⌜ n + 2 * lineRoom ≤ length (now out) ⌝ }
+    requires { ⌜ n + lineRoom ≤ length (now out) ⌝ }
     ensures { λ r. ⌜ Put (now (out .entry)) n (tickText v) r (now (out .exit)) ⌝ }
 {
     let m = margin_of(v.brake_margin);
@@ -88,9 +84,20 @@ fn put_tick(v: SafetyVerdict, out: &mut [u8], n: usize) -> usize
     put(out, c, b"\n")
 }
 
+// Puts the line of a tick after the first n bytes, and answers where it ends.
+// Where fewer than LINE bytes are left after n, it puts nothing.
+pub fn show_tick(v: SafetyVerdict, out: &mut [u8], n: usize) -> usize
+    ensures { λ r. ⌜ (r ≡ placeWith lineRoom (length (now (out .entry))) n (tickText v)) × (now (out .exit) ≡ memoryWith lineRoom (now (out .entry)) n (tickText v)) ⌝ }
+{
+    if has_room(LINE, n, out.len()) {
+        return put_tick(v, out, n);
+    }
+    n
+}
+
 // All lines of the trace.
 fn put_trace(v: SafetyVerdict, rt: FuseRt, out: &mut [u8], n: usize) -> usize
-    requires { ⌜ n + traceCount * lineRoom ≤ length (now out) ⌝ }
+    requires { ⌜ n + traceRoom ≤ length (now out) ⌝ }
     ensures { λ r. ⌜ Put (now (out .entry)) n (traceUpTo traceCount v rt) r (now (out .exit)) ⌝ }
 {
     let mut at = n;
@@ -102,27 +109,13 @@ fn put_trace(v: SafetyVerdict, rt: FuseRt, out: &mut [u8], n: usize) -> usize
     at
 }
 
-fn put_event(code: u8, v: SafetyVerdict, rt: FuseRt, out: &mut [u8], n: usize) -> usize
-    requires { ⌜ n + tickRoom ≤ length (now out) ⌝ }
-    ensures { λ r. ⌜ Put (now (out .entry)) n (eventText code v rt) r (now (out .exit)) ⌝ }
+// Puts the lines of the trace after the first n bytes, and answers where they end.
+// Where fewer than TRACE_ROOM bytes are left after n, it puts nothing.
+pub fn show_trace(v: SafetyVerdict, rt: FuseRt, out: &mut [u8], n: usize) -> usize
+    ensures { λ r. ⌜ (r ≡ placeWith traceRoom (length (now (out .entry))) n (traceUpTo traceCount v rt)) × (now (out .exit) ≡ memoryWith traceRoom (now (out .entry)) n (traceUpTo traceCount v rt)) ⌝ }
 {
-    let m = put_tick(v, out, n);
-    if code == TRACE {
-        return put_trace(v, rt, out, m);
+    if has_room(TRACE_ROOM, n, out.len()) {
+        return put_trace(v, rt, out, n);
     }
-    m
-}
-
-// Puts the text of a tick after the first n bytes, and answers where it ends.
-// Where fewer than ROOM bytes are left after n, it puts nothing.
-pub fn tick_text(code: u8, v: SafetyVerdict, rt: FuseRt, out: &mut [u8], n: usize) -> usize
-    ensures { λ r. ⌜ (r ≡ placeAfter (length (now (out .entry))) n (eventText code v rt)) × (now (out .exit) ≡ memoryAfter (now (out .entry)) n (eventText code v rt)) ⌝ }
-{
-    if out.len() < ROOM {
-        return n;
-    }
-    if out.len() - ROOM < n {
-        return n;
-    }
-    put_event(code, v, rt, out, n)
+    n
 }

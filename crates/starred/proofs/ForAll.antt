@@ -21,7 +21,7 @@ use Rattle.lictor_core.specs.Num.{satUp}
 use Rattle.lictor_table.specs.declared.FsmInput.{FsmInput}
 use Rattle.lictor_table.specs.Helpers.{acceptedBy, clampReason, countRun, settledOf}
 use Rattle.lictor_table.specs.Table.{table, nextFrom, nextOf, running}
-use Rattle.starred.specs.ForAll.{Ends, Unanswered, MayClamp, ForAll, NeverAccepted}
+use Rattle.starred.specs.ForAll.{Turns, Unanswered, MayClamp, ForAll, NeverAccepted}
 
 and-no : (b : Bool) → (b && false) ≡ false
 and-no true = refl
@@ -30,18 +30,18 @@ and-no false = refl
 -- ---- the machine, by the state that the turn starts from
 
 module _ (cfg : FuseConfig) (rt : Control) (pos : List Float) (inp : FsmInput) (calm : anyOf (inp .trips) faultBits ≡ false) where
-  waited-out : cfg .hyst .«handoff_timeout_ticks» ≡ 0 → Unanswered rt inp → Ends (nextFrom Escalated cfg rt pos inp) Terminated 4096 25
+  waited-out : cfg .hyst .«handoff_timeout_ticks» ≡ 0 → Unanswered rt inp → Turns (nextFrom Escalated cfg rt pos inp) Terminated 4096 25
   unfolding nextFrom settledOf table firstThat countRun
   waited-out e u = rw (calm, u, le-leb (cfg .hyst .«handoff_timeout_ticks») (rt .«escalated_ticks») (omega arith)) (record { state = refl; extra = refl; reason = refl })
 
-  braked-out : cfg .hyst .«brake_timeout_ticks» ≡ 0 → Ends (nextFrom Braking cfg rt pos inp) Fault 16384 20
+  braked-out : cfg .hyst .«brake_timeout_ticks» ≡ 0 → Turns (nextFrom Braking cfg rt pos inp) Fault 16384 20
   unfolding nextFrom settledOf table firstThat countRun
   braked-out e = rw (calm, le-leb (cfg .hyst .«brake_timeout_ticks») (rt .«brake_ticks») (omega arith)) (record { state = refl; extra = refl; reason = refl })
 
   -- the clamps of a state in which the machine runs
   module _ (clamping : inp .«soft_clampable» ≡ true) (no-brake : anyOf (inp .trips) brakeBit ≡ false) (not-predictive : inp .predictive ≡ false) (streak : rt .«clamp_streak» < cfg .hyst .«clamp_streak_to_brake») where
     abbrev Clamps : FuseState → Type 0
-    Clamps q = Ends (nextFrom q cfg rt pos inp) Clamped 0 (reasonCode (clampReason (bitAnd (inp .trips) tier0Soft))) × (nextFrom q cfg rt pos inp .rt .clamps ≡ satUp 16 (rt .clamps))
+    Clamps q = Turns (nextFrom q cfg rt pos inp) Clamped 0 (reasonCode (clampReason (bitAnd (inp .trips) tier0Soft))) × (nextFrom q cfg rt pos inp .rt .clamps ≡ satUp 16 (rt .clamps))
 
     clamped : (q : FuseState) → T (running q) → rt .clamps ≤ cfg .hyst .«max_clamps_per_episode» → anyOf (inp .trips) tier0Soft ≡ true → Clamps q
     unfolding nextFrom settledOf table firstThat countRun
@@ -55,7 +55,7 @@ module _ (cfg : FuseConfig) (rt : Control) (pos : List Float) (inp : FsmInput) (
     clamped Fault r k s = absurd r
     clamped Terminated r k s = absurd r
 
-    spent : (q : FuseState) → T (running q) → cfg .hyst .«max_clamps_per_episode» < rt .clamps → Ends (nextFrom q cfg rt pos inp) Braking 2048 11
+    spent : (q : FuseState) → T (running q) → cfg .hyst .«max_clamps_per_episode» < rt .clamps → Turns (nextFrom q cfg rt pos inp) Braking 2048 11
     unfolding nextFrom settledOf table firstThat countRun
     spent Armed r k = rw (calm, no-brake, clamping, and-no (anyOf (inp .trips) tier0Soft), not-predictive, lt-leb _ _ streak, lt-ltb (cfg .hyst .«max_clamps_per_episode») (rt .clamps) (omega arith)) (record { state = refl; extra = refl; reason = refl })
     spent Watching r k = rw (calm, no-brake, clamping, and-no (anyOf (inp .trips) tier0Soft), not-predictive, lt-leb _ _ streak, lt-ltb (cfg .hyst .«max_clamps_per_episode») (rt .clamps) (omega arith)) (record { state = refl; extra = refl; reason = refl })
@@ -70,8 +70,8 @@ module _ (cfg : FuseConfig) (rt : Control) (pos : List Float) (inp : FsmInput) (
 pub for-all : (cfg : FuseConfig) (rt : Control) (pos : List Float) (inp : FsmInput) → ForAll cfg rt pos inp
 unfolding nextOf
 for-all cfg rt pos inp = record {
-  handoff = λ q e u calm. subst (λ (s : FuseState). Ends (nextFrom s cfg rt pos inp) Terminated 4096 25) (sym q) (waited-out cfg rt pos inp calm e u);
-  brake = λ q e calm. subst (λ (s : FuseState). Ends (nextFrom s cfg rt pos inp) Fault 16384 20) (sym q) (braked-out cfg rt pos inp calm e);
+  handoff = λ q e u calm. subst (λ (s : FuseState). Turns (nextFrom s cfg rt pos inp) Terminated 4096 25) (sym q) (waited-out cfg rt pos inp calm e u);
+  brake = λ q e calm. subst (λ (s : FuseState). Turns (nextFrom s cfg rt pos inp) Fault 16384 20) (sym q) (braked-out cfg rt pos inp calm e);
   clamps = λ m calm k s. clamped cfg rt pos inp calm (m .clamping) (m .no-brake) (m .not-predictive) (m .streak) (rt .state) (m .runs) k s;
   budget = λ m calm k. spent cfg rt pos inp calm (m .clamping) (m .no-brake) (m .not-predictive) (m .streak) (rt .state) (m .runs) k;
 }

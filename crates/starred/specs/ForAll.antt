@@ -26,7 +26,7 @@ use Rattle.lictor_table.specs.Helpers.{acceptedBy, acceptedAck, clampReason}
 use Rattle.lictor_table.specs.Table.{running, nextOf}
 
 -- the turn ends in this state, adds these bits to the trips and has this reason
-pub record Ends (t : Turn) (q : FuseState) (bits why : ℕ) : Type 0 where
+pub record Turns (t : Turn) (q : FuseState) (bits why : ℕ) : Type 0 where
   pub state : t .state ≡ q
   pub extra : t .extra ≡ bits
   pub reason : reasonCode (t .reason) ≡ why
@@ -45,14 +45,14 @@ pub record MayClamp (cfg : FuseConfig) (rt : Control) (inp : FsmInput) : Type 0 
 
 pub record ForAll (cfg : FuseConfig) (rt : Control) (pos : List Float) (inp : FsmInput) : Type 0 where
   -- Escalated, E = 0, no ack: Terminated, 4096, reason 25
-  pub handoff : rt .state ≡ Escalated → cfg .hyst .«handoff_timeout_ticks» ≡ 0 → Unanswered rt inp → anyOf (inp .trips) faultBits ≡ false → Ends (nextOf cfg rt pos inp) Terminated 4096 25
+  pub handoff : rt .state ≡ Escalated → cfg .hyst .«handoff_timeout_ticks» ≡ 0 → Unanswered rt inp → anyOf (inp .trips) faultBits ≡ false → Turns (nextOf cfg rt pos inp) Terminated 4096 25
   -- B = 0, Braking: Fault, reason 20, stopped or not
-  pub brake : rt .state ≡ Braking → cfg .hyst .«brake_timeout_ticks» ≡ 0 → anyOf (inp .trips) faultBits ≡ false → Ends (nextOf cfg rt pos inp) Fault 16384 20
+  pub brake : rt .state ≡ Braking → cfg .hyst .«brake_timeout_ticks» ≡ 0 → anyOf (inp .trips) faultBits ≡ false → Turns (nextOf cfg rt pos inp) Fault 16384 20
   -- a soft trip with no more clamps than the limit: Clamped, and one clamp more, up to 65535
   pub clamps : MayClamp cfg rt inp → anyOf (inp .trips) faultBits ≡ false → rt .clamps ≤ cfg .hyst .«max_clamps_per_episode» → anyOf (inp .trips) tier0Soft ≡ true
-      → Ends (nextOf cfg rt pos inp) Clamped 0 (reasonCode (clampReason (bitAnd (inp .trips) tier0Soft))) × (nextOf cfg rt pos inp .rt .clamps ≡ satUp 16 (rt .clamps))
+      → Turns (nextOf cfg rt pos inp) Clamped 0 (reasonCode (clampReason (bitAnd (inp .trips) tier0Soft))) × (nextOf cfg rt pos inp .rt .clamps ≡ satUp 16 (rt .clamps))
   -- more clamps than the limit: Braking, 2048, reason 11, with a soft trip or with none
-  pub budget : MayClamp cfg rt inp → anyOf (inp .trips) faultBits ≡ false → cfg .hyst .«max_clamps_per_episode» < rt .clamps → Ends (nextOf cfg rt pos inp) Braking 2048 11
+  pub budget : MayClamp cfg rt inp → anyOf (inp .trips) faultBits ≡ false → cfg .hyst .«max_clamps_per_episode» < rt .clamps → Turns (nextOf cfg rt pos inp) Braking 2048 11
 
 -- a nonce of 0, and a slot from 8 on: not accepted
 pub record NeverAccepted (handoff : ℕ) (nonces : List ℕ) (a : VerifiedAck) : Type 0 where

@@ -1,12 +1,13 @@
 -- Text put after text.
 use Prim.Native.Nat.{ℕ, _≤_, _<_, _+_}
+use mathlib.Core.Bool.{true, false}
 use mathlib.Core.Path.{_≡_, refl, sym, ap, ap₂, _∙_}
 use mathlib.Core.List.{List, [], _++_, append-assoc}
 use native.Mathlib.Omega.{arith}
 use borrow.Author.Tests.{le-leb, lt-leb}
 use lib.ListN.{length, take, drop, length-append}
 use lib.Seq.{paste, paste-zero, take-paste, drop-paste, take-length, length-paste-head, drop-drop}
-use Rattle.text.specs.Memory.{Put, placePut, memoryPut}
+use Rattle.text.specs.Memory.{Put, placePut, memoryPut, hasRoom, placeWith, memoryWith}
 
 pub put-none : (out : List ℕ) (n : ℕ) → Put out n [] n out
 put-none out n = record { ends = (let e : n ≡ n + 0 = omega arith in e); memory = paste-zero out n [] }
@@ -25,6 +26,21 @@ module _ (out : List ℕ) (n : ℕ) (s : List ℕ) where
   pub put-there : n + length s ≤ length out → (r : ℕ) (out' : List ℕ) → (r ≡ placePut (length out) n s) × (out' ≡ memoryPut out n s) → Put out n s r out'
   unfolding placePut memoryPut
   put-there h r out' p = let y = le-leb (n + length s) (length out) h in record { ends = rw y at (p .0); memory = rw y at (p .1) }
+
+-- text that is put where `need` bytes are left
+module _ (need : ℕ) (out : List ℕ) (n : ℕ) (s : List ℕ) where
+  pub no-room : hasRoom need n (length out) ≡ false → (n ≡ placeWith need (length out) n s) × (out ≡ memoryWith need out n s)
+  unfolding placeWith memoryWith
+  no-room h = rw h (refl, refl)
+
+  pub with-room : hasRoom need n (length out) ≡ true → (r : ℕ) (out' : List ℕ) → Put out n s r out' → (r ≡ placeWith need (length out) n s) × (out' ≡ memoryWith need out n s)
+  unfolding placeWith memoryWith
+  with-room h r out' p = rw h (p .ends, p .memory)
+
+  -- what a caller learns who saw to the room
+  pub put-with : n + need ≤ length out → (r : ℕ) (out' : List ℕ) → (r ≡ placeWith need (length out) n s) × (out' ≡ memoryWith need out n s) → Put out n s r out'
+  unfolding placeWith memoryWith
+  put-with h r out' p = let y = le-leb (n + need) (length out) h in record { ends = rw y at (p .0); memory = rw y at (p .1) }
 
 -- what is at the front then
 pub put-shows : (out : List ℕ) (n : ℕ) (s : List ℕ) (r : ℕ) (out' : List ℕ) → n ≤ length out → Put out n s r out' → take r out' ≡ take n out ++ s

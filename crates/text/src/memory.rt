@@ -2,7 +2,7 @@
 // nothing is put.
 ghost use mathlib.Core.Path.{_≡_};
 ghost use lib.ListN.{length, take};
-ghost use Rattle.text.specs.Memory.{placePut, memoryPut};
+ghost use Rattle.text.specs.Memory.{placePut, memoryPut, hasRoom};
 use crate::LINE;
 use crate::Line;
 
@@ -34,4 +34,17 @@ pub fn put_line(out: &mut [u8], n: usize, l: Line) -> usize
         return put(out, n, &text);
     }
     put(out, n, &text[..k])
+}
+
+// Whether so many bytes are left after the first n of so much memory.
+pub fn has_room(need: usize, n: usize, room: usize) -> bool
+    ensures { λ r. ⌜ r ≡ hasRoom need n room ⌝ }
+{
+    if room < need {
+        return false;
+    }
+    if room - need < n {
+        return false;
+    }
+    true
 }

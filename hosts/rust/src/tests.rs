@@ -68,6 +68,28 @@ fn layout_is_the_stored_one() {
     assert_eq!(layout(), include_str!("../../layout.txt"));
 }
 
+/// The number that crates/lictor_core gives a size of this name, which may be that of another.
+fn size(name: &str) -> String {
+    let source = [
+        include_str!("../../../crates/lictor_core/src/chunk.rt"),
+        include_str!("../../../crates/lictor_core/src/envelope.rt"),
+        include_str!("../../../crates/lictor_core/src/scores.rt"),
+        include_str!("../../../crates/lictor_core/src/verdict.rt"),
+    ]
+    .concat();
+    let value = source.split(&format!("pub const {name}: usize = ")).nth(1).unwrap().split(';').next().unwrap();
+    if value.parse::<usize>().is_ok() { value.to_string() } else { size(value) }
+}
+
+/// A field as the library has it, with numbers for its sizes and for `Time`.
+fn spelt(field: &str) -> String {
+    let field = field.trim().replace("Time", "u32");
+    match field.split_once("; ").and_then(|(front, rest)| rest.split_once(']').map(|(name, end)| (front, name, end))) {
+        Some((front, name, end)) => format!("{front}; {}]{end}", size(name)),
+        None => field,
+    }
+}
+
 /// The structs of crates/host_layout and crates/host_c that are in the layout of C, field by field.
 #[test]
 fn types_are_those_of_the_library() {
@@ -82,7 +104,7 @@ fn types_are_those_of_the_library() {
     for (name, fields, _) in TYPES {
         let text =
             source.split(&format!("#[repr(C)]\npub struct {name} {{\n")).nth(1).unwrap().split("\n}").next().unwrap();
-        let theirs: Vec<String> = text.lines().map(|l| l.trim().replace("Time", "u32")).collect();
+        let theirs: Vec<String> = text.lines().map(spelt).collect();
         let ours: Vec<String> = fields.iter().map(|f| format!("pub {}: {},", f.name, f.kind)).collect();
         assert_eq!(theirs, ours, "{name}");
     }

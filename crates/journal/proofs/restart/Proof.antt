@@ -1,4 +1,4 @@
-use Rattle.journal.specs.Journal.{restartedOf}
+use Rattle.journal.specs.Events.{restartedOf}
 use borrow.Author.Needs.{needs}
 use Rattle.journal.proofs.restart.Statement.{statement}
 use Rattle.journal.proofs.restart.Tie as tie

@@ -10,8 +10,8 @@ use Rattle.journal_reader.specs.declared.waiting.Waiting.{Waiting}
 use Rattle.journal_reader.specs.declared.Look.the-variants as L
 use Rattle.journal_reader.specs.declared.Took.{Took}
 use Rattle.stream.specs.Stream.{Reached}
-use Rattle.journal_reader.specs.Reading.{lookOf, onBytes}
-use Rattle.journal_reader.specs.Steps.{stateWith, looksSmall, TookOne, Collected}
+use Rattle.journal_reader.specs.Reading.{onBytes}
+use Rattle.journal_reader.specs.Steps.{stateWith, lookOf, looksSmall, TookOne, Collected}
 use Rattle.stream.proofs.Stream.{impossible, reached-none, reached-on}
 use Rattle.journal_reader.proofs.Reading.{machine}
 use Rattle.journal_reader.proofs.Steps.{took-reached, took-within, took-look, took-less}
@@ -23,15 +23,15 @@ abbrev first : Waiting → ℕ → Took
 first w at = record { waiting = w; at = at; look = L.Waits; more = true }
 
 -- what was taken so far, and what is there where nothing more is taken
-record Kept (l₀ : List Float) (s : List ℕ) (t₀ : Took) (l : List Float) (t : Took) : Type 0 where
-  pub reached : (o : Outcome) → Reached onBytes (stateWith (t₀ .waiting) o l₀) s (t₀ .at) (stateWith (t .waiting) o l) (t .at)
+record Kept (kinds : List ℕ) (l₀ : List Float) (s : List ℕ) (t₀ : Took) (l : List Float) (t : Took) : Type 0 where
+  pub reached : (o : Outcome) → Reached (onBytes kinds) (stateWith (t₀ .waiting) o l₀) s (t₀ .at) (stateWith (t .waiting) o l) (t .at)
   pub within : t .at ≤ length s
   pub other : t .more ≡ false → looksSmall (t .look) ≡ false
-  pub look : t .more ≡ false → t .look ≡ lookOf (t .waiting .seen) (drop (t .at) s)
+  pub look : t .more ≡ false → t .look ≡ lookOf kinds (t .waiting .seen) (drop (t .at) s)
 
-kept-first : (w : Waiting) (l : List Float) (s : List ℕ) (at : ℕ) → at ≤ length s → Kept l s (first w at) l (first w at)
-kept-first w l s at h = record {
-  reached = λ o. reached-none onBytes machine (stateWith w o l) s at h;
+kept-first : (kinds : List ℕ) (w : Waiting) (l : List Float) (s : List ℕ) (at : ℕ) → at ≤ length s → Kept kinds l s (first w at) l (first w at)
+kept-first kinds w l s at h = record {
+  reached = λ o. reached-none (onBytes kinds) (machine kinds) (stateWith w o l) s at h;
   within = h;
   other = λ y. absurd (no y);
   look = λ y. absurd (no y);
@@ -40,23 +40,23 @@ kept-first w l s at h = record {
     no : true ≡ false → ⊥
     no y = impossible cc
 
-kept-more : (l₀ : List Float) (s : List ℕ) (t₀ : Took) (l : List Float) (t : Took) → Kept l₀ s t₀ l t → (r : Took) (l' : List Float) → TookOne (t .waiting) l s (t .at) r l'
-    → Kept l₀ s t₀ l' r
-kept-more l₀ s t₀ l t k r l' n = record {
-  reached = λ o. reached-on onBytes machine (k .reached o) (took-reached (t .waiting) l s (t .at) (k .within) r l' n o);
-  within = took-within (t .waiting) l s (t .at) (k .within) r l' n;
+kept-more : (kinds : List ℕ) (l₀ : List Float) (s : List ℕ) (t₀ : Took) (l : List Float) (t : Took) → Kept kinds l₀ s t₀ l t → (r : Took) (l' : List Float) → TookOne kinds (t .waiting) l s (t .at) r l'
+    → Kept kinds l₀ s t₀ l' r
+kept-more kinds l₀ s t₀ l t k r l' n = record {
+  reached = λ o. reached-on (onBytes kinds) (machine kinds) (k .reached o) (took-reached kinds (t .waiting) l s (t .at) (k .within) r l' n o);
+  within = took-within kinds (t .waiting) l s (t .at) (k .within) r l' n;
   other = n .other;
-  look = took-look (t .waiting) l s (t .at) (k .within) r l' n;
+  look = took-look kinds (t .waiting) l s (t .at) (k .within) r l' n;
 }
 
 abbrev Inv-loop : tie.InvT-loop
-Inv-loop l₀ s at t₀ l t = Kept l₀ s t₀ l t
+Inv-loop kinds l₀ s at t₀ l t = Kept kinds l₀ s t₀ l t
 
 abbrev μ-loop : tie.MeasureT-loop
-μ-loop l₀ s at t₀ l t = length s - t .at + cond (t .more) 1 0
+μ-loop kinds l₀ s at t₀ l t = length s - t .at + cond (t .more) 1 0
 
 loop-holds : tie.Need-loop-holds Inv-loop μ-loop
-loop-holds c = kept-first _ _ _ _ (c .before .pre)
+loop-holds c = kept-first _ _ _ _ _ (c .before .before .pre)
 
 take-one-requires : tie.Need-take-one-requires Inv-loop μ-loop
 take-one-requires c κs = tt
@@ -64,10 +64,10 @@ take-one-requires c κs = tt
 loop-less : tie.Need-loop-less Inv-loop μ-loop
 loop-less c =
     let k = c .before .before .before .before .loop .inv in
-    rw (c .before .before .before .loop-test .taken) (took-less _ _ _ _ (k .within) _ _ (c .take-one .ensures))
+    rw (c .before .before .before .loop-test .taken) (took-less _ _ _ _ _ (k .within) _ _ (c .take-one .ensures))
 
 loop-again : tie.Need-loop-again Inv-loop μ-loop
-loop-again c = kept-more _ _ _ _ _ (c .before .before .before .before .loop .inv) _ _ (c .take-one .ensures)
+loop-again c = kept-more _ _ _ _ _ _ (c .before .before .before .before .loop .inv) _ _ (c .take-one .ensures)
 
 returns : tie.Need-returns Inv-loop μ-loop
 returns c =

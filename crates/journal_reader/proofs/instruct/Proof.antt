@@ -12,14 +12,14 @@ use Rattle.journal_reader.proofs.instruct.Tie as tie
 never : (t : Bool) → t ≡ false → t ≡ true → ⊥
 never t p q = impossible cc
 
-enum-told : tie.Need-enum-told
-enum-told c = search needs
-
 add-from : tie.Need-add-from
 add-from c = search needs
 
 add-end : tie.Need-add-end
 add-end c = search needs
+
+enum-told : tie.Need-enum-told
+enum-told c = search needs
 
 sub-read-outcome : tie.Need-sub-read-outcome
 sub-read-outcome c = search needs
@@ -69,9 +69,9 @@ pub instruct-spec : {M : Type 1} → statement M
 instruct-spec =
     tie.close
     (tie.spec
-    enum-told
     add-from
     add-end
+    enum-told
     sub-read-outcome
     part-read-outcome-start
     part-read-outcome-end

@@ -1,76 +1,78 @@
--- The body is handed on as far as it came.
+use mathlib.Core.Path.{sym, _∙_}
+use native.Mathlib.Omega.{arith}
+use lib.ListN.{drop}
+use Rattle.journal_frames.specs.declared.Frame.the-variants.{Waits, Unknown}
+use Rattle.journal_reader.proofs.Steps.{body-part, look-is, look-fits, look-whole}
 use borrow.Author.Needs.{needs}
-use Prim.Native.Nat.{ℕ, _+_, _-_, min}
-use mathlib.Core.Path.{_≡_, refl, ap, _∙_}
-use lib.ListN.{length, take, drop}
-use Rattle.journal_records.specs.Little.{byteAt}
-use Rattle.journal_records.specs.Kinds.{journalKinds, bodyLen}
-use Rattle.journal_reader.specs.Reading.{lookAs}
-use Rattle.journal_reader.proofs.Steps.{part-least, look-is, look-end}
 use Rattle.journal_reader.proofs.look_at.Statement.{statement}
 use Rattle.journal_reader.proofs.look_at.Tie as tie
 
-returns : tie.Need-returns
-returns c = let a = c .before .before .args in look-end (a .seen) (a .s .now) (a .at) (c .if1 .taken)
+frame-at-requires : tie.Need-frame-at-requires
+frame-at-requires c κs = search needs
 
-shared-slice-read-kind : tie.Need-shared-slice-read-kind
-shared-slice-read-kind c = search needs
+enum-told : tie.Need-enum-told
+enum-told c = search needs
+
+enum-told-2 : tie.Need-enum-told-2
+enum-told-2 c = search needs
+
+enum-known-frame : tie.Need-enum-known-frame
+enum-known-frame c = search needs
 
 add-from : tie.Need-add-from
-add-from c = search needs
-
-body-len-requires : tie.Need-body-len-requires
-body-len-requires c κs = search needs
-
-sub-least : tie.Need-sub-least
-sub-least c = search needs
-
-least-requires : tie.Need-least-requires
-least-requires c κs = search needs
+add-from c =
+    let a = c .before .before .before .before .before .before .args in
+    let x = c .before .frame .given .0 in
+    omega (arith, look-fits (a .kinds .now) (a .s .now) (a .at) (x .0) (x .1 .0) (sym (c .before .before .before .frame-at .ensures) ∙ c .before .frame .given .1))
 
 add-end : tie.Need-add-end
-add-end c = search needs
+add-end c =
+    let a = c .before .before .before .before .before .before .args in
+    let x = c .before .frame .given .0 in
+    omega (arith, look-fits (a .kinds .now) (a .s .now) (a .at) (x .0) (x .1 .0) (sym (c .before .before .before .frame-at .ensures) ∙ c .before .frame .given .1))
 
-sub-body : tie.Need-sub-body
-sub-body c = search needs
+sub-look-in : tie.Need-sub-look-in
+sub-look-in c = search needs
 
-part-body-start : tie.Need-part-body-start
-part-body-start c = search needs
+part-look-in-start : tie.Need-part-look-in-start
+part-look-in-start c = search needs
 
-part-body-end : tie.Need-part-body-end
-part-body-end c = search needs
+part-look-in-end : tie.Need-part-look-in-end
+part-look-in-end c =
+    let a = c .before .before .before .before .before .before .args in
+    let x = c .before .frame .given .0 in
+    omega (arith, look-fits (a .kinds .now) (a .s .now) (a .at) (x .0) (x .1 .0) (sym (c .before .before .before .frame-at .ensures) ∙ c .before .frame .given .1))
 
-judge-requires : tie.Need-judge-requires
-judge-requires c κs = search needs
+look-in-requires : tie.Need-look-in-requires
+look-in-requires c κs = search needs
 
-look-as-requires : tie.Need-look-as-requires
-look-as-requires c κs = search needs
+returns : tie.Need-returns
+returns c = look-is _ _ _ Waits (sym (c .enum-told .given .1) ∙ c .before .before .frame-at .ensures)
 
 returns-2 : tie.Need-returns-2
-returns-2 c =
+returns-2 c = look-is _ _ _ Unknown (sym (c .enum-told2 .given .1) ∙ c .before .before .frame-at .ensures)
+
+returns-3 : tie.Need-returns-3
+returns-3 c =
     let a = c .before .before .before .before .before .before .before .before .args in
-    let s = a .s .now in
-    let k = byteAt s (a .at) in
-    let n : c .before .before .before .least .result ≡ min (bodyLen journalKinds k) (length s - (a .at + 1))
-    = c .before .before .before .least .ensures ∙ ap (λ (m : ℕ). min m (length s - (a .at + 1))) (c .before .before .before .before .body-len .ensures) in
-    let body : take (a .at + 1 + c .before .before .before .least .result - (a .at + 1)) (drop (a .at + 1) s) ≡ take (bodyLen journalKinds k) (drop (a .at + 1) s)
-    = ap (λ (m : ℕ). take (a .at + 1 + m - (a .at + 1)) (drop (a .at + 1) s)) n ∙ part-least s (a .at + 1) (bodyLen journalKinds k) in
-    c .look-as .ensures ∙ ap (lookAs k _) (c .before .judge .ensures) ∙ look-is (a .seen) s (a .at) k _ (c .before .before .before .before .before .before .if1 .left) refl body
+    let x = c .before .before .before .frame .given in
+    let e = sym (c .before .before .before .before .before .frame-at .ensures) ∙ x .1 in
+    look-whole (a .kinds .now) (a .seen) (drop (a .at) (a .s .now)) (x .0 .0) (x .0 .1 .0) _ _ e (body-part (a .s .now) (a .at) (x .0 .1 .0)) (c .look-in .ensures)
 
 pub look-at-spec : {M : Type 1} → statement M
 look-at-spec =
     tie.close
     (tie.spec
-    returns
-    shared-slice-read-kind
+    frame-at-requires
+    enum-told
+    enum-told-2
+    enum-known-frame
     add-from
-    body-len-requires
-    sub-least
-    least-requires
     add-end
-    sub-body
-    part-body-start
-    part-body-end
-    judge-requires
-    look-as-requires
-    returns-2)
+    sub-look-in
+    part-look-in-start
+    part-look-in-end
+    look-in-requires
+    returns
+    returns-2
+    returns-3)

@@ -14,15 +14,15 @@ enum-known-look c = search needs
 
 add-requires : tie.Need-add-requires
 add-requires c κs =
-    let a = c .before .before .before .before .before .before .before .args in
-    let f = found-is (a .w .seen) (drop (a .at) (a .s .now)) _ _ (sym (c .before .before .before .before .look-at .ensures) ∙ c .before .before .look .given .1) in
+    let a = c .before .before .before .before .before .before .before .before .args in
+    let f = found-is (a .kinds .now) (a .w .seen) (drop (a .at) (a .s .now)) _ _ (sym (c .before .before .before .before .look-at .ensures) ∙ c .before .before .look .given .1) in
     (omega (arith, f .fits, length-drop (a .at) (a .s .now)), f .room)
 
 returns : tie.Need-returns
-returns c = took-added _ _ _ _ _ _ _ _ (sym (c .before .before .before .before .before .look-at .ensures) ∙ c .before .before .before .look .given .1) (c .add .ensures)
+returns c = took-added _ _ _ _ _ _ _ _ _ (sym (c .before .before .before .before .before .look-at .ensures) ∙ c .before .before .before .look .given .1) (c .add .ensures)
 
 returns-2 : tie.Need-returns-2
-returns-2 c = took-none _ _ _ _ _ (c .before .look-at .ensures) (none-found (c .before .look-at .result) (c .match .keys2))
+returns-2 c = took-none _ _ _ _ _ _ (c .before .look-at .ensures) (none-found (c .before .look-at .result) (c .match .keys2))
 
 pub take-one-spec : {M : Type 1} → statement M
 take-one-spec =

@@ -12,8 +12,9 @@ enum-known-look c = search needs
 instruct-requires : tie.Need-instruct-requires
 instruct-requires c κs =
     let k = c .before .before .before .before .before .collect .ensures in
+    let o = c .before .before .before .before .before .before .before .before .before .before .before .args .rd .outcome in
     let e = c .before .before .look .given .1 in
-    (found-here _ (c .before .before .before .before .before .before .before .before .before .before .args .rd .outcome) _ _ _ _ _ k _ _ e, found-big _ (c .before .before .before .before .before .before .before .before .before .before .args .rd .outcome) _ _ _ _ _ k _ _ e)
+    (found-here _ _ o _ _ _ _ _ k _ _ e, found-big _ _ o _ _ _ _ _ k _ _ e)
 
 enum-told : tie.Need-enum-told
 enum-told c = search needs
@@ -22,13 +23,13 @@ enum-known-look-2 : tie.Need-enum-known-look-2
 enum-known-look-2 c = search needs
 
 returns : tie.Need-returns
-returns c = turned-found _ _ _ _ _ _ _ (c .before .before .before .before .before .before .collect .ensures) _ _ (c .before .before .before .look .given .1) _ (c .instruct .ensures)
+returns c = turned-found _ _ _ _ _ _ _ _ (c .before .before .before .before .before .before .collect .ensures) _ _ (c .before .before .before .look .given .1) _ (c .instruct .ensures)
 
 returns-2 : tie.Need-returns-2
-returns-2 c = turned-waits _ _ _ _ _ _ _ (c .before .before .before .collect .ensures) (c .enum-told .given .1)
+returns-2 c = turned-waits _ _ _ _ _ _ _ _ (c .before .before .before .collect .ensures) (c .enum-told .given .1)
 
 returns-3 : tie.Need-returns-3
-returns-3 c = turned-refuses _ _ _ _ _ _ _ (c .before .before .before .before .collect .ensures) _ (c .before .look2 .given .1)
+returns-3 c = turned-refuses _ _ _ _ _ _ _ _ (c .before .before .before .before .collect .ensures) _ (c .before .look2 .given .1)
 
 pub take-stretch-spec : {M : Type 1} → statement M
 take-stretch-spec =

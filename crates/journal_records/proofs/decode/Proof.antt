@@ -1,9 +1,8 @@
 -- An arm of the match knows its kind, and the definition at that kind computes.
-use Prim.Native.Nat.{ℕ}
-use mathlib.Core.Path.{sym, ap, ap₂, _∙_}
-use borrow.Author.Tests.{ne-eqb}
+use mathlib.Core.Path.{refl, ap, ap₂, _∙_}
 use Rattle.journal_records.specs.declared.Record.the-variants.{Ack, Head, Value, Tick}
 use Rattle.journal_records.specs.Body.{decodeOf}
+use Rattle.journal_records.proofs.Decoded.{decoded-at, decoded-last}
 use borrow.Author.Needs.{needs}
 use Rattle.journal_records.proofs.decode.Statement.{statement}
 use Rattle.journal_records.proofs.decode.Tie as tie
@@ -25,34 +24,30 @@ read-tick-requires c κs = search needs
 
 returns : tie.Need-returns
 unfolding decodeOf
-returns c = sym (ap (λ (n : ℕ). decodeOf n (c .before .before .args .b .now)) (c .match .keys1))
+returns c = decoded-at _ _ _ _ (c .match .keys1) refl
 
 returns-2 : tie.Need-returns-2
 unfolding decodeOf
-returns-2 c = sym (ap (λ (n : ℕ). decodeOf n (c .before .before .args .b .now)) (c .match .keys2))
+returns-2 c = decoded-at _ _ _ _ (c .match .keys2) refl
 
 returns-3 : tie.Need-returns-3
 unfolding decodeOf
-returns-3 c = ap Ack (c .read-ack .ensures) ∙ sym (ap (λ (n : ℕ). decodeOf n (c .before .before .before .args .b .now)) (c .before .match .keys3))
+returns-3 c = decoded-at _ _ _ _ (c .before .match .keys3) (ap Ack (c .read-ack .ensures))
 
 returns-4 : tie.Need-returns-4
 unfolding decodeOf
-returns-4 c = ap Head (c .read-head .ensures) ∙ sym (ap (λ (n : ℕ). decodeOf n (c .before .before .before .args .b .now)) (c .before .match .keys4))
+returns-4 c = decoded-at _ _ _ _ (c .before .match .keys4) (ap Head (c .read-head .ensures))
 
 returns-5 : tie.Need-returns-5
 unfolding decodeOf
-returns-5 c = ap₂ Value (c .before .byte .ensures) (c .f64-at .ensures) ∙ sym (ap (λ (n : ℕ). decodeOf n (c .before .before .before .before .args .b .now)) (c .before .before .match .keys5))
+returns-5 c = decoded-at _ _ _ _ (c .before .before .match .keys5) (ap₂ Value (c .before .byte .ensures) (c .f64-at .ensures))
 
 returns-6 : tie.Need-returns-6
 unfolding decodeOf
-returns-6 c = sym (ap (λ (n : ℕ). decodeOf n (c .before .before .args .b .now)) (c .match .keys6))
+returns-6 c = decoded-at _ _ _ _ (c .match .keys6) refl
 
 returns-7 : tie.Need-returns-7
-unfolding decodeOf
-returns-7 c =
-    let r = c .before .match .rest in
-    ap Tick (c .read-tick .ensures)
-    ∙ simp (ne-eqb _ _ (r .1), ne-eqb _ _ (r .0 .1), ne-eqb _ _ (r .0 .0 .1), ne-eqb _ _ (r .0 .0 .0 .1), ne-eqb _ _ (r .0 .0 .0 .0 .1), ne-eqb _ _ (r .0 .0 .0 .0 .0 .1))
+returns-7 c = ap Tick (c .read-tick .ensures) ∙ decoded-last _ _ (search needs)
 
 pub decode-spec : {M : Type 1} → statement M
 decode-spec =

@@ -1,9 +1,4 @@
-use Prim.Native.Nat.{ℕ}
-use mathlib.Core.Path.{sym, ap, _∙_}
-use borrow.Author.Tests.{ne-eqb}
-use Rattle.lictor_core.specs.FirstThat.{firstThat}
-use Rattle.journal_refusals.specs.Table.{contentsOf, refusalTable}
-use Rattle.journal_refusals.specs.Causes.{codeNotListed, sizeOutside, floatNotFinite, boxCrossed, listFull, notReady}
+use Rattle.journal_refusals.proofs.Contents.{contents-at, contents-none}
 use borrow.Author.Needs.{needs}
 use Rattle.journal_refusals.proofs.judge_contents.Statement.{statement}
 use Rattle.journal_refusals.proofs.judge_contents.Tie as tie
@@ -24,23 +19,22 @@ judge-tick-requires : tie.Need-judge-tick-requires
 judge-tick-requires c κs = search needs
 
 returns : tie.Need-returns
-returns c = c .judge-settings .ensures ∙ sym (ap (λ (k : ℕ). contentsOf (c .before .before .before .args .seen) k (c .before .before .before .args .b .now)) (c .before .match .keys1))
+returns c = contents-at _ _ _ _ _ (c .before .match .keys1) (c .judge-settings .ensures)
 
 returns-2 : tie.Need-returns-2
-returns-2 c = c .judge-ack .ensures ∙ sym (ap (λ (k : ℕ). contentsOf (c .before .before .before .args .seen) k (c .before .before .before .args .b .now)) (c .before .match .keys2))
+returns-2 c = contents-at _ _ _ _ _ (c .before .match .keys2) (c .judge-ack .ensures)
 
 returns-3 : tie.Need-returns-3
-returns-3 c = c .judge-value .ensures ∙ sym (ap (λ (k : ℕ). contentsOf (c .before .before .before .args .seen) k (c .before .before .before .args .b .now)) (c .before .match .keys3))
+returns-3 c = contents-at _ _ _ _ _ (c .before .match .keys3) (c .judge-value .ensures)
 
 returns-4 : tie.Need-returns-4
-returns-4 c = c .judge-outcome .ensures ∙ sym (ap (λ (k : ℕ). contentsOf (c .before .before .before .args .seen) k (c .before .before .before .args .b .now)) (c .before .match .keys4))
+returns-4 c = contents-at _ _ _ _ _ (c .before .match .keys4) (c .judge-outcome .ensures)
 
 returns-5 : tie.Need-returns-5
-returns-5 c = c .judge-tick .ensures ∙ sym (ap (λ (k : ℕ). contentsOf (c .before .before .before .args .seen) k (c .before .before .before .args .b .now)) (c .before .match .keys5))
+returns-5 c = contents-at _ _ _ _ _ (c .before .match .keys5) (c .judge-tick .ensures)
 
 returns-6 : tie.Need-returns-6
-unfolding contentsOf refusalTable firstThat codeNotListed sizeOutside floatNotFinite boxCrossed listFull notReady
-returns-6 c = let r = c .match .rest in simp (ne-eqb _ _ (r .1), ne-eqb _ _ (r .0 .1), ne-eqb _ _ (r .0 .0 .1), ne-eqb _ _ (r .0 .0 .0 .1), ne-eqb _ _ (r .0 .0 .0 .0 .1))
+returns-6 c = contents-none _ _ _ (search needs)
 
 pub judge-contents-spec : {M : Type 1} → statement M
 judge-contents-spec =

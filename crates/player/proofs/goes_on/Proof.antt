@@ -1,23 +1,19 @@
-use Prim.Native.Nat.{_+_}
-use mathlib.Core.Path.{refl}
-use native.Mathlib.Omega.{arith}
-use borrow.Author.Tests.{le-leb, lt-leb}
-use Rattle.report.specs.Text.{tickRoom}
+use mathlib.Core.Path.{refl, sym, _∙_}
+use borrow.Author.Needs.{needs}
 use Rattle.player.specs.Play.{goesOnOf}
 use Rattle.player.proofs.goes_on.Statement.{statement}
 use Rattle.player.proofs.goes_on.Tie as tie
 
+has-room-requires : tie.Need-has-room-requires
+has-room-requires c κs = search needs
+
 returns : tie.Need-returns
 unfolding goesOnOf
-returns c = let a = c .before .args in rw (lt-leb (a .n + tickRoom) (a .room) (omega arith)) refl
+returns c = rw (sym (c .before .has-room .ensures) ∙ c .if1 .taken) refl
 
 returns-2 : tie.Need-returns-2
 unfolding goesOnOf
-returns-2 c = let a = c .before .before .args in rw (lt-leb (a .n + tickRoom) (a .room) (omega arith)) refl
-
-returns-3 : tie.Need-returns-3
-unfolding goesOnOf
-returns-3 c = let a = c .before .before .args in rw (le-leb (a .n + tickRoom) (a .room) (omega arith)) refl
+returns-2 c = rw (sym (c .before .has-room .ensures) ∙ c .if1 .left) refl
 
 pub goes-on-spec : {M : Type 1} → statement M
-goes-on-spec = tie.close (tie.spec returns returns-2 returns-3)
+goes-on-spec = tie.close (tie.spec has-room-requires returns returns-2)

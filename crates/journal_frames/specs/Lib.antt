@@ -1,0 +1,2 @@
+-- Definitions that the contracts of this crate, and of those above it, cite.
+pub mod Frames

@@ -1,0 +1,3 @@
+-- Laws that belong to no one function, and theorems.
+pub mod Rooms
+pub mod Parts

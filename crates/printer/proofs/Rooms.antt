@@ -1,0 +1,143 @@
+-- The text of an event and that of an ending have room; and what their texts in memory are.
+use Prim.Native.Nat.{ℕ, zero, suc, _+_, _*_, _≤_, _<_}
+use mathlib.Core.Bool.{Bool, true, false}
+use mathlib.Core.Path.{_≡_, refl, sym, ap, _∙_}
+use mathlib.Core.List.{List, [], _++_}
+use native.Mathlib.Omega.{arith}
+use borrow.Author.Tests.{eq-eqb, ne-eqb, le-leb, lt-leb}
+use lib.ListN.{length, length-append, length-take, take}
+use Rattle.lictor_core.specs.declared.fuse.FuseRt.{FuseRt}
+use Rattle.lictor_core.specs.declared.verdict.SafetyVerdict.{SafetyVerdict}
+use Rattle.journal_refusals.specs.declared.Refusal.{Refusal}
+use Rattle.journal_refusals.specs.Table.{numberOf}
+use Rattle.journal_refusals.proofs.Exactly.{numbers}
+use Rattle.journal.specs.declared.tick.Run.{Run}
+use Rattle.journal.specs.Events.{Event, TickReport, began, restarted, ticked}
+use Rattle.journal.specs.Journal.{Ending, ended, refused}
+use Rattle.text.specs.declared.Line.{Line}
+use Rattle.text.specs.Line.{lineRoom, lineOf}
+use Rattle.text.specs.Memory.{Put, placePut, memoryPut, hasRoom, placeWith, memoryWith}
+use Rattle.text.proofs.Lines.{line-text}
+use Rattle.text.proofs.Puts.{put-none, put-on, put-there, no-room, with-room, put-with}
+use Rattle.trace_text.specs.Trace.{traceCount, traceText}
+use Rattle.report.specs.Lines.{tickText, endText, refusedText}
+use Rattle.report.specs.Text.{traceRoom, traceUpTo}
+use Rattle.report.proofs.Fits.{tick-fits, end-fits, refused-fits}
+use Rattle.printer.specs.declared.Shown.{Shown}
+use Rattle.printer.specs.Printer.{Shows, lines, trace, traceCode, showsBy, Printer, tickShown, shownText, remembered, endingText, endingBy, eventRoom, endingRoom, shownAt, memoryAt, ShownIn, EndedIn}
+
+-- ---- room
+
+trace-fits : (k : ℕ) (v : SafetyVerdict) (rt : FuseRt) → length (traceUpTo k v rt) ≤ k * lineRoom
+unfolding traceUpTo
+trace-fits zero v rt = omega arith
+trace-fits (suc k) v rt =
+    omega (arith, trace-fits k v rt, length-append (traceUpTo k v rt) (take lineRoom (traceText k v rt)), length-take lineRoom (traceText k v rt))
+
+tick-shown-fits : (w : Shows) (v : SafetyVerdict) (rt : FuseRt) → length (tickShown w v rt) ≤ eventRoom
+tick-shown-fits lines v rt = omega (arith, tick-fits v)
+tick-shown-fits trace v rt = omega (arith, tick-fits v, trace-fits traceCount v rt, length-append (tickText v) (traceUpTo traceCount v rt))
+
+pub event-fits : (p : Printer) (e : Event) → length (shownText p e) ≤ eventRoom
+unfolding shownText
+event-fits p (began run) = omega arith
+event-fits p (restarted run) = omega arith
+event-fits p (ticked t) = tick-shown-fits (p .shows) (t .verdict) (t .run .rt)
+
+pub ending-fits : (p : Printer) (run : Run) (e : Ending) → length (endingText p run e) ≤ endingRoom
+unfolding endingText
+ending-fits p run ended = omega (arith, end-fits (run .rt .tally))
+ending-fits p run (refused r place) = omega (arith, refused-fits (numberOf r) place)
+
+-- ---- an event in memory
+
+module _ (out : List ℕ) (n : ℕ) (p : Printer) (e : Event) where
+  -- where there is no room, and where the text was put
+  pub not-shown : hasRoom eventRoom n (length out) ≡ false → ShownIn p e out n (record { memory = p .memory; n = n }) out
+  unfolding shownAt memoryAt
+  not-shown h =
+      let m = no-room eventRoom out n (shownText p e) h in
+      record { answer = rw h (ap (λ (k : ℕ). record { memory = p .memory; n = k }) (m .0)); memory = m .1 }
+
+  pub is-shown : hasRoom eventRoom n (length out) ≡ true → (r : ℕ) (out' : List ℕ) → Put out n (shownText p e) r out' → ShownIn p e out n (record { memory = remembered p e; n = r }) out'
+  unfolding shownAt memoryAt
+  is-shown h r out' q =
+      let m = with-room eventRoom out n (shownText p e) h r out' q in
+      record { answer = rw h (ap (λ (k : ℕ). record { memory = remembered p e; n = k }) (m .0)); memory = m .1 }
+
+  -- an event that prints nothing and of which nothing is remembered
+  silent-by : (b : Bool) → hasRoom eventRoom n (length out) ≡ b → shownText p e ≡ [] → remembered p e ≡ p .memory → ShownIn p e out n (record { memory = p .memory; n = n }) out
+  silent-by true h s q = rw q at (is-shown h n out (rw s (put-none out n)))
+  silent-by false h s q = not-shown h
+
+  pub silent : shownText p e ≡ [] → remembered p e ≡ p .memory → ShownIn p e out n (record { memory = p .memory; n = n }) out
+  silent = silent-by (hasRoom eventRoom n (length out)) refl
+
+  -- what a caller learns who saw to the room
+  pub shown-there : n + eventRoom ≤ length out → (r : Shown) (out' : List ℕ) → ShownIn p e out n r out' → (r .memory ≡ remembered p e) × Put out n (shownText p e) (r .n) out'
+  unfolding shownAt memoryAt
+  shown-there h r out' q =
+      let y = le-leb (n + eventRoom) (length out) h in
+      (ap (λ (x : Shown). x .memory) (rw y at (q .answer)), put-with eventRoom out n (shownText p e) h (r .n) out' (ap (λ (x : Shown). x .n) (q .answer), q .memory))
+
+-- what is shown, by its number
+pub shows-trace : (code : ℕ) → code ≡ traceCode → showsBy code ≡ trace
+unfolding showsBy
+shows-trace code e = rw (eq-eqb code traceCode e) refl
+
+pub shows-lines : (code : ℕ) → (code ≡ traceCode → ⊥) → showsBy code ≡ lines
+unfolding showsBy
+shows-lines code e = rw (ne-eqb code traceCode e) refl
+
+-- the line of a tick, and the trace after it
+module _ (w : Shows) (v : SafetyVerdict) (rt : FuseRt) (out : List ℕ) (n : ℕ) (h : n + eventRoom ≤ length out) (m : ℕ) (out' : List ℕ)
+    (q : (m ≡ placeWith lineRoom (length out) n (tickText v)) × (out' ≡ memoryWith lineRoom out n (tickText v))) where
+  line-there : Put out n (tickText v) m out'
+  line-there = put-with lineRoom out n (tickText v) (omega (arith, h)) m out' q
+
+  pub lines-shown : w ≡ lines → Put out n (tickShown w v rt) m out'
+  lines-shown e = rw e line-there
+
+  pub trace-shown : w ≡ trace → length out' ≡ length out → (r : ℕ) (out'' : List ℕ)
+      → (r ≡ placeWith traceRoom (length out') m (traceUpTo traceCount v rt)) × (out'' ≡ memoryWith traceRoom out' m (traceUpTo traceCount v rt))
+      → Put out n (tickShown w v rt) r out''
+  trace-shown e l r out'' z =
+      let there = put-with traceRoom out' m (traceUpTo traceCount v rt) (omega (arith, h, l, line-there .ends, tick-fits v)) r out'' z in
+      rw e (put-on out n (tickText v) m out' (traceUpTo traceCount v rt) r out'' (omega (arith, h)) line-there there)
+
+-- ---- an ending by its number
+
+module _ (p : Printer) (run : Run) (place : ℕ) where
+  pub ended-by : endingBy p run 0 place ≡ endingText p run ended
+  unfolding endingBy endingText
+  ended-by = refl
+
+  pub refused-by : (r : Refusal) → endingBy p run (numberOf r) place ≡ endingText p run (refused r place)
+  unfolding endingBy endingText
+  refused-by r = rw (ne-eqb (numberOf r) 0 (λ z. omega (arith, z, numbers r .0))) refl
+
+  -- the two lines that it can be
+  pub end-line-by : (number : ℕ) → number ≡ 0 → endText (run .rt .tally) ≡ endingBy p run number place
+  unfolding endingBy
+  end-line-by number z = rw (eq-eqb number 0 z) refl
+
+  pub refused-line-by : (number : ℕ) → (number ≡ 0 → ⊥) → refusedText number place ≡ endingBy p run number place
+  unfolding endingBy
+  refused-line-by number z = rw (ne-eqb number 0 z) refl
+
+-- a line at the front of memory, which is the text of an ending; without room nothing is there
+pub ending-put : (out : List ℕ) (l : Line) (s t : List ℕ) → endingRoom ≤ length out → l ≡ lineOf s → length s ≤ lineRoom → s ≡ t → (r : ℕ) (out' : List ℕ)
+    → (r ≡ placePut (length out) 0 (take (l .n) (l .text))) × (out' ≡ memoryPut out 0 (take (l .n) (l .text))) → EndedIn t out r out'
+ending-put out l s t h e f z r out' q =
+    let shows : take (l .n) (l .text) ≡ s = ap (λ (x : Line). take (x .n) (x .text)) e ∙ line-text s f in
+    let there = put-there out 0 s (omega (arith, h, f)) r out' (rw shows at q) in
+    let m = with-room endingRoom out 0 s (le-leb (0 + endingRoom) (length out) (omega (arith, h))) r out' there in
+    let done : EndedIn s out r out' = record { bytes = m .0; memory = m .1 } in
+    rw z at done
+
+pub ending-not-put : (out t : List ℕ) → length out < endingRoom → EndedIn t out 0 out
+ending-not-put out t h = let m = no-room endingRoom out 0 t (lt-leb (0 + endingRoom) (length out) (omega (arith, h))) in record { bytes = m .0; memory = m .1 }
+
+-- what a caller learns who saw to the room
+pub ending-there : (out t : List ℕ) (r : ℕ) (out' : List ℕ) → endingRoom ≤ length out → EndedIn t out r out' → Put out 0 t r out'
+ending-there out t r out' h q = put-with endingRoom out 0 t (omega (arith, h)) r out' (q .bytes, q .memory)

@@ -1,0 +1,143 @@
+-- What a program prints for a journal (01-scope.md, Journal, the program `fuse`): a text for each
+-- event and one for its ending. A printer may remember something from event to event.
+use mathlib.Core.Bool.{cond}
+use mathlib.Core.List.{List, [], _∷_, _++_}
+use mathlib.Core.Path.{_≡_}
+use Prim.Native.Nat.{ℕ, _+_, _*_}
+use lib.Dec.{eqb}
+use lib.ListN.{length}
+use Rattle.lictor_core.specs.declared.fuse.FuseRt.{FuseRt}
+use Rattle.lictor_core.specs.declared.verdict.SafetyVerdict.{SafetyVerdict}
+use Rattle.journal_records.specs.Kinds.{journalKinds}
+use Rattle.journal_refusals.specs.Table.{numberOf}
+use Rattle.journal.specs.declared.tick.Run.{Run}
+use Rattle.journal.specs.Events.{Event, began, restarted, ticked}
+use Rattle.journal.specs.Journal.{Ending, ended, refused, Meaning, journalOf}
+use Rattle.text.specs.Line.{lineRoom}
+use Rattle.text.specs.Memory.{hasRoom, placeWith, memoryWith}
+use Rattle.trace_text.specs.Trace.{traceCount}
+use Rattle.report.specs.Lines.{tickText, endText, refusedText}
+use Rattle.report.specs.Text.{traceRoom, traceUpTo}
+use Rattle.printer.specs.declared.Memory.{Memory}
+use Rattle.printer.specs.declared.Shown.{Shown}
+
+-- ---- a printer
+
+-- what is shown: of a tick its line; or its line and every field of the verdict, the run state and
+-- the tally
+pub data Shows : Type 0 where
+  lines : Shows
+  trace : Shows
+
+-- by number, in the code
+abbrev pub traceCode : ℕ
+traceCode = 1
+
+unfoldable pub showsBy : ℕ → Shows
+showsBy code = cond (eqb code traceCode) trace lines
+
+-- a printer: what it shows, and what it remembers from event to event
+pub record Printer : Type 0 where
+  pub shows : Shows
+  pub memory : Memory
+
+abbrev pub printerBy : ℕ → Memory → Printer
+printerBy code m = record { shows = showsBy code; memory = m }
+
+-- before the first event nothing is remembered
+abbrev pub atStart : Memory
+atStart = record {}
+
+-- the printers of `fuse` and `trace`
+abbrev pub fusePrinter : Printer
+fusePrinter = record { shows = lines; memory = atStart }
+
+abbrev pub tracePrinter : Printer
+tracePrinter = record { shows = trace; memory = atStart }
+
+-- ---- an event
+
+abbrev pub tickShown : Shows → SafetyVerdict → FuseRt → List ℕ
+tickShown lines v rt = tickText v
+tickShown trace v rt = tickText v ++ traceUpTo traceCount v rt
+
+-- settings and a reset print nothing
+unfoldable pub shownText : Printer → Event → List ℕ
+shownText p (began run) = []
+shownText p (restarted run) = []
+shownText p (ticked t) = tickShown (p .shows) (t .verdict) (t .run .rt)
+
+-- what is remembered after an event: neither of the two remembers anything
+unfoldable pub remembered : Printer → Event → Memory
+remembered p e = p .memory
+
+abbrev pub printerAfter : Printer → Event → Printer
+printerAfter p e = record { shows = p .shows; memory = remembered p e }
+
+-- ---- the ending: `end`, or `refused` with the number and the place
+
+unfoldable pub endingText : Printer → Run → Ending → List ℕ
+endingText p run ended = endText (run .rt .tally)
+endingText p run (refused r place) = refusedText (numberOf r) place
+
+-- ---- a whole journal
+
+-- the texts of its events, one after the other, and the printer after them
+unfoldable pub printed : Printer → List Event → List ℕ
+printed p [] = []
+printed p (e ∷ es) = shownText p e ++ printed (printerAfter p e) es
+
+unfoldable pub printerAfterAll : Printer → List Event → Printer
+printerAfterAll p [] = p
+printerAfterAll p (e ∷ es) = printerAfterAll (printerAfter p e) es
+
+-- all that is printed for these events, of which the fuse is left so, and this ending
+unfoldable pub textFrom : Printer → List Event → Run → Ending → List ℕ
+textFrom p es run e = printed p es ++ endingText (printerAfterAll p es) run e
+
+-- the kinds of records that its program takes: those of the paper, for both
+unfoldable pub kindsTaken : Shows → List ℕ
+kindsTaken w = journalKinds
+
+-- what the bytes s mean to this printer's program
+abbrev pub meaningFor : Printer → List ℕ → Meaning
+meaningFor p s = journalOf (kindsTaken (p .shows)) s
+
+-- all that is printed for the journal s
+unfoldable pub textOf : Printer → List ℕ → List ℕ
+textOf p s = let m = meaningFor p s in textFrom p (m .events) (m .left .run) (m .ending)
+
+-- ---- in memory
+
+-- the bytes that the text of an event can have at most: the line of a tick, and the trace
+abbrev pub eventRoom : ℕ
+eventRoom = lineRoom + traceRoom
+
+-- those of the text of an ending
+abbrev pub endingRoom : ℕ
+endingRoom = 2 * lineRoom
+
+-- An event that is shown after the first n bytes of so much room: what is remembered after it and
+-- where its text ends, and the bytes then. Without room for an event nothing is put or remembered.
+unfoldable pub shownAt : ℕ → ℕ → Printer → Event → Shown
+shownAt room n p e = record {
+  memory = cond (hasRoom eventRoom n room) (remembered p e) (p .memory);
+  n = placeWith eventRoom room n (shownText p e);
+}
+
+unfoldable pub memoryAt : List ℕ → ℕ → Printer → Event → List ℕ
+memoryAt out n p e = memoryWith eventRoom out n (shownText p e)
+
+pub record ShownIn (p : Printer) (e : Event) (out : List ℕ) (n : ℕ) (r : Shown) (out' : List ℕ) : Type 0 where
+  pub answer : r ≡ shownAt (length out) n p e
+  pub memory : out' ≡ memoryAt out n p e
+
+-- the ending of a journal by the number of its refusal, 0 where there is none
+unfoldable pub endingBy : Printer → Run → ℕ → ℕ → List ℕ
+endingBy p run number place = cond (eqb number 0) (endText (run .rt .tally)) (refusedText number place)
+
+-- that text at the front of memory: how many bytes it has, and memory then; without room for an
+-- ending nothing is put
+pub record EndedIn (s : List ℕ) (out : List ℕ) (r : ℕ) (out' : List ℕ) : Type 0 where
+  pub bytes : r ≡ placeWith endingRoom (length out) 0 s
+  pub memory : out' ≡ memoryWith endingRoom out 0 s

@@ -1,0 +1,132 @@
+// What a program prints for a journal, put into lent memory. A printer is a value: what it shows,
+// and what it remembers from event to event. An event comes in its parts, by a function for each
+// kind, since no enum holds arrays.
+ghost use mathlib.Core.Path.{_≡_};
+ghost use Prim.Native.Nat.{_+_, _≤_};
+ghost use lib.ListN.{length};
+ghost use Rattle.journal.specs.Events as E;
+ghost use Rattle.text.specs.Memory.{Put};
+ghost use Rattle.printer.specs.Printer.{showsBy, printerBy, kindsTaken, atStart, tickShown, eventRoom, ShownIn, endingBy, EndedIn};
+use journal::tick::Run;
+use lictor_core::fuse::TickInput;
+use lictor_core::verdict::SafetyVerdict;
+use report::render::TRACE_ROOM;
+use report::render::show_tick;
+use report::render::show_trace;
+use text::LINE;
+use text::memory::has_room;
+use text::memory::put_line;
+
+// What is shown, by a number: a number goes through all calls as a constant, so that a program has
+// the code of its own printer alone.
+
+// Of a tick its line, as `fuse` prints it. Any number that is not listed means the same.
+pub const LINES: u8 = 0;
+
+// Its line, and then every field of the verdict, the run state and the tally.
+pub const TRACE: u8 = 1;
+
+// What a printer remembers from event to event: these two, nothing.
+pub struct Memory {}
+
+// What it remembers after an event, and where the event's text ends.
+pub struct Shown {
+    pub memory: Memory,
+    pub n: usize,
+}
+
+// The bytes that the text of an event can have at most: the line of a tick, and the trace.
+pub const EVENT_ROOM: usize = LINE + TRACE_ROOM;
+
+// Those of the text of an ending.
+pub const ENDING_ROOM: usize = 2 * LINE;
+
+// Before the first event.
+pub fn start() -> Memory
+    ensures { λ r. ⌜ r ≡ atStart ⌝ }
+{
+    Memory {}
+}
+
+// The kinds of records that the program of this printer takes.
+pub fn kinds_taken(shows: u8) -> [u16; 7]
+    ensures { λ r. ⌜ r ≡ kindsTaken (showsBy shows) ⌝ }
+{
+    journal_records::journal_kinds()
+}
+
+// ---- an event, whose text is put after the first n bytes; where fewer than EVENT_ROOM bytes are
+// left after n, nothing is put and the memory stays
+
+// Nothing is put, and the memory stays.
+fn unshown(memory: Memory, n: usize) -> Shown
+    ensures { λ r. ⌜ r ≡ record { memory = memory; n = n } ⌝ }
+{
+    Shown { memory, n }
+}
+
+// Settings.
+pub fn began(shows: u8, memory: Memory, run: Run, out: &mut [u8], n: usize) -> Shown
+    ensures { λ r. ⌜ ShownIn (printerBy shows memory) (E.began run) (now (out .entry)) n r (now (out .exit)) ⌝ }
+{
+    unshown(memory, n)
+}
+
+// A reset.
+pub fn restarted(shows: u8, memory: Memory, run: Run, out: &mut [u8], n: usize) -> Shown
+    ensures { λ r. ⌜ ShownIn (printerBy shows memory) (E.restarted run) (now (out .entry)) n r (now (out .exit)) ⌝ }
+{
+    unshown(memory, n)
+}
+
+fn put_ticked(shows: u8, verdict: SafetyVerdict, run: Run, out: &mut [u8], n: usize) -> usize
+    requires { ⌜ n + eventRoom ≤ length (now out) ⌝ }
+    ensures { λ r. ⌜ Put (now (out .entry)) n (tickShown (showsBy shows) verdict (run .rt)) r (now (out .exit)) ⌝ }
+{
+    let end = show_tick(verdict, out, n);
+    if shows == TRACE {
+        let rt = run.rt;
+        return show_trace(verdict, rt, out, end);
+    }
+    end
+}
+
+// A tick: its input and its positions as they came, the guard's bits, the verdict, the fuse after it.
+pub fn ticked(
+    shows: u8,
+    memory: Memory,
+    input: TickInput,
+    pos: &[f64],
+    guard: u32,
+    verdict: SafetyVerdict,
+    run: Run,
+    out: &mut [u8],
+    n: usize,
+) -> Shown
+    ensures { λ r. ⌜ ShownIn (printerBy shows memory) (E.ticked (record { input = input; pos = now (pos .entry); guard = guard; verdict = verdict; run = run })) (now (out .entry)) n r (now (out .exit)) ⌝ }
+{
+    if has_room(EVENT_ROOM, n, out.len()) {
+        let end = put_ticked(shows, verdict, run, out, n);
+        return Shown { memory, n: end };
+    }
+    unshown(memory, n)
+}
+
+// ---- the ending
+
+// Puts the text of a journal's ending, `refused` the number of its refusal or 0, to the front of
+// memory, and answers how many bytes it has. Where there are fewer than ENDING_ROOM bytes, it puts
+// nothing.
+pub fn ended(shows: u8, memory: Memory, run: Run, refused: u8, place: u64, out: &mut [u8]) -> usize
+    ensures { λ r. ⌜ EndedIn (endingBy (printerBy shows memory) run refused place) (now (out .entry)) r (now (out .exit)) ⌝ }
+{
+    if out.len() < ENDING_ROOM {
+        return 0;
+    }
+    if refused != 0 {
+        return put_line(out, 0, report::refused_line(refused, place));
+    }
+    let rt = run.rt;
+    let tally = rt.tally;
+    put_line(out, 0, report::end_line(tally))
+}
