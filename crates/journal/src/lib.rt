@@ -8,6 +8,7 @@ ghost use Rattle.journal.specs.Journal.{startRun};
 use crate::tick::Run;
 
 // Settings with this body: the fuse begins anew.
+// Which pattern a NaN has is the program's choice.
 pub fn begin(body: &[u8]) -> Run
     ensures { λ r. ⌜ r ≡ begunOf (settingsOf (now (body .entry))) ⌝ }
 {
@@ -18,6 +19,7 @@ pub fn begin(body: &[u8]) -> Run
 }
 
 // A reset.
+// Which pattern a NaN has is the program's choice.
 pub fn restart(run: Run) -> Run
     ensures { λ r. ⌜ r ≡ restartedOf run ⌝ }
 {
@@ -28,6 +30,7 @@ pub fn restart(run: Run) -> Run
 }
 
 // The fuse before the first byte.
+// Which pattern a NaN has is the program's choice.
 pub fn start() -> Run
     ensures { λ r. ⌜ r ≡ startRun ⌝ }
 {

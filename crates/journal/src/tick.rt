@@ -55,6 +55,7 @@ pub fn lent_positions(seen: Seen, lists: &[f64; PLACES]) -> &[f64]
 }
 
 // The tick that comes next, on all that was collected.
+// Which pattern a NaN has is the program's choice.
 pub fn tick(rd: Reader, run: Run, lists: &[f64; PLACES], inp: TickInput) -> Reported
     ensures { λ r. ⌜ r ≡ reportedOf run (broughtOf (record { reader = rd; lists = now (lists .entry) }) inp) ⌝ }
 {

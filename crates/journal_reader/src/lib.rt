@@ -284,6 +284,7 @@ fn take_stretch(
 
 // Takes all records up to the next that instructs the fuse, that is refused or that is not
 // there whole, and says what comes there. Which kinds there are is lent.
+// Which pattern a NaN has is the program's choice.
 pub fn read(kinds: &[u16], rd: Reader, lists: &mut [f64; PLACES], s: &[u8]) -> Progress
     ensures { λ r. ⌜ (r ≡ readOf (now (kinds .entry)) (record { reader = rd; lists = now (lists .entry) }) (now (s .entry))) × (now (lists .exit) ≡ listsRead (now (kinds .entry)) (record { reader = rd; lists = now (lists .entry) }) (now (s .entry))) ⌝ }
 {

@@ -117,6 +117,7 @@ pub fn input_of(w: Waiting, n: TickNumbers) -> TickInput
     }
 }
 
+// Which pattern a NaN has is the program's choice.
 pub fn with_outcome(rd: Reader, o: Outcome) -> Reader
     ensures { λ r. ⌜ r ≡ outcomeWaits rd o ⌝ }
 {
@@ -131,6 +132,7 @@ pub fn with_outcome(rd: Reader, o: Outcome) -> Reader
 }
 
 // The reader after settings.
+// Which pattern a NaN has is the program's choice.
 pub fn begun(rd: Reader) -> Reader
     ensures { λ r. ⌜ r ≡ settingsCame rd ⌝ }
 {
@@ -143,6 +145,7 @@ pub fn begun(rd: Reader) -> Reader
 }
 
 // The reader after a reset or a tick: nothing waits.
+// Which pattern a NaN has is the program's choice.
 pub fn emptied(rd: Reader) -> Reader
     ensures { λ r. ⌜ r ≡ State·emptied rd ⌝ }
 {
@@ -158,6 +161,7 @@ pub fn emptied(rd: Reader) -> Reader
 }
 
 // The reader before the first byte.
+// Which pattern a NaN has is the program's choice.
 pub fn start() -> Reader
     ensures { λ r. ⌜ r ≡ startReader ⌝ }
 {

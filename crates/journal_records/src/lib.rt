@@ -98,6 +98,7 @@ fn read_tick(b: &[u8]) -> TickNumbers
 }
 
 // The record of a kind, from its body.
+// Which pattern a NaN has is the program's choice.
 pub fn decode(k: u8, b: &[u8]) -> Record
     ensures { λ r. ⌜ r ≡ decodeOf k (now (b .entry)) ⌝ }
 {

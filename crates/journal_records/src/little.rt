@@ -93,6 +93,7 @@ pub fn le64(bytes: &[u8], at: usize) -> u64
     le_eight(bytes, at)
 }
 
+// Which pattern a NaN has is the program's choice.
 pub fn f64_at(bytes: &[u8], at: usize) -> f64
     ensures { λ r. ⌜ r ≡ floatAt (now (bytes .entry)) at ⌝ }
 {

@@ -69,6 +69,7 @@ fn read_calibration(body: &[u8]) -> Calibration
 }
 
 // The body of SETTINGS.
+// Which pattern a NaN has is the program's choice.
 pub fn read_settings(body: &[u8]) -> lictor_core::envelope::Settings
     ensures { λ r. ⌜ r ≡ settingsOf (now (body .entry)) ⌝ }
 {
@@ -111,6 +112,7 @@ fn read_scores(body: &[u8]) -> Scores
 }
 
 // The body of an OUTCOME.
+// Which pattern a NaN has is the program's choice.
 pub fn read_outcome(body: &[u8]) -> lictor_core::outcome::Outcome
     ensures { λ r. ⌜ r ≡ outcomeOf (now (body .entry)) ⌝ }
 {

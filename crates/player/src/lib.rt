@@ -177,6 +177,7 @@ fn goes_on(more: bool, n: usize, room: usize) -> bool
 
 // Plays the records at the front of s as long as there is room for the text of one more event, and
 // puts the text of their events to the front of `out`. Where `out` has no room, it does nothing.
+// Which pattern a NaN has is the program's choice.
 pub fn feed(
     kinds: &[u16],
     shows: u8,
