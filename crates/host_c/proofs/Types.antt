@@ -15,7 +15,7 @@ use Rattle.lent.proofs.Data.{Data, Copied, struct, copied, vals}
 use Rattle.lictor_settings.specs.Settings.{checkOf, checkNumber}
 use Rattle.lictor_fuse.specs.Tick.{isAccepted}
 use Rattle.host_layout.specs.Input.{settingsIn}
-use Rattle.host_c.specs.Call.{refusalOf, answerOf}
+use Rattle.host_c.specs.Call.{refusalOut, answerOf}
 use Rattle.host_layout.proofs.state.RunState as St
 use Rattle.host_layout.proofs.state.RunState.Laws as St′
 use Rattle.host_layout.proofs.input.Settings as Se
@@ -84,12 +84,12 @@ libChecked = struct Ch.the-type Ch′.the-laws Ch′.the-plain
 abbrev pub turning : Turning libSettings libAnswer libChecked
 turning = record {
   νY = Ch.the-type .name;
-  turn = λ s. refusalOf (checkOf (settingsIn s));
+  turn = λ s. refusalOut (checkOf (settingsIn s));
   tn = λ s. vint w8 (checkNumber (checkOf (settingsIn s)));
-  answer = λ s. refusalOf (checkOf (settingsIn s)) .answer;
+  answer = λ s. refusalOut (checkOf (settingsIn s)) .answer;
   Y-ty = refl;
   turn-val = λ s. refl;
-  answer-of = λ s is. LL.owed Ch.the-type Ch′.the-laws (refusalOf (checkOf (settingsIn s))) (vals libChecked (refusalOf (checkOf (settingsIn s)))) is .1 .0;
+  answer-of = λ s is. LL.owed Ch.the-type Ch′.the-laws (refusalOut (checkOf (settingsIn s))) (vals libChecked (refusalOut (checkOf (settingsIn s)))) is .1 .0;
   is-other = λ s. not (isAccepted (checkOf (settingsIn s)));
   may = λ s. tt;
   tests = λ s. refl;

@@ -23,8 +23,8 @@ use Rattle.host_layout.specs.State.{stateIn, stateOut}
 use Rattle.host_layout.specs.Verdict.{verdictOut}
 
 -- what the test of the settings gives: its number, and the answer of a refused call, which has no verdict
-abbrev pub refusalOf : SettingsCheck → Checked
-refusalOf c = record { number = checkNumber c; answer = record { number = checkNumber c; verdict = verdictOut noVerdict } }
+abbrev pub refusalOut : SettingsCheck → Checked
+refusalOut c = record { number = checkNumber c; answer = record { number = checkNumber c; verdict = verdictOut noVerdict } }
 
 -- what the fuse gives, as numbers
 unfoldable pub tickedOut : Ticked → Called

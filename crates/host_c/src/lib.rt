@@ -9,7 +9,7 @@ ghost use Rattle.fmath.specs.Root.{rootOf};
 ghost use Rattle.lictor_core.specs.Initial.{newOf};
 ghost use Rattle.lictor_settings.specs.Settings.{checkOf, checkNumber};
 ghost use Rattle.lictor_fuse.specs.Tick.{acceptedTick, givenOf, isAccepted, noVerdict};
-ghost use Rattle.host_c.specs.Call.{refusalOf, tickedOut, calledOf, answerOf, resetRun};
+ghost use Rattle.host_c.specs.Call.{refusalOut, tickedOut, calledOf, answerOf, resetRun};
 ghost use Rattle.host_layout.specs.Input.{settingsIn, inputIn, outcomeIn};
 ghost use Rattle.host_layout.specs.State.{stateIn, stateOut};
 ghost use Rattle.host_layout.specs.Verdict.{verdictOut};
@@ -52,7 +52,7 @@ struct Checked {
 }
 
 fn refusal(s: Settings) -> Checked
-    ensures { λ r. ⌜ r ≡ refusalOf (checkOf (settingsIn s)) ⌝ }
+    ensures { λ r. ⌜ r ≡ refusalOut (checkOf (settingsIn s)) ⌝ }
 {
     let g = settings_in(s);
     let c = check(g);

@@ -10,7 +10,7 @@ use lib.Dec.{eqb, ltb}
 use Rattle.text.specs.declared.Line.{Line}
 use Rattle.text.specs.Line.{lineOf, pushOf}
 use Rattle.trace_text.specs.declared.rows.Value.{Value}
-use Rattle.trace_text.specs.Row.{valueText, ended, row}
+use Rattle.trace_text.specs.Row.{valueText, newlineAfter, row}
 use Rattle.trace_text.proofs.RowsLaws.{is-row}
 
 -- k is none of these numbers; the one that was tried last comes first
@@ -58,5 +58,5 @@ pub valued : (name : List ℕ) {x y : Value} → x ≡ y → row name (valueText
 valued name e = ap (λ (z : Value). row name (valueText z)) e
 
 -- a list after the name of line k, where k is n
-pub list-row : (name : ℕ → List ℕ) (k n : ℕ) (l r : Line) (s : List ℕ) → k ≡ n → l ≡ lineOf (name k) → r ≡ pushOf l (ended s) → r ≡ lineOf (row (name n) s)
+pub list-row : (name : ℕ → List ℕ) (k n : ℕ) (l r : Line) (s : List ℕ) → k ≡ n → l ≡ lineOf (name k) → r ≡ pushOf l (newlineAfter s) → r ≡ lineOf (row (name n) s)
 list-row name k n l r s e p q = is-row l r (name n) s (p ∙ ap (λ (j : ℕ). lineOf (name j)) e) q

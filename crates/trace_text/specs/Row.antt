@@ -72,9 +72,9 @@ unfoldable pub nameOf : List ℕ → List ℕ → ℕ → List ℕ
 nameOf group words k = group ++ wordAt k words ++ ascii "="
 
 -- with a newline
-abbrev pub ended : List ℕ → List ℕ
-ended s = s ++ ascii "\n"
+abbrev pub newlineAfter : List ℕ → List ℕ
+newlineAfter s = s ++ ascii "\n"
 
 -- the name with its `=`, the value, a newline
 unfoldable pub row : List ℕ → List ℕ → List ℕ
-row name value = name ++ ended value
+row name value = name ++ newlineAfter value

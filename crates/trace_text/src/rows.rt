@@ -8,7 +8,7 @@ ghost use Rattle.text.specs.Line.{lineOf, pushOf};
 ghost use Rattle.text.specs.Commas.{numbersText, floatsText};
 ghost use Rattle.lictor_core.specs.Codes.{statusCode, sourceCode};
 ghost use Rattle.trace_text.specs.Words.{afterBlanks, upToBlank};
-ghost use Rattle.trace_text.specs.Row.{nameOf, ended, valueText, flagValue, stateValue, reasonValue, handoffValue, markValue, reasonMarkValue};
+ghost use Rattle.trace_text.specs.Row.{nameOf, newlineAfter, valueText, flagValue, stateValue, reasonValue, handoffValue, markValue, reasonMarkValue};
 ghost use Rattle.trace_text.specs.declared.rows.Value.the-variants.{Number, Float};
 use lictor_core::reason::ReasonCode;
 use lictor_core::reason::reason_code;
@@ -189,26 +189,26 @@ fn push_value(l: Line, v: Value) -> Line
 }
 
 pub fn with_value(l: Line, v: Value) -> Line
-    ensures { λ r. ⌜ r ≡ pushOf l (ended (valueText v)) ⌝ }
+    ensures { λ r. ⌜ r ≡ pushOf l (newlineAfter (valueText v)) ⌝ }
 {
     push(push_value(l, v), b"\n")
 }
 
 pub fn with_floats(l: Line, xs: &[f64]) -> Line
-    ensures { λ r. ⌜ r ≡ pushOf l (ended (floatsText (now (xs .entry)))) ⌝ }
+    ensures { λ r. ⌜ r ≡ pushOf l (newlineAfter (floatsText (now (xs .entry)))) ⌝ }
 {
     push(push_floats(l, xs), b"\n")
 }
 
 // Numbers of 32 and of 64 bits.
 pub fn with_counts(l: Line, xs: &[u32]) -> Line
-    ensures { λ r. ⌜ r ≡ pushOf l (ended (numbersText (now (xs .entry)))) ⌝ }
+    ensures { λ r. ⌜ r ≡ pushOf l (newlineAfter (numbersText (now (xs .entry)))) ⌝ }
 {
     push(push_counts(l, xs), b"\n")
 }
 
 pub fn with_numbers(l: Line, xs: &[u64]) -> Line
-    ensures { λ r. ⌜ r ≡ pushOf l (ended (numbersText (now (xs .entry)))) ⌝ }
+    ensures { λ r. ⌜ r ≡ pushOf l (newlineAfter (numbersText (now (xs .entry)))) ⌝ }
 {
     push(push_numbers(l, xs), b"\n")
 }
