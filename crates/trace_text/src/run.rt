@@ -49,10 +49,10 @@ pub(crate) fn run_line(at: usize, control: Control, motion: Motion, clock: Clock
     requires { ⌜ at < 25 ⌝ }
     ensures { λ r. ⌜ r ≡ lineOf (getD (runLines control motion clock) at []) ⌝ }
 {
-    let l = name_of(at);
+    let named = name_of(at);
     if at == 24 {
         let last_nonce = control.last_nonce;
-        return crate::rows::with_numbers(l, &last_nonce);
+        return crate::rows::with_numbers(named, &last_nonce);
     }
     let pos = motion.pos;
     let prev_pos = motion.prev_pos;
@@ -60,11 +60,11 @@ pub(crate) fn run_line(at: usize, control: Control, motion: Motion, clock: Clock
     let last_cmd = motion.last_cmd;
     let hold = control.hold;
     match at {
-        6 => crate::rows::with_floats(l, &pos),
-        7 => crate::rows::with_floats(l, &prev_pos),
-        8 => crate::rows::with_floats(l, &vel),
-        10 => crate::rows::with_floats(l, &last_cmd),
-        11 => crate::rows::with_floats(l, &hold),
-        _ => crate::rows::with_value(l, value_of(at, control, motion, clock)),
+        6 => crate::rows::with_floats(named, &pos),
+        7 => crate::rows::with_floats(named, &prev_pos),
+        8 => crate::rows::with_floats(named, &vel),
+        10 => crate::rows::with_floats(named, &last_cmd),
+        11 => crate::rows::with_floats(named, &hold),
+        _ => crate::rows::with_value(named, value_of(at, control, motion, clock)),
     }
 }

@@ -76,14 +76,14 @@ pub(crate) fn tally_line(at: usize, tally: Tally) -> Line
     requires { ⌜ at < 26 ⌝ }
     ensures { λ r. ⌜ r ≡ lineOf (getD (tallyLines tally) at []) ⌝ }
 {
-    let l = name_of(at);
+    let named = name_of(at);
     let trips = tally.trips_by_bit;
     let fired = tally.fired_by_feat;
     let max_z = tally.max_z;
     match at {
-        16 => crate::rows::with_counts(l, &trips),
-        17 => crate::rows::with_counts(l, &fired),
-        24 => crate::rows::with_floats(l, &max_z),
-        _ => crate::rows::with_value(l, value_of(at, tally)),
+        16 => crate::rows::with_counts(named, &trips),
+        17 => crate::rows::with_counts(named, &fired),
+        24 => crate::rows::with_floats(named, &max_z),
+        _ => crate::rows::with_value(named, value_of(at, tally)),
     }
 }

@@ -97,13 +97,13 @@ pub(crate) fn verdict_line(at: usize, verdict: SafetyVerdict) -> Line
     requires { ⌜ at < 23 ⌝ }
     ensures { λ r. ⌜ r ≡ lineOf (getD (verdictLines verdict) at []) ⌝ }
 {
-    let l = name_of(at);
+    let named = name_of(at);
     let action = verdict.action;
     let scores = verdict.scores;
     let z = scores.z;
     match at {
-        6 => crate::rows::with_floats(l, &action),
-        11 => crate::rows::with_floats(l, &z),
-        _ => crate::rows::with_value(l, value_of(at, verdict)),
+        6 => crate::rows::with_floats(named, &action),
+        11 => crate::rows::with_floats(named, &z),
+        _ => crate::rows::with_value(named, value_of(at, verdict)),
     }
 }
