@@ -31,7 +31,7 @@ use Rattle.lictor_fuse.specs.Closed.{closedOf}
 use Rattle.lictor_fuse.specs.Tick.{givenOf}
 use Rattle.claims.specs.Runs.{All, total, Step}
 use Rattle.claims.specs.Calls.{Call, Under, guardBits, tripsOf, bitsOf, ackAccepted, tookOf, TickSeen, seenOf, stepOf, ticksFrom}
-use Rattle.claims.specs.Demand3.{maxRearms, Sized, rearms, Stops, Faults, Acks, StopsClose}
+use Rattle.claims.specs.Demand3.{maxRearms, Sized, rearms, Stops, Faults, Acks, StopsCloseUnder}
 use Rattle.claims.proofs.Runs.{Run, Meets, runs}
 use Rattle.claims.proofs.Law.{Arm, ArmLaw, NonceLaw, stops-by, faults-by, rearms-by, acks-by}
 use Rattle.claims.proofs.Rows.{armIn, arm-law, floorIn, stored-law, still-eight}
@@ -180,7 +180,8 @@ acks-from r o cs = acks-by (nonce-runs r o cs)
 
 -- ---- the claim
 
-pub stops-close : StopsClose
+-- of settings whose limits their fields can hold, as those of the code are (stops_close)
+pub stops-close : (s : Settings) → Sized s → StopsCloseUnder s
 unfolding resetOf freshControl
 stops-close s z r cs u =
     record {

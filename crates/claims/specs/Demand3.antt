@@ -1,6 +1,7 @@
 -- Demand 3, stops close: one claim about every list of calls from a reset on
 -- (00-demands.md, Demand 3; 01-scope.md, The list in demand 3).
--- It is at the end of this file, and is proved in proofs/Demand3, `stops-close`.
+-- It is at the end of this file; `stops_close` promises it of every settings record that the code
+-- can hold (src/lib.rt), by `stops-close` in proofs/Demand3.
 -- Of other files it names: what is said of a list (Runs); a call, its settings, what is seen of its
 -- tick, the ticks of a list (Calls); the state that `reset` leaves (lictor_core, specs/Initial,
 -- resetOf).
@@ -39,7 +40,8 @@ maxRearms s = s .hyst .«max_rearms»
 
 -- Each limit is a number that its field can hold: a u16, a u16, a u32 and a u8 in the code
 -- (crates/lictor_core/src/envelope.rt, Hysteresis). A definition has whole numbers without bounds,
--- so it is said here; every record that the code holds meets it, as `sized` promises (src/lib.rt).
+-- so it is said here. The claim does not ask for it: every record that the code can hold meets it,
+-- as `stops_close` promises (src/lib.rt).
 pub record Sized (s : Settings) : Type 0 where
   pub brake : B s ≤ 65535
   pub hold : H s ≤ 65535
@@ -115,11 +117,8 @@ pub record Demand3 (s : Settings) (l : List TickSeen) : Type 0 where
   pub rearms : Rearms s l
   pub acks : Acks l
 
--- Of every list of calls that are under s or refused, from what a reset of any run state leaves.
+-- Of every list of calls that are under s or refused, from what a reset of any run state leaves:
+-- `stops_close` promises it of every s that the code can hold (src/lib.rt).
 -- (Where s itself does not pass the check, every call is refused: no tick.)
 abbrev pub StopsCloseUnder : Settings → Type 0
 StopsCloseUnder s = (r : FuseRt) (cs : List Call) → All (Under s) cs → Demand3 s (ticksFrom (resetOf r) cs)
-
--- For every settings record s. (`sized` promises it of every one that the code holds, src/lib.rt.)
-abbrev pub StopsClose : Type 0
-StopsClose = (s : Settings) → Sized s → StopsCloseUnder s

@@ -10,9 +10,9 @@ ghost use Rattle.claims.specs.Demand3.{Sized, StopsCloseUnder};
 use lictor_core::envelope::Settings;
 use lictor_core::fuse::TickInput;
 
-// Whatever settings the code holds, their limits have the sizes that demand 3 asks for,
-// and so demand 3 holds of every list of calls under them.
-pub fn sized(s: Settings) -> bool
+// Demand 3: whatever settings the code holds, each limit is a number that its counter can reach,
+// and stops close in every list of calls under them.
+pub fn stops_close(s: Settings) -> bool
     ensures { λ r. ⌜ (r ≡ true) × Sized s × StopsCloseUnder s ⌝ }
 {
     true

@@ -6,13 +6,14 @@ use Rattle.lictor_core.specs.declared.fuse.FuseRt.{FuseRt}
 use Rattle.claims.specs.Runs.{All}
 use Rattle.claims.specs.Calls.{Under, tickAnswer}
 use Rattle.claims.proofs.Demand3.{stops-close}
-use Rattle.lictor_core.specs.declared.envelope.Settings.{Settings}
+use Rattle.claims.specs.Demand3.{Sized}
+use Rattle.host_layout.specs.declared.input.Settings.{Settings}
 use Rattle.host_layout.specs.Input.{settingsIn}
 use Rattle.host_layout.specs.State.{stateIn, stateOut}
 use Rattle.host_c.specs.declared.Called.{Called}
 use Rattle.host_c.specs.Call.{tickedOut, resetRun}
 use Rattle.host_c.proofs.Stored.{tick-on-stored}
-use Rattle.host_claims.specs.HostRun.{HostCall, meant, answered, answeredFrom, answersFrom, HostRun, HostsStop}
+use Rattle.host_claims.specs.HostRun.{HostCall, meant, answered, answeredFrom, answersFrom, HostRun, HostStopsUnder}
 
 stored-run : (r : FuseRt) (hs : List HostCall) → answeredFrom (stateOut r) hs ≡ map tickedOut (answersFrom r (map meant hs))
 unfolding tickedOut
@@ -26,9 +27,10 @@ pub host-run : HostRun
 unfolding resetRun
 host-run rt hs = stored-run (resetOf (stateIn rt)) hs
 
-all-meant-under : (s : Settings) (hs : List HostCall) → All (λ h. Under s (meant h)) hs → All (Under s) (map meant hs)
+all-meant-under : (s : Settings) (hs : List HostCall) → All (λ h. Under (settingsIn s) (meant h)) hs → All (Under (settingsIn s)) (map meant hs)
 all-meant-under s [] u = tt
 all-meant-under s (h ∷ hs) u = (u .0, all-meant-under s hs (u .1))
 
-pub host-stops : HostsStop
-host-stops s z rt hs u = record { answers = host-run rt hs; stops = stops-close (settingsIn s) z (stateIn rt) (map meant hs) (all-meant-under (settingsIn s) hs u) }
+-- of settings whose limits their fields can hold, as those of a host are (stops_close)
+pub host-stops : (s : Settings) → Sized (settingsIn s) → HostStopsUnder s
+host-stops s z rt hs u = record { answers = host-run rt hs; stops = stops-close (settingsIn s) z (stateIn rt) (map meant hs) (all-meant-under s hs u) }

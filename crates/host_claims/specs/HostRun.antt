@@ -9,7 +9,7 @@ use Rattle.lictor_core.specs.declared.fuse.FuseRt.{FuseRt}
 use Rattle.lictor_fuse.specs.declared.Ticked.{Ticked}
 use Rattle.claims.specs.Runs.{All}
 use Rattle.claims.specs.Calls.{Call, Under, tickAnswer, ticksFrom}
-use Rattle.claims.specs.Demand3.{Sized, Demand3}
+use Rattle.claims.specs.Demand3.{Demand3}
 use Rattle.host_layout.specs.declared.input.Settings.{Settings}
 use Rattle.host_layout.specs.declared.input.Input.{Input}
 use Rattle.host_layout.specs.declared.input.Outcome.{Outcome}
@@ -76,8 +76,3 @@ pub record HostStops (s : Settings) (rt : RunState) (hs : List HostCall) : Type 
 abbrev pub HostStopsUnder : Settings → Type 0
 HostStopsUnder s =
     (rt : RunState) (hs : List HostCall) → All (λ h. Under (settingsIn s) (meant h)) hs → HostStops s rt hs
-
--- In a definition a settings record has whole numbers without bounds, so there the sizes of its
--- fields are asked; the types of the code have them.
-abbrev pub HostsStop : Type 0
-HostsStop = (s : Settings) → Sized (settingsIn s) → HostStopsUnder s

@@ -1,12 +1,30 @@
--- The definitions give every starred case: the table is computed from end to end.
-use mathlib.Core.Path.{_≡_, refl}
-use mathlib.Core.List.{map}
+-- The definitions give every starred case: the rows of the table are computed, but for the tenth.
+-- It starts after 65535 soft trips, too many to compute, and goes by their law (SoftTrips).
+use mathlib.Core.Path.{refl, ap, ap₂}
+use mathlib.Core.List.{List, [], _∷_, _++_, drop}
+use Prim.Native.Nat.{ℕ}
+use native.Mathlib.Omega.{arith}
+use lib.ListN.{take}
 use Rattle.starred.proofs.Opened.{tick-opened}
-use Rattle.starred.specs.Starred.{starred, rowLimits, rowAck, rowTickAt, rowTick, armed, braking, held, escalated, terminated, clampedOnce, clampedTwice, clampedThrice, clampedOften, bit, ending, endingNonce, clamping, acceptance, usualLimits, quickHandoff, quickEnd}
+use Rattle.starred.proofs.SoftTrips.{soft-trips, clamps-on}
+use Rattle.starred.specs.Starred.{AsWanted, starred, rowLimits, rowAck, rowTickAt, rowTick, armed, braking, held, escalated, terminated, clampedFor, bit, ending, endingNonce, clamping, acceptance, usualLimits, wideLimits, quickHandoff, quickEnd}
 
-pub given : map (λ c. c .gives) starred ≡ map (λ c. c .wanted) starred
+before-tenth : AsWanted (take 9 starred)
 unfolding
-    tick-opened rowLimits rowAck rowTickAt rowTick armed braking held escalated terminated clampedOnce
-    clampedTwice clampedThrice clampedOften bit ending endingNonce clamping acceptance usualLimits quickHandoff
-    quickEnd starred
-given = refl
+    tick-opened rowLimits rowAck rowTickAt rowTick armed braking held escalated terminated clampedFor
+    bit ending endingNonce clamping acceptance usualLimits quickHandoff quickEnd starred
+before-tenth = refl
+
+tenth : AsWanted (take 1 (drop 9 starred))
+unfolding wideLimits starred
+tenth = ap (λ (x : List ℕ). x ∷ []) (clamps-on 65535 5 5 5 65534 (clampedFor 65535 wideLimits) (soft-trips 65535 5 5 5 65534 (omega arith)) (omega arith))
+
+after-tenth : AsWanted (drop 10 starred)
+unfolding
+    tick-opened rowLimits rowAck rowTickAt rowTick armed braking held escalated terminated
+    ending usualLimits quickEnd starred
+after-tenth = refl
+
+pub given : AsWanted starred
+unfolding starred
+given = ap₂ _++_ before-tenth (ap₂ _++_ tenth after-tenth)

@@ -2,3 +2,4 @@
 pub mod ForAll
 pub mod Given
 pub mod Opened
+pub mod SoftTrips

@@ -1,2 +1,3 @@
 pub mod ForAll
+pub mod SoftTrips
 pub mod Starred

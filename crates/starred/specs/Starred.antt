@@ -4,8 +4,9 @@
 -- ticks after a reset leave. What the cases say of every run state is in specs/ForAll.
 -- A case of the paper brings no guard bit and no trip but those that it names.
 use mathlib.Core.Bool.{Bool, true, false, cond}
-use mathlib.Core.List.{List, [], _∷_}
-use Prim.Native.Nat.{ℕ}
+use mathlib.Core.List.{List, [], _∷_, map}
+use mathlib.Core.Path.{_≡_}
+use Prim.Native.Nat.{ℕ, zero, suc}
 use lib.Dec.{eqb}
 use lib.ListN.{getD}
 use lib.Ieee.{Float, nan, inf, binary64, ofBits, toBits}
@@ -24,7 +25,6 @@ use Rattle.lictor_core.specs.declared.fuse.FuseRt.{FuseRt}
 use Rattle.lictor_core.specs.Codes.{stateCode, reasonCode}
 use Rattle.lictor_core.specs.Initial.{zeroFloat, oneFloat, newOf, resetOf}
 use Rattle.samples.specs.Samples.{sampleSettings, sampleOutcome, sampleInput, sampleChunk}
-use Rattle.lictor_table.specs.Fields.{withClamps}
 use Rattle.lictor_table.specs.Helpers.{acceptedBy}
 use Rattle.lictor_fuse.specs.declared.Ticked.{Ticked}
 use Rattle.lictor_fuse.specs.Tick.{tickOf}
@@ -89,25 +89,10 @@ escalated limits = rowTick limits (held limits) 2 0 NoAck 0 .rt
 unfoldable pub terminated : Hysteresis → FuseRt
 terminated limits = rowTick limits (escalated limits) 3 0 NoAck 0 .rt
 
--- a soft trip at 0, and one at each t after it up to 2
-unfoldable pub clampedOnce : Hysteresis → FuseRt
-clampedOnce limits = rowTick limits armed 0 0 NoAck 1 .rt
-
-unfoldable pub clampedTwice : Hysteresis → FuseRt
-clampedTwice limits = rowTick limits (clampedOnce limits) 1 0 NoAck 1 .rt
-
-unfoldable pub clampedThrice : Hysteresis → FuseRt
-clampedThrice limits = rowTick limits (clampedTwice limits) 2 0 NoAck 1 .rt
-
--- The first of these with the count of clamps that 65535 such ticks leave, too many to compute:
--- a soft trip changes the count and the streak alone (`ForAll.clamps` has every count).
-unfoldable pub clampedOften : Hysteresis → FuseRt
-clampedOften limits = record {
-  control = withClamps 65535 (clampedOnce limits .control);
-  motion = clampedOnce limits .motion;
-  clock = clampedOnce limits .clock;
-  tally = clampedOnce limits .tally;
-}
+-- n soft trips, one at each t from 0 on (what they leave: specs/SoftTrips)
+unfoldable pub clampedFor : ℕ → Hysteresis → FuseRt
+clampedFor zero limits = armed
+clampedFor (suc n) limits = rowTick limits (clampedFor n limits) n 0 NoAck 1 .rt
 
 -- ---- what a row looks at
 
@@ -142,9 +127,13 @@ infix 70 _is_
 abbrev pub _is_ : List ℕ → List ℕ → Case
 _is_ g w = record { gives = g; wanted = w }
 
--- the limits of most rows; those with H 0, so that a held fuse hands over at once; with E 0 too
+-- the limits of most rows; those with the largest clamp limit; with H 0, so that a held fuse hands
+-- over at once; with E 0 too
 unfoldable pub usualLimits : Hysteresis
 usualLimits = rowLimits 2 5 5 5
+
+unfoldable pub wideLimits : Hysteresis
+wideLimits = rowLimits 65535 5 5 5
 
 unfoldable pub quickHandoff : Hysteresis
 quickHandoff = rowLimits 2 5 0 5
@@ -166,10 +155,10 @@ starred =
     ∷ endingNonce (rowTick quickHandoff (escalated quickHandoff) 3 0 (Given (rowAck Retune 3 1 1)) 0) is (6 ∷ 8 ∷ 26 ∷ 1 ∷ [])
     ∷ endingNonce (rowTick usualLimits (held usualLimits) 2 0 (Given (rowAck Retune 3 1 0)) 0) is (5 ∷ 5 ∷ 13 ∷ 0 ∷ [])
     -- a clamp at the clamp limit, and the tick after it
-    ∷ clamping (rowTick usualLimits (clampedTwice usualLimits) 2 0 NoAck 1) is (3 ∷ 3 ∷ 3 ∷ [])
-    ∷ ending (rowTick usualLimits (clampedThrice usualLimits) 3 0 NoAck 0) is (3 ∷ 4 ∷ 2048 ∷ 11 ∷ [])
+    ∷ clamping (rowTick usualLimits (clampedFor 2 usualLimits) 2 0 NoAck 1) is (3 ∷ 3 ∷ 3 ∷ [])
+    ∷ ending (rowTick usualLimits (clampedFor 3 usualLimits) 3 0 NoAck 0) is (3 ∷ 4 ∷ 2048 ∷ 11 ∷ [])
     -- the same with limit and count at the end of the counter
-    ∷ clamping (rowTick (rowLimits 65535 5 5 5) (clampedOften (rowLimits 65535 5 5 5)) 1 0 NoAck 1) is (3 ∷ 3 ∷ 65535 ∷ [])
+    ∷ clamping (rowTick wideLimits (clampedFor 65535 wideLimits) 65535 0 NoAck 1) is (3 ∷ 3 ∷ 65535 ∷ [])
     -- the brake limit 0, with the arm at a standstill
     ∷ ending (rowTick (rowLimits 2 0 5 5) (braking (rowLimits 2 0 5 5)) 1 0 NoAck 0) is (4 ∷ 7 ∷ 16384 ∷ 20 ∷ [])
     -- a watchdog fault after the end: found by the guard, and brought by the outcome
@@ -184,3 +173,9 @@ starred =
     ∷ marginText (marginOf (ofBits binary64 0x3fb0_0000_0000_0000)) is ascii "63"
     ∷ marginText (marginOf (ofBits binary64 0xbfb0_0000_0000_0000)) is ascii "-63"
     ∷ []
+
+-- ---- the claim
+
+-- Of each row of l the definitions give what is wanted: of `starred` it is proved in proofs/Given.
+abbrev pub AsWanted : List Case → Type 0
+AsWanted l = map (λ c. c .gives) l ≡ map (λ c. c .wanted) l

@@ -2,13 +2,13 @@ use mathlib.Core.Path.{refl}
 use native.Mathlib.Omega.{arith}
 use Rattle.claims.specs.Demand3.{Sized}
 use Rattle.claims.proofs.Demand3.{stops-close}
-use Rattle.claims.proofs.sized.Statement.{statement}
-use Rattle.claims.proofs.sized.Tie as tie
+use Rattle.claims.proofs.stops_close.Statement.{statement}
+use Rattle.claims.proofs.stops_close.Tie as tie
 
 returns : tie.Need-returns
 returns c =
     let z : Sized (c .args .s) = record { brake = omega arith; hold = omega arith; handoff = omega arith; rearms = omega arith } in
     (refl, z, stops-close (c .args .s) z)
 
-pub sized-spec : {M : Type 1} → statement M
-sized-spec = tie.close (tie.spec returns)
+pub stops-close-spec : {M : Type 1} → statement M
+stops-close-spec = tie.close (tie.spec returns)
