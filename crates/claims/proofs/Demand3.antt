@@ -31,7 +31,7 @@ use Rattle.lictor_fuse.specs.Closed.{closedOf}
 use Rattle.lictor_fuse.specs.Tick.{givenOf}
 use Rattle.claims.specs.Runs.{All, total, Step}
 use Rattle.claims.specs.Calls.{Call, Under, guardBits, tripsOf, bitsOf, ackAccepted, tookOf, TickSeen, seenOf, stepOf, ticksFrom}
-use Rattle.claims.specs.Demand3.{maxRearms, Sized, rearms, Stops, Faults, Acks, StopsCloseUnder}
+use Rattle.claims.specs.Demand3.{maxRearms, Sized, rearmsAlone, Stops, Faults, Acks, StopsCloseUnder}
 use Rattle.claims.proofs.Runs.{Run, Meets, runs}
 use Rattle.claims.proofs.Law.{Arm, ArmLaw, NonceLaw, stops-by, faults-by, rearms-by, acks-by}
 use Rattle.claims.proofs.Rows.{armIn, arm-law, floorIn, stored-law, still-eight}
@@ -171,7 +171,7 @@ module _ (s : Settings) (z : Sized s) (r : FuseRt) (cs : List Call) (u : All (Un
   faults-from = faults-by s (arm-runs s z r cs u)
 
   -- what is left of the limit
-  pub rearms-from : total rearms (ticksFrom r cs) ≤ maxRearms s - r .control .rearms
+  pub rearms-from : total rearmsAlone (ticksFrom r cs) ≤ maxRearms s - r .control .rearms
   rearms-from = rearms-by s (arm-runs s z r cs u)
 
 -- whatever the settings and the stored nonces are

@@ -8,7 +8,7 @@ use Rattle.lictor_core.specs.declared.envelope.Settings.{Settings}
 use Rattle.lictor_core.specs.declared.state.FuseState.the-variants.{Fault}
 use Rattle.claims.specs.Runs.{total}
 use Rattle.claims.specs.Calls.{TickSeen}
-use Rattle.claims.specs.Demand3.{begins, closes, endsIn, rearms, Consumes, limit, Stops, Faults, Acks}
+use Rattle.claims.specs.Demand3.{begins, closes, endsIn, rearmsAlone, Consumes, limit, Stops, Faults, Acks}
 use Rattle.claims.proofs.Runs.{Run, answered, latched, within, once}
 
 -- ---- the arm
@@ -24,7 +24,7 @@ pub record ArmLaw (s : Settings) (c : Arm) (x : TickSeen) (c′ : Arm) : Type 0 
   pub falls : 0 < c .left → T (not (closes x)) → (0 < c′ .left) × (c′ .left < c .left)
   pub latches : T (endsIn Fault x) → T (c′ .faulted)
   pub stays : T (c .faulted) → T (endsIn Fault x)
-  pub spends : rearms x + c′ .budget ≤ c .budget
+  pub spends : rearmsAlone x + c′ .budget ≤ c .budget
 
 closed-or : (b : Bool) {P : Type 0} → (T (not b) → P) → T b ⊎ P
 closed-or Bool.true f = inl tt
@@ -39,8 +39,8 @@ module _ (s : Settings) {c : Arm} {l : List TickSeen} (r : Run (ArmLaw s) c l) w
   pub faults-by : Faults l
   faults-by = latched (ArmLaw s) (λ c. T (c .faulted)) (λ x. T (endsIn Fault x)) (λ c x c′ h. h .stays) (λ c x c′ h. h .latches) r
 
-  pub rearms-by : total rearms l ≤ c .budget
-  rearms-by = within (ArmLaw s) (λ c. c .budget) rearms (λ c x c′ h. h .spends) r
+  pub rearms-by : total rearmsAlone l ≤ c .budget
+  rearms-by = within (ArmLaw s) (λ c. c .budget) rearmsAlone (λ c x c′ h. h .spends) r
 
 -- ---- the stored nonces, by slot: none falls, and one that is consumed lies above its slot's and is stored
 

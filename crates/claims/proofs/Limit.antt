@@ -42,7 +42,7 @@ use Rattle.lictor_fuse.specs.declared.decide.Decided.{Decided}
 use Rattle.lictor_fuse.specs.CleanTick.{readyOf, cleanClock, closeClean, cleanTick}
 use Rattle.lictor_fuse.specs.Closed.{closedOf}
 use Rattle.lictor_fuse.specs.Tick.{isAccepted, givenOf}
-use Rattle.claims.specs.Runs.{All, Some, here, later, First, Where, at, past, series, Step, silent, event, andThen, trace}
+use Rattle.claims.specs.Runs.{All, Some, here, later, First, Where, at, past, series, Step, silent, event, andThen, course}
 use Rattle.claims.specs.Demand3.{begins, closes, limit, StopsWithin}
 use Rattle.claims.specs.Calls.{TickSeen, Call, settingsPass, guardBits, stepOf, seenOf, ticksFrom}
 use Rattle.claims.specs.ClockEnd.{lastTime}
@@ -83,17 +83,17 @@ module _ {R A K : Type 0} (step : R → K → Step R A) (P : A → Type 0) where
 
   through : (I : ℕ → ℕ → R → Type 0) (call : ℕ → K) (ks : List K) (m top last : ℕ)
       → ((j i t : ℕ) (r : R) → t ≡ suc i → I j i r → j < top → Quiet (I (suc j) (suc i)) (step r (call t)))
-      → ((r : R) → I top last r → First P (suc m) (trace step r ks))
-      → (n j i t : ℕ) → j + n ≡ top → i + n ≡ last → t ≡ suc i → (r : R) → I j i r → First P (suc (n + m)) (trace step r (series call t n ++ ks))
+      → ((r : R) → I top last r → First P (suc m) (course step r ks))
+      → (n j i t : ℕ) → j + n ≡ top → i + n ≡ last → t ≡ suc i → (r : R) → I j i r → First P (suc (n + m)) (course step r (series call t n ++ ks))
   through I call ks m top last law after zero j i t p q u r h =
       let e : j ≡ top = omega arith in
       let d : i ≡ last = omega arith in
       let z : m ≡ 0 + m = omega arith in
-      subst (λ (k : ℕ). First P (suc k) (trace step r ks)) z (after r (subst₂ (λ (j i : ℕ). I j i r) e d h))
+      subst (λ (k : ℕ). First P (suc k) (course step r ks)) z (after r (subst₂ (λ (j i : ℕ). I j i r) e d h))
   through I call ks m top last law after (suc n) j i t p q u r h =
       let z : suc (n + m) ≡ suc n + m = omega arith in
-      subst (λ (k : ℕ). First P (suc k) (trace step r (call t ∷ (series call (suc t) n ++ ks)))) z
-      (one (I (suc j) (suc i)) (n + m) (step r (call t)) (λ r′. trace step r′ (series call (suc t) n ++ ks)) (law j i t r u h (omega arith))
+      subst (λ (k : ℕ). First P (suc k) (course step r (call t ∷ (series call (suc t) n ++ ks)))) z
+      (one (I (suc j) (suc i)) (n + m) (step r (call t)) (λ r′. course step r′ (series call (suc t) n ++ ks)) (law j i t r u h (omega arith))
       (λ r′ h′. through I call ks m top last law after n (suc j) (suc i) (suc t) (omega arith) (omega arith) (omega arith) r′ h′))
 
 -- ---- the state machine in Braking, with no fault bit

@@ -24,7 +24,7 @@ use Rattle.lictor_table.specs.Consumed.{takenIn}
 use Rattle.lictor_table.proofs.Lines.{by-test}
 use Rattle.lictor_table.proofs.Stops.{StopLaw, Fresh}
 use Rattle.claims.specs.Calls.{TickSeen}
-use Rattle.claims.specs.Demand3.{B, H, E, maxRearms, Sized, rearms, none?, Is, limit}
+use Rattle.claims.specs.Demand3.{B, H, E, maxRearms, Sized, rearmsAlone, none?, Is, limit}
 use Rattle.claims.proofs.Law.{Arm, ArmLaw, NonceLaw}
 
 ruleset tests = (arith, leb→le, nleb→lt, ltb→lt, eqb→eq)

@@ -5,7 +5,7 @@ use mathlib.Core.List.{List, [], _∷_, _++_}
 use Prim.Native.Nat.{ℕ, zero, suc, _+_, _≤_, _<_}
 use native.Mathlib.Omega.{arith}
 use lib.ListN.{length, take}
-use Rattle.claims.specs.Runs.{Each, All, Some, here, later, First, total, Step, silent, event, andThen, trace}
+use Rattle.claims.specs.Runs.{Each, All, Some, here, later, First, total, Step, silent, event, andThen, course}
 
 -- ---- `Each` speaks of every place where the list can be cut
 
@@ -41,7 +41,7 @@ module _ {S S′ A : Type 0} where
   mapRun M see f done = done
   mapRun M see f (next {c = c} {x = x} {c′ = c′} h r) = next (f c x c′ h) (mapRun M see f r)
 
--- ---- the trace of a machine is a run, if each call meets the law as seen from `view`
+-- ---- the course of a machine is a run, if each call meets the law as seen from `view`
 
 module _ {R A K S : Type 0} (step : R → K → Step R A) (view : R → S) (Ok : R → Type 0) (Fit : K → Type 0) (L : S → A → S → Type 0) where
   -- what is asked of one call: it keeps the invariant `Ok`, and either changes nothing that is seen or gives an event by the law
@@ -54,10 +54,10 @@ module _ {R A K S : Type 0} (step : R → K → Step R A) (view : R → S) (Ok :
   chain r (event x r′) k m f = next (m .1) (f r′ (m .0))
 
   pub runs : ((r : R) (k : K) → Ok r → Fit k → Meets r (step r k))
-      → (ks : List K) → All Fit ks → (r : R) → Ok r → Run L (view r) (trace step r ks)
+      → (ks : List K) → All Fit ks → (r : R) → Ok r → Run L (view r) (course step r ks)
   runs law [] fits r ok = done
   runs law (k ∷ ks) fits r ok =
-      chain r (step r k) (λ (r′ : R). trace step r′ ks) (law r k ok (fits .0)) (λ r′ ok′. runs law ks (fits .1) r′ ok′)
+      chain r (step r k) (λ (r′ : R). course step r′ ks) (law r k ok (fits .0)) (λ r′ ok′. runs law ks (fits .1) r′ ok′)
 
 -- ---- an answer within n steps: `left` is above zero while one is owed, and falls
 

@@ -20,7 +20,7 @@ use Rattle.lictor_table.specs.Helpers.{acceptedAck}
 use Rattle.lictor_table.specs.Consumed.{takenIn}
 use Rattle.lictor_fuse.specs.declared.Ticked.{Ticked}
 use Rattle.lictor_fuse.specs.Tick.{isAccepted, tickOf}
-use Rattle.claims.specs.Runs.{Step, silent, event, trace}
+use Rattle.claims.specs.Runs.{Step, silent, event, course}
 
 -- ---- a call
 
@@ -114,4 +114,4 @@ leftBy r (c ∷ cs) = leftBy (tickAnswer r c .rt) cs
 
 -- the ticks of a list of calls, from the run state r
 abbrev pub ticksFrom : FuseRt → List Call → List TickSeen
-ticksFrom r cs = trace (stepOf seenOf) r cs
+ticksFrom r cs = course (stepOf seenOf) r cs

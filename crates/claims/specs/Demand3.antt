@@ -79,8 +79,8 @@ abbrev pub none? : MaybeAck → Bool
 none? ack = byAck ack true (λ a. false)
 
 -- the fuse rearms by itself in this tick: 1, or it does not: 0
-abbrev pub rearms : TickSeen → ℕ
-rearms x = cond (endsIn Armed x && (startsFrom Held x && none? (x .took))) 1 0
+abbrev pub rearmsAlone : TickSeen → ℕ
+rearmsAlone x = cond (endsIn Armed x && (startsFrom Held x && none? (x .took))) 1 0
 
 -- a sum of whole numbers, which no type cuts off
 abbrev pub limit : Settings → ℕ
@@ -103,7 +103,7 @@ Faults l = Each (λ x after. T (endsIn Fault x) → All (λ y. T (endsIn Fault y
 -- rearms: by itself the fuse rearms no more often than the settings say.
 -- Counted from the reset, since a Resume adds to the rearm count and does not clear it.
 abbrev pub Rearms : Settings → List TickSeen → Type 0
-Rearms s l = total rearms l ≤ maxRearms s
+Rearms s l = total rearmsAlone l ≤ maxRearms s
 
 -- acks: what is consumed once is not consumed again
 abbrev pub Acks : List TickSeen → Type 0

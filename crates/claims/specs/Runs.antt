@@ -57,6 +57,6 @@ module _ {R A : Type 0} where
 
 module _ {R A K : Type 0} (step : R → K → Step R A) where
   -- the events of a list of calls, each call on the state that the one before left
-  abbrev pub trace : R → List K → List A
-  trace r [] = []
-  trace r (k ∷ ks) = andThen (step r k) (λ (r′ : R). trace r′ ks)
+  abbrev pub course : R → List K → List A
+  course r [] = []
+  course r (k ∷ ks) = andThen (step r k) (λ (r′ : R). course r′ ks)

@@ -21,7 +21,7 @@ use Rattle.lictor_table.specs.declared.Turn.{Turn}
 use Rattle.lictor_tally.specs.History.{Item, tallyOf}
 use Rattle.lictor_tally.specs.Tally.{isNominal}
 use Rattle.lictor_fuse.specs.declared.Ticked.{Ticked}
-use Rattle.claims.specs.Runs.{total, trace}
+use Rattle.claims.specs.Runs.{total, course}
 use Rattle.claims.specs.Calls.{Call, guardBits, tripsOf, stepOf, leftBy}
 
 -- ---- what the tally takes in of a tick
@@ -51,10 +51,10 @@ verdictIn r c a = a .verdict
 
 -- what the tally took in, tick by tick, and the verdicts
 abbrev pub historyFrom : FuseRt → List Call → List Item
-historyFrom r cs = trace (stepOf itemOf) r cs
+historyFrom r cs = course (stepOf itemOf) r cs
 
 abbrev pub verdictsFrom : FuseRt → List Call → List SafetyVerdict
-verdictsFrom r cs = trace (stepOf verdictIn) r cs
+verdictsFrom r cs = course (stepOf verdictIn) r cs
 
 -- ---- the claim
 

@@ -25,7 +25,7 @@ use Rattle.lictor_core.specs.Masks.{nonfinite}
 use Rattle.samples.specs.Samples.{sampleUnder, sampleOutcome, sampleInput, numberedChunk}
 use Rattle.claims.specs.Runs.{All, Where, total}
 use Rattle.claims.specs.Calls.{Call, settingsPass, TickSeen, ticksFrom}
-use Rattle.claims.specs.Demand3.{maxRearms, Sized, endsIn, begins, none?, rearms}
+use Rattle.claims.specs.Demand3.{maxRearms, Sized, endsIn, begins, none?, rearmsAlone}
 
 -- Auto, two rearms, at once where a chunk comes; standstill is confirmed by one tick; B, H and E 5
 abbrev pub storySettings : Settings
@@ -110,7 +110,7 @@ pub record Witness (l : List TickSeen) : Type 0 where
   -- stops: four begin
   pub stops : total (λ x. cond (begins x) 1 0) l ≡ 4
   -- rearms: as many as the settings allow
-  pub rearms : total rearms l ≡ maxRearms storySettings
+  pub rearms : total rearmsAlone l ≡ maxRearms storySettings
   -- acks: one comes twice and is consumed once
   pub acks : (total brings story ≡ 2) × (total consumes l ≡ 1)
   -- faults: a tick ends in Fault, and one comes after it

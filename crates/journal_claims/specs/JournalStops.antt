@@ -13,7 +13,7 @@ use Rattle.lictor_core.specs.declared.fuse.FuseRt.{FuseRt}
 use Rattle.lictor_settings.specs.declared.SettingsCheck.the-variants.{Accepted}
 use Rattle.lictor_settings.specs.Settings.{checkOf, configOf}
 use Rattle.lictor_fuse.specs.declared.Ticked.{Ticked}
-use Rattle.claims.specs.Runs.{All, trace}
+use Rattle.claims.specs.Runs.{All, course}
 use Rattle.claims.specs.Calls as C
 use Rattle.claims.specs.Calls.{guardBits, stepOf, ticksFrom}
 use Rattle.claims.specs.Demand3.{Sized, Demand3}
@@ -99,7 +99,7 @@ reportIn r c a =
 
 -- the events of a list of calls, in order (ticksFrom has the same ticks by what is seen of each)
 abbrev pub reportsFrom : FuseRt → List C.Call → List Event
-reportsFrom r cs = trace (stepOf reportIn) r cs
+reportsFrom r cs = course (stepOf reportIn) r cs
 
 pub record EpisodeStops (kinds s : List ℕ) (w : Settings) (e : Episode) : Type 0 where
   -- the journal's events: in the episode's place are that of the opening and the answers of `tick`
