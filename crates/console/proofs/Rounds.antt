@@ -18,6 +18,7 @@ use Rattle.journal_reader.proofs.Reading.{machine, waits-short}
 use Rattle.channels.specs.declared.intake.Reads.{Reads}
 use Rattle.channels.specs.declared.outlet.Written.{Written}
 use Rattle.channels.specs.Intake.{movedDown, mostReads, mayCome, Came}
+use Rattle.printer.specs.declared.Channel.the-variants.{Output}
 use Rattle.printer.specs.Printer.{Shows, eventRoom, printed, printerAfterAll}
 use Rattle.player.specs.declared.Played.{Played}
 use Rattle.player.specs.Play.{playingFrom, textBy, numberAt, Rests, Fed}
@@ -25,7 +26,7 @@ use Rattle.player.proofs.Following.{Followed, followed}
 use Rattle.console.specs.declared.Phase.the-variants.{Plays, Waits}
 use Rattle.console.specs.declared.Round.{Round}
 use Rattle.console.specs.Phases.{isUnwritten, phaseRead}
-use Rattle.console.specs.Console.{bufferRoom, readerIn, printerIn, atHand, KnownIn, Fits, Sound, roundPlayed, PlayedRound, roundRead, ReadRound, Rounded}
+use Rattle.console.specs.Console.{bufferRoom, readerIn, printerIn, atHand, KnownIn, Fits, Sound, HandedOn, roundPlayed, PlayedRound, roundRead, ReadRound, Rounded}
 use Rattle.console.proofs.Phases.{wrote-played, stops-played, less-played, wrote-read, stops-read, most-read, few-read, less-read}
 
 -- ---- memory
@@ -83,7 +84,7 @@ more-bytes kinds st s told st' s' t e =
 module _ (kinds : List ℕ) (sh : Shows) (r : Round) (l : List Float) (b out : List ℕ) (f : Fits r b) (y : r .phase ≡ Plays) (room : eventRoom ≤ length out)
     (p : Played) (w : Written) (l' : List Float) (b' out' : List ℕ)
     (d : Fed kinds (playingFrom (printerIn sh r) (r .reader) (r .run) l) (atHand r b) out p l' out')
-    (k : w .bytes ≡ (r .written .bytes + p .n) % 2 ^ 64) (m : b' ≡ movedDown (p .at) (r .have) b) where
+    (k : HandedOn Output (r .written) (p .n) w) (m : b' ≡ movedDown (p .at) (r .have) b) where
   abbrev s : List ℕ
   s = atHand r b
 
@@ -115,9 +116,9 @@ module _ (kinds : List ℕ) (sh : Shows) (r : Round) (l : List Float) (b out : L
     printer-is = g .printer-is;
     count = (let c : r .place + p .at + (r .have - p .at) ≡ r .place + r .have + 0 = omega (arith, before) in c);
     brought = (let c : r .reads .bytes ≡ (r .reads .bytes + 0) % 2 ^ 64 = omega (arith, f .bytes) in c);
-    handed = k ∙ ap (λ (j : ℕ). (r .written .bytes + j) % 2 ^ 64) text-long;
+    handed = rw (sym text-long) k;
     sound = record {
-      fits = record { within = omega (arith, b-long, f .within); bytes = f .bytes; text = omega (arith, k); bound = omega (arith, f .bound, before); most = f .most };
+      fits = record { within = omega (arith, b-long, f .within); bytes = f .bytes; text = omega (arith, k .0); beside = omega (arith, k .1, f .beside); bound = omega (arith, f .bound, before); most = f .most };
       wrote = wrote-played (w .failed) (p .more) (p .refused);
       stops =
           subst (λ (u : List ℕ). KnownIn kinds (roundPlayed r p w .phase) (record { reader = p .reader; lists = l' }) u (p .refused) (r .reads)) (sym rest-is)
@@ -165,12 +166,13 @@ module _ (kinds : List ℕ) (short : ShortRecords kinds) (r : Round) (l : List F
           printer-is = refl;
           count = (let k : r .place + have ≡ r .place + r .have + length (c .came) = omega (arith, came-long) in k);
           brought = c .brought;
-          handed = (let k : r .written .bytes ≡ (r .written .bytes + 0) % 2 ^ 64 = omega (arith, v .fits .text) in k);
+          handed = (let k : r .written .bytes ≡ (r .written .bytes + 0) % 2 ^ 64 = omega (arith, v .fits .text) in (k, refl));
           sound = record {
             fits = record {
               within = c .within;
               bytes = omega (arith, c .brought);
               text = v .fits .text;
+              beside = v .fits .beside;
               bound = omega (arith, v .fits .bound, came-long, few-read (reads .last) (r .reads .made) (reads .made) (length (c .came)) (omega (arith, c .within, long, came-long)) (c .counted) none-long);
               most = m .0;
             };

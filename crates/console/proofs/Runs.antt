@@ -30,9 +30,11 @@ use Rattle.channels.specs.declared.intake.Supply.the-variants.{More, Over, Fail
 use Rattle.channels.specs.declared.outlet.Written.{Written}
 use Rattle.channels.specs.Intake.{mostReads}
 use Rattle.printer.specs.declared.Memory.{Memory}
-use Rattle.printer.specs.Printer.{Shows, Printer, atStart, kindsTaken, meaningFor, printed, printerAfterAll, endingText, textFrom, textOf, endingBy}
+use Rattle.printer.specs.declared.Channel.{Channel}
+use Rattle.printer.specs.declared.Channel.the-variants.{Output, Errors}
+use Rattle.printer.specs.Printer.{Shows, Printer, atStart, kindsTaken, meaningFor, printed, printerAfterAll, endingText, endingOn, sentTo, printedOn, textFrom, besideFrom, textOf, besideOf, endingBy, channelBy}
 use Rattle.printer.proofs.Parts.{after-append, text-append}
-use Rattle.printer.proofs.Rooms.{ended-by, refused-by}
+use Rattle.printer.proofs.Rooms.{ended-by, refused-by, ended-on, refused-on}
 use Rattle.text.specs.Memory.{Put}
 use Rattle.text.proofs.Puts.{put-shows}
 use Rattle.player.specs.Play.{textBy, numberAt, Rests}
@@ -42,13 +44,26 @@ use Rattle.console.specs.declared.Phase.the-variants.{Plays, Waits, Refu
 use Rattle.console.specs.declared.Round.{Round}
 use Rattle.console.specs.declared.Ended.{Ended}
 use Rattle.console.specs.Phases.{isGoing, isUnwritten, hasEnding, phaseEnded, numberLeft, numberEnded}
-use Rattle.console.specs.Console.{readerIn, printerIn, startingWith, atHand, KnownIn, Fits, Sound, Rounded, Past, Through, numberIn, endingIn, EndingPut, endedOf, Closed, endNumber, endPlace, Answers, Halts, Pauses, StartsWith, EndsBy, Ran}
+use Rattle.console.specs.Console.{readerIn, printerIn, startingWith, atHand, KnownIn, Fits, Sound, HandedOn, Rounded, Past, Through, numberIn, endingIn, EndingPut, endedOf, Closed, endNumber, endPlace, Answers, Halts, Pauses, StartsWith, EndsBy, Ran}
 use Rattle.console.proofs.Phases.{wrote-ended}
 use Rattle.console.proofs.Rounds.{more-bytes}
 
 -- a count of bytes, and that of more bytes
 counts-on : (n m : ℕ) (s t : List ℕ) → n ≡ length s % 2 ^ 64 → m ≡ (n + length t) % 2 ^ 64 → m ≡ length (s ++ t) % 2 ^ 64
 counts-on n m s t e f = omega (arith, e, f, length-append s t)
+
+-- the counts of both channels, where a text is handed over on one of them
+sent-counts : (c : Channel) (w w' : Written) (t u : List ℕ) → w .bytes ≡ length t % 2 ^ 64 → w .beside ≡ 0 → HandedOn c w (length u) w'
+    → (w' .bytes ≡ length (t ++ sentTo c u Output) % 2 ^ 64) × (w' .beside ≡ length (sentTo c u Errors) % 2 ^ 64)
+sent-counts Output w w' t u e z h = (counts-on (w .bytes) (w' .bytes) t u e (h .0), omega (arith, h .1, z))
+sent-counts Errors w w' t u e z h = (omega (arith, e, h .0, length-append t []), omega (arith, h .1, z))
+
+-- nothing is nothing on every channel
+sent-none : (c d : Channel) → sentTo c [] d ≡ []
+sent-none Output Output = refl
+sent-none Output Errors = refl
+sent-none Errors Output = refl
+sent-none Errors Errors = refl
 
 -- ---- round after round
 
@@ -57,22 +72,22 @@ abbrev first : Reader → Run → Memory → Reads → Written → Round
 first rd run m k w = record { reader = rd; run = run; memory = m; place = 0; have = 0; refused = 0; reads = k; written = w; phase = Plays }
 
 pub past-first : (kinds : List ℕ) (sh : Shows) (b : List ℕ) (rd : Reader) (run : Run) (m : Memory) (k : Reads) (w : Written) (l : List Float) → rd ≡ startReader → run ≡ startRun → m ≡ atStart
-    → k ≡ record { made = 0; bytes = 0; last = More } → w ≡ record { bytes = 0; failed = false } → l ≡ zeros places → Past kinds sh (first rd run m k w) l b
+    → k ≡ record { made = 0; bytes = 0; last = More } → w ≡ record { bytes = 0; beside = 0; failed = false } → l ≡ zeros places → Past kinds sh (first rd run m k w) l b
 unfolding startState textBy printed printerAfterAll
 past-first kinds sh b rd run m k w l e f n z h g =
-    rw (e, f, n, z, h, g) (record { past = []; told = []; goes = refl; run-is = refl; printer-is = refl; count = refl; brought = refl; handed = refl })
+    rw (e, f, n, z, h, g) (record { past = []; told = []; goes = refl; run-is = refl; printer-is = refl; count = refl; brought = refl; handed = refl; beside = refl })
 
-pub sound-first : (kinds b : List ℕ) (rd : Reader) (run : Run) (m : Memory) (l : List Float) {k : Reads} {w : Written} → k ≡ record { made = 0; bytes = 0; last = More } → w ≡ record { bytes = 0; failed = false }
+pub sound-first : (kinds b : List ℕ) (rd : Reader) (run : Run) (m : Memory) (l : List Float) {k : Reads} {w : Written} → k ≡ record { made = 0; bytes = 0; last = More } → w ≡ record { bytes = 0; beside = 0; failed = false }
     → Sound kinds (first rd run m k w) l b
 sound-first kinds b rd run m l z h = rw (z, h) (record {
-  fits = record { within = omega arith; bytes = omega arith; text = omega arith; bound = omega arith; most = omega arith };
+  fits = record { within = omega arith; bytes = omega arith; text = omega arith; beside = omega arith; bound = omega arith; most = omega arith };
   wrote = refl;
   stops = tt;
 })
 
 pub past-on : (kinds : List ℕ) (sh : Shows) (r : Round) (l : List Float) (b : List ℕ) (q : Round) (l' : List Float) (b' : List ℕ) → Past kinds sh r l b → Rounded kinds sh r l b q l' b' → Past kinds sh q l' b'
 past-on kinds sh r l b q l' b' c n =
-    let text = rw (c .printer-is, c .run-is) at (n .handed) in
+    let text = rw (c .printer-is, c .run-is) at (n .handed .0) in
     record {
       past = c .past ++ n .came;
       told = c .told ++ n .told;
@@ -91,6 +106,7 @@ past-on kinds sh r l b q l' b' c n =
       handed =
           rw (F.text-append (startingWith sh) startRun (c .told) (n .told))
           (counts-on (r .written .bytes) (q .written .bytes) (textBy (startingWith sh) startRun (c .told)) _ (c .handed) text);
+      beside = n .handed .1 ∙ c .beside;
     }
 
 -- ---- the end
@@ -100,6 +116,12 @@ ending-is : (p : Printer) (run : Run) (s : List ℕ) (e : Ending) → endingBy p
 unfolding endNumber endPlace
 ending-is p run s ended = ended-by p run (length s)
 ending-is p run s (refused r place) = refused-by p run place r
+
+-- and its channel
+channel-is : (w : Shows) (e : Ending) → channelBy w (endNumber e) ≡ endingOn w e
+unfolding endNumber
+channel-is w ended = ended-on w
+channel-is w (refused r place) = refused-on w r place
 
 module _ (sh : Shows) (r : Round) (l : List Float) (b : List ℕ) (t : Through (kindsTaken sh) sh r l b) where
   abbrev kinds : List ℕ
@@ -149,12 +171,26 @@ module _ (sh : Shows) (r : Round) (l : List Float) (b : List ℕ) (t : Through (
     unfolding endedOf
     answers x j n k = rw z (record { refused-is = rw j n; place-is = rw j k; run-is = rw j refl })
 
-    all-text : (x : Ending) → meaningFor p s ≡ meant x → numberIn r ≡ endNumber x → r .place ≡ endPlace s x → text ++ endingBy (printerIn sh r) (r .run) (numberIn r) (r .place) ≡ textOf p s
-    unfolding textOf textFrom textBy
-    all-text x j n k =
-        let ending : endingBy (printerIn sh r) (r .run) (numberIn r) (r .place) ≡ endingText (printerAfterAll p events) (r .run) x
+    abbrev channel : Channel
+    channel = channelBy sh (numberIn r)
+
+    abbrev last : List ℕ
+    last = endingBy (printerIn sh r) (r .run) (numberIn r) (r .place)
+
+    -- all that is printed, on each channel
+    all-on : (c : Channel) (x : Ending) → meaningFor p s ≡ meant x → numberIn r ≡ endNumber x → r .place ≡ endPlace s x
+        → (let m = meaningFor p s in sentTo Output text c ++ sentTo channel last c ≡ printedOn c p (m .events) (m .left .run) (m .ending))
+    unfolding textBy
+    all-on c x j n k =
+        let ending : last ≡ endingText (printerAfterAll p events) (r .run) x
         = ap₂ (endingBy (printerIn sh r) (r .run)) n k ∙ ending-is (printerIn sh r) (r .run) s x ∙ ap (λ (q : Printer). endingText q (r .run) x) (t .past .printer-is) in
-        ap (λ (u : List ℕ). printed p events ++ u) ending ∙ sym (ap (λ (m : Meaning). textFrom p (m .events) (m .left .run) (m .ending)) j)
+        let on : channel ≡ endingOn sh x = ap (channelBy sh) n ∙ channel-is sh x in
+        ap₂ (λ (d : Channel) (u : List ℕ). sentTo Output text c ++ sentTo d u c) on ending ∙ sym (ap (λ (m : Meaning). printedOn c p (m .events) (m .left .run) (m .ending)) j)
+
+    all-text : (x : Ending) → meaningFor p s ≡ meant x → numberIn r ≡ endNumber x → r .place ≡ endPlace s x
+        → (text ++ sentTo channel last Output ≡ textOf p s) × (sentTo channel last Errors ≡ besideOf p s)
+    unfolding textOf textFrom besideOf besideFrom
+    all-text x j n k = (all-on Output x j n k, all-on Errors x j n k)
 
     run-is : (x : Ending) → meaningFor p s ≡ meant x → e .run ≡ meaningFor p s .left .run
     unfolding endedOf
@@ -219,18 +255,22 @@ module _ (sh : Shows) (r : Round) (l : List Float) (b : List ℕ) (t : Through (
             (rw (k, ne-eqb (suc (length u)) 0 (λ o. omega (arith, o))) refl, refl)
 
     abbrev ending : Phase → List ℕ
-    ending x = cond (hasEnding x) (endingBy (printerIn sh r) (r .run) (numberIn r) (r .place)) []
+    ending x = cond (hasEnding x) last []
 
     number-by : (x : Phase) → r .phase ≡ x → numberIn r ≡ numberEnded x (r .refused) (r .have)
     number-by x y = ap (λ (u : Phase). numberEnded u (r .refused) (r .have)) y
 
     -- nothing is left of a whole text
-    whole : (u : List ℕ) → u ≡ textOf p s → StartsWith u (textOf p s)
-    whole u h = record { later = []; is = sym (append-nil u ∙ h) }
+    whole : (u v : List ℕ) → u ≡ v → StartsWith u v
+    whole u v h = record { later = []; is = sym (append-nil u ∙ h) }
+
+    -- what is over, where the text of x was handed over
+    abbrev EndsIn : Phase → Phase → Type 0
+    EndsIn x y = EndsBy p e s (text ++ sentTo channel (ending x) Output) (sentTo channel (ending x) Errors) y
 
     -- why it is over, by the phase before the ending, and whether a write failed
     ends-by : (x : Phase) → r .phase ≡ x → isGoing x ≡ false → KnownIn kinds x (readerIn r l) rest (r .refused) (r .reads) → (hasEnding x ≡ false → isUnwritten x ≡ false → w .failed ≡ false)
-        → (f : Bool) → w .failed ≡ f → EndsBy p e s (text ++ ending x) (phaseEnded x f)
+        → (f : Bool) → w .failed ≡ f → EndsIn x (phaseEnded x f)
     unfolding endedOf
     ends-by Plays y g h v f k = impossible cc
     ends-by Waits y g h v f k = impossible cc
@@ -238,48 +278,57 @@ module _ (sh : Shows) (r : Round) (l : List Float) (b : List ℕ) (t : Through (
         let j = settles (h .0 .end) (h .0 .rests) in
         let n = refused-ends (h .0 .end) (h .1) (h .0 .number-is) in
         let m = number-by Refused y in
-        by f k (all-text _ j (m ∙ n .0) (n .1), answers _ j (m ∙ n .0) (n .1), halts (h .0 .end) (h .0 .rests) (h .1) (h .0 .number-is))
+        let a = all-text _ j (m ∙ n .0) (n .1) in
+        by f k (a .0, a .1, answers _ j (m ∙ n .0) (n .1), halts (h .0 .end) (h .0 .rests) (h .1) (h .0 .number-is))
       where
-        by : (f : Bool) → w .failed ≡ f → (text ++ ending Refused ≡ textOf p s) × Answers p e s × Halts p s → EndsBy p e s (text ++ ending Refused) (phaseEnded Refused f)
-        by true k' q = whole _ (q .0)
+        by : (f : Bool) → w .failed ≡ f → EndsIn Refused Refused → EndsIn Refused (phaseEnded Refused f)
+        by true k' q = (whole _ _ (q .0), whole _ _ (q .1))
         by false k' q = q
     ends-by InputOver y g h v f k =
         let j = settles (h .0 .end) (h .0 .rests) in
         let n = over-ends (h .0 .end) (h .1) (h .0 .number-is) in
         let m = number-by InputOver y in
-        by f k (all-text _ j (m ∙ n .0) (n .1), answers _ j (m ∙ n .0) (n .1), rw z (h .2))
+        let a = all-text _ j (m ∙ n .0) (n .1) in
+        by f k (a .0, a .1, answers _ j (m ∙ n .0) (n .1), rw z (h .2))
       where
-        by : (f : Bool) → w .failed ≡ f → (text ++ ending InputOver ≡ textOf p s) × Answers p e s × (e .reads .last ≡ Over) → EndsBy p e s (text ++ ending InputOver) (phaseEnded InputOver f)
-        by true k' q = whole _ (q .0)
+        by : (f : Bool) → w .failed ≡ f → EndsIn InputOver InputOver → EndsIn InputOver (phaseEnded InputOver f)
+        by true k' q = (whole _ _ (q .0), whole _ _ (q .1))
         by false k' q = q
     ends-by ReadFailed y g h v true k = let o : true ≡ false = sym k ∙ v refl refl in impossible cc
     ends-by ReadFailed y g h v false k =
         let n = ap (λ (u : Ended). u .refused) z ∙ number-by ReadFailed y in
-        (events-text _ (settles (h .0 .end) (h .0 .rests)), pauses (h .0 .end) (h .0 .rests) (h .1) (h .0 .number-is) n, rw z (h .2))
+        rw (sent-none channel Output, sent-none channel Errors)
+        (events-text _ (settles (h .0 .end) (h .0 .rests)), refl, pauses (h .0 .end) (h .0 .rests) (h .1) (h .0 .number-is) n, rw z (h .2))
     ends-by ReadsOver y g h v true k = let o : true ≡ false = sym k ∙ v refl refl in impossible cc
     ends-by ReadsOver y g h v false k =
         let n = ap (λ (u : Ended). u .refused) z ∙ number-by ReadsOver y in
-        (events-text _ (settles (h .0 .end) (h .0 .rests)), pauses (h .0 .end) (h .0 .rests) (h .1) (h .0 .number-is) n, rw z (h .2))
-    ends-by WriteFailed y g h v true k = begins
-    ends-by WriteFailed y g h v false k = begins
+        rw (sent-none channel Output, sent-none channel Errors)
+        (events-text _ (settles (h .0 .end) (h .0 .rests)), refl, pauses (h .0 .end) (h .0 .rests) (h .1) (h .0 .number-is) n, rw z (h .2))
+    ends-by WriteFailed y g h v true k = rw (sent-none channel Output, sent-none channel Errors) (begins, record { later = besideOf p s; is = refl })
+    ends-by WriteFailed y g h v false k = rw (sent-none channel Output, sent-none channel Errors) (begins, record { later = besideOf p s; is = refl })
 
 -- ---- the text of the ending
 
+-- nothing more is handed over
+handed-none : (c : Channel) (w : Written) → w .bytes < 2 ^ 64 → w .beside < 2 ^ 64 → HandedOn c w 0 w
+handed-none Output w k m = (omega (arith, k), refl)
+handed-none Errors w k m = (refl, omega (arith, m))
+
 pub ending-put : (sh : Shows) (r : Round) (number : ℕ) (w : Written) (n : ℕ) (out out' : List ℕ) → hasEnding (r .phase) ≡ true
-    → Put out 0 (endingBy (printerIn sh r) (r .run) number (r .place)) n out' → w .bytes ≡ (r .written .bytes + n) % 2 ^ 64 → EndingPut sh r number w out'
-ending-put sh r number w n out out' h q k =
+    → Put out 0 (endingBy (printerIn sh r) (r .run) number (r .place)) n out' → (d : Channel) → d ≡ channelBy sh number → HandedOn d (r .written) n w → EndingPut sh r number w out'
+ending-put sh r number w n out out' h q d on k =
     let s = endingBy (printerIn sh r) (r .run) number (r .place) in
     let z : 0 + length s ≡ length s = omega arith in
     record {
       text = rw h (ap (λ (j : ℕ). take j out') (sym (q .ends ∙ z)) ∙ put-shows out 0 s n out' (omega arith) q);
-      handed = rw h (k ∙ ap (λ (j : ℕ). (r .written .bytes + j) % 2 ^ 64) (q .ends ∙ z));
+      handed = rw h (subst (λ (c : Channel). HandedOn c (r .written) (length s) w) on (subst (λ (j : ℕ). HandedOn d (r .written) j w) (q .ends ∙ z) k));
       none = λ y. let o : true ≡ false = sym h ∙ y in impossible cc;
     }
 
-pub ending-none : (sh : Shows) (r : Round) (number : ℕ) (out' : List ℕ) → hasEnding (r .phase) ≡ false → r .written .bytes < 2 ^ 64 → EndingPut sh r number (r .written) out'
-ending-none sh r number out' h k = record {
+pub ending-none : (sh : Shows) (r : Round) (number : ℕ) (out' : List ℕ) → hasEnding (r .phase) ≡ false → r .written .bytes < 2 ^ 64 → r .written .beside < 2 ^ 64 → EndingPut sh r number (r .written) out'
+ending-none sh r number out' h k m = record {
   text = rw h refl;
-  handed = rw h (let c : r .written .bytes ≡ (r .written .bytes + 0) % 2 ^ 64 = omega (arith, k) in c);
+  handed = rw h (handed-none (channelBy sh number) (r .written) k m);
   none = λ y. refl;
 }
 
@@ -290,16 +339,20 @@ unfolding endedOf
 ran sh r l b t e out' c =
     let w = e .written in
     let text = textBy (startingWith sh) startRun (t .past .told) in
+    let ending = sentTo (channelBy sh (numberIn r)) (endingIn sh r (numberIn r)) in
     let reads-are : e .reads ≡ r .reads = ap (λ (x : Ended). x .reads) (c .is) in
     let phase-is : e .phase ≡ phaseEnded (r .phase) (w .failed) = ap (λ (x : Ended). x .phase) (c .is) in
+    let counts = sent-counts (channelBy sh (numberIn r)) (r .written) w text (endingIn sh r (numberIn r)) (t .past .handed) (t .past .beside) (c .put .handed) in
     record {
       journal = t .past .past;
-      text = text ++ endingIn sh r (numberIn r);
+      text = text ++ ending Output;
+      beside = ending Errors;
       brought = rw reads-are (t .past .brought);
-      handed = counts-on (r .written .bytes) (w .bytes) text (endingIn sh r (numberIn r)) (t .past .handed) (c .put .handed);
+      handed = counts .0;
+      handed-beside = counts .1;
       wrote = wrote-ended (r .phase) (w .failed) (λ h. ap (λ (x : Written). x .failed) (c .put .none h) ∙ t .sound .wrote) ∙ sym (ap isUnwritten phase-is);
       ends =
-          subst (λ (x : Phase). EndsBy (startingWith sh) e (t .past .past) (text ++ endingIn sh r (numberIn r)) x) (sym phase-is)
+          subst (λ (x : Phase). EndsBy (startingWith sh) e (t .past .past) (text ++ ending Output) (ending Errors) x) (sym phase-is)
           (ends-by sh r l b t e w (c .is) (r .phase) refl (t .over) (t .sound .stops) (λ h u. ap (λ (x : Written). x .failed) (c .put .none h) ∙ t .sound .wrote ∙ u) (w .failed) refl);
     }
 

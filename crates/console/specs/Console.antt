@@ -1,6 +1,7 @@
 -- What a program that reads a journal in parts promises: how its answer, what it read and what it
--- handed over to be written hang together. The text is `textOf` of `printer` (01-scope.md, Journal,
--- the program `fuse`). The claim `Ran` is at the end of this file.
+-- handed over to be written hang together. The text is `textOf` of `printer` on standard output, and
+-- `besideOf` on standard error (01-scope.md, Journal, the program `fuse`). The claim `Ran` is at the
+-- end of this file.
 use mathlib.Core.Bool.{false, cond}
 use mathlib.Core.List.{List, [], _++_}
 use mathlib.Core.Path.{_≡_}
@@ -19,7 +20,9 @@ use Rattle.channels.specs.declared.intake.Supply.the-variants.{Over, Failed}
 use Rattle.channels.specs.declared.intake.Reads.{Reads}
 use Rattle.channels.specs.declared.outlet.Written.{Written}
 use Rattle.channels.specs.Intake.{movedDown, mostReads, Came}
-use Rattle.printer.specs.Printer.{Shows, Printer, atStart, printed, printerAfterAll, kindsTaken, meaningFor, textOf, endingBy}
+use Rattle.printer.specs.declared.Channel.{Channel}
+use Rattle.printer.specs.declared.Channel.the-variants.{Output, Errors}
+use Rattle.printer.specs.Printer.{Shows, Printer, atStart, printed, printerAfterAll, kindsTaken, meaningFor, textOf, besideOf, endingBy, channelBy}
 use Rattle.player.specs.declared.Played.{Played}
 use Rattle.player.specs.Play.{playingFrom, textBy, Rests, Fed}
 use Rattle.console.specs.declared.Phase.{Phase}
@@ -60,6 +63,7 @@ pub record Fits (r : Round) (b : List ℕ) : Type 0 where
   pub within : r .have ≤ length b
   pub bytes : r .reads .bytes < 2 ^ 64
   pub text : r .written .bytes < 2 ^ 64
+  pub beside : r .written .beside < 2 ^ 64
   pub bound : r .place + r .have ≤ r .reads .made * bufferRoom
   pub most : r .reads .made ≤ mostReads
 
@@ -68,6 +72,11 @@ pub record Sound (kinds : List ℕ) (r : Round) (l : List Float) (b : List ℕ) 
   pub fits : Fits r b
   pub wrote : r .written .failed ≡ isUnwritten (r .phase)
   pub stops : KnownIn kinds (r .phase) (readerIn r l) (atHand r b) (r .refused) (r .reads)
+
+-- n bytes more were handed over on a channel, and none on the other
+abbrev pub HandedOn : Channel → Written → ℕ → Written → Type 0
+HandedOn Output w n r = (r .bytes ≡ (w .bytes + n) % 2 ^ 64) × (r .beside ≡ w .beside)
+HandedOn Errors w n r = (r .bytes ≡ w .bytes) × (r .beside ≡ (w .beside + n) % 2 ^ 64)
 
 -- a round that played
 unfoldable pub roundPlayed : Round → Played → Written → Round
@@ -87,7 +96,7 @@ pub record PlayedRound (kinds : List ℕ) (sh : Shows) (r : Round) (l : List Flo
   pub played : Played
   pub written : Written
   pub fed : Fed kinds (playingFrom (printerIn sh r) (r .reader) (r .run) l) (atHand r b) out played l' out'
-  pub handed : written .bytes ≡ (r .written .bytes + played .n) % 2 ^ 64
+  pub handed : HandedOn Output (r .written) (played .n) written
   pub moved : b' ≡ movedDown (played .at) (r .have) b
   pub is : q ≡ roundPlayed r played written
 
@@ -123,7 +132,7 @@ abbrev pub toDo : Round → ℕ
 toDo r = toDoBy (r .phase) (r .have) (r .reads .made)
 
 -- One round: the bytes `came` were read, and the instructions `told` were obeyed. As many bytes
--- were handed over as the text of their events has.
+-- were handed over to standard output as the text of their events has.
 pub record Rounded (kinds : List ℕ) (sh : Shows) (r : Round) (l : List Float) (b : List ℕ) (q : Round) (l' : List Float) (b' : List ℕ) : Type 0 where
   pub told : List Instruction
   pub came : List ℕ
@@ -132,7 +141,7 @@ pub record Rounded (kinds : List ℕ) (sh : Shows) (r : Round) (l : List Float) 
   pub printer-is : printerIn sh q ≡ printerAfterAll (printerIn sh r) (eventsFrom (r .run) told)
   pub count : q .place + q .have ≡ r .place + r .have + length came
   pub brought : q .reads .bytes ≡ (r .reads .bytes + length came) % 2 ^ 64
-  pub handed : q .written .bytes ≡ (r .written .bytes + length (textBy (printerIn sh r) (r .run) told)) % 2 ^ 64
+  pub handed : HandedOn Output (r .written) (length (textBy (printerIn sh r) (r .run) told)) (q .written)
   pub sound : Sound kinds q l' b'
   pub less : toDo q < toDo r
 
@@ -152,6 +161,7 @@ pub record Past (kinds : List ℕ) (sh : Shows) (r : Round) (l : List Float) (b 
   pub count : r .place + r .have ≡ length past
   pub brought : r .reads .bytes ≡ length past % 2 ^ 64
   pub handed : r .written .bytes ≡ length (textBy (startingWith sh) startRun told) % 2 ^ 64
+  pub beside : r .written .beside ≡ 0
 
 -- and no more rounds are made
 pub record Through (kinds : List ℕ) (sh : Shows) (r : Round) (l : List Float) (b : List ℕ) : Type 0 where
@@ -169,10 +179,10 @@ numberIn r = numberEnded (r .phase) (r .refused) (r .have)
 abbrev pub endingIn : Shows → Round → ℕ → List ℕ
 endingIn sh r number = cond (hasEnding (r .phase)) (endingBy (printerIn sh r) (r .run) number (r .place)) []
 
--- it is at the front of memory, and was handed over
+-- it is at the front of memory, and was handed over on its channel
 pub record EndingPut (sh : Shows) (r : Round) (number : ℕ) (w : Written) (out' : List ℕ) : Type 0 where
   pub text : (let s = endingIn sh r number in take (length s) out' ≡ s)
-  pub handed : w .bytes ≡ (r .written .bytes + length (endingIn sh r number)) % 2 ^ 64
+  pub handed : HandedOn (channelBy sh number) (r .written) (length (endingIn sh r number)) w
   pub none : hasEnding (r .phase) ≡ false → w ≡ r .written
 
 unfoldable pub endedOf : Round → Written → Ended
@@ -221,27 +231,31 @@ pub record StartsWith (t s : List ℕ) : Type 0 where
   pub later : List ℕ
   pub is : s ≡ t ++ later
 
--- Why it is over, where the bytes s came and the text t was handed over. At a refusal, which no
--- byte more would undo, and at the end of the input: all that is printed for the journal s, and the
--- answer says how it ends. Where a read failed, or no read was left: the text of its events, and
--- none of an ending. Where a write failed: the first part of its text.
-abbrev pub EndsBy : Printer → Ended → List ℕ → List ℕ → Phase → Type 0
-EndsBy p r s t Plays = ⊥
-EndsBy p r s t Waits = ⊥
-EndsBy p r s t Refused = (t ≡ textOf p s) × Answers p r s × Halts p s
-EndsBy p r s t InputOver = (t ≡ textOf p s) × Answers p r s × (r .reads .last ≡ Over)
-EndsBy p r s t ReadFailed = (t ≡ printed p (meaningFor p s .events)) × Pauses p r s × (r .reads .last ≡ Failed)
-EndsBy p r s t ReadsOver = (t ≡ printed p (meaningFor p s .events)) × Pauses p r s × (mostReads ≤ r .reads .made)
-EndsBy p r s t WriteFailed = StartsWith t (textOf p s)
+-- Why it is over, where the bytes s came, and the text t was handed over to standard output and u
+-- to standard error. At a refusal, which no byte more would undo, and at the end of the input: all
+-- that is printed for the journal s, and the answer says how it ends. Where a read failed, or no
+-- read was left: the text of its events, and none of an ending. Where a write failed: the first part
+-- of each text.
+abbrev pub EndsBy : Printer → Ended → List ℕ → List ℕ → List ℕ → Phase → Type 0
+EndsBy p r s t u Plays = ⊥
+EndsBy p r s t u Waits = ⊥
+EndsBy p r s t u Refused = (t ≡ textOf p s) × (u ≡ besideOf p s) × Answers p r s × Halts p s
+EndsBy p r s t u InputOver = (t ≡ textOf p s) × (u ≡ besideOf p s) × Answers p r s × (r .reads .last ≡ Over)
+EndsBy p r s t u ReadFailed = (t ≡ printed p (meaningFor p s .events)) × (u ≡ []) × Pauses p r s × (r .reads .last ≡ Failed)
+EndsBy p r s t u ReadsOver = (t ≡ printed p (meaningFor p s .events)) × (u ≡ []) × Pauses p r s × (mostReads ≤ r .reads .made)
+EndsBy p r s t u WriteFailed = StartsWith t (textOf p s) × StartsWith u (besideOf p s)
 
--- The bytes `journal` came, as many as the reads brought, and the text `text` was handed over, as
--- many bytes as were counted; a write failed exactly where the phase says so. The proof takes for
+-- The bytes `journal` came, as many as the reads brought; the text `text` was handed over to
+-- standard output and `beside` to standard error, as many bytes as were counted; a write failed
+-- exactly where the phase says so. What is said of a failure is in neither. The proof takes for
 -- `journal` what the reads brought; the promise cannot name it, since the operating system's read
 -- promises nothing of its bytes, nor its write of what is written.
 pub record Ran (p : Printer) (r : Ended) : Type 0 where
   pub journal : List ℕ
   pub text : List ℕ
+  pub beside : List ℕ
   pub brought : r .reads .bytes ≡ length journal % 2 ^ 64
   pub handed : r .written .bytes ≡ length text % 2 ^ 64
+  pub handed-beside : r .written .beside ≡ length beside % 2 ^ 64
   pub wrote : r .written .failed ≡ isUnwritten (r .phase)
-  pub ends : EndsBy p r journal text (r .phase)
+  pub ends : EndsBy p r journal text beside (r .phase)

@@ -1,15 +1,16 @@
 // Plays a journal from standard input to its end or its first refusal, in constant memory, and
-// writes the text of its events and of its ending.
+// writes the text of its events and of its ending, each on its channel.
 ghost use mathlib.Core.Bool.{true, false};
 ghost use mathlib.Core.Path.{_≡_};
-ghost use Prim.Native.Nat.{_+_, _%_, _^_, _<_, _≤_};
+ghost use Prim.Native.Nat.{_^_, _<_, _≤_};
 ghost use lib.ListN.{length};
 ghost use Rattle.lictor_core.specs.Initial.{zeros};
 ghost use Rattle.journal_reader.specs.State.{places};
 ghost use Rattle.console.specs.Phases.{isGoing, isWaiting, hasEnding, phasePlayed, phaseRead, phaseEnded, numberLeft, numberEnded};
 ghost use Rattle.journal_frames.specs.Frames.{ShortRecords};
+ghost use Rattle.printer.specs.declared.Channel.the-variants as C;
 ghost use Rattle.printer.specs.Printer.{showsBy, printerBy, atStart, eventRoom, endingRoom};
-ghost use Rattle.console.specs.Console.{bufferRoom, Fits, Sound, PlayedRound, ReadRound, Rounded, Through, EndingPut, Closed, Ran};
+ghost use Rattle.console.specs.Console.{bufferRoom, Fits, Sound, HandedOn, PlayedRound, ReadRound, Rounded, Through, EndingPut, Closed, Ran};
 use channels::intake::Reads;
 use channels::intake::Supply;
 use channels::intake::last;
@@ -25,6 +26,7 @@ use journal::tick::Run;
 use journal_reader::waiting::PLACES;
 use journal_reader::waiting::Reader;
 use journal_refusals::Refusal;
+use printer::Channel;
 use printer::Memory;
 
 // ---- whether it goes on, or why not
@@ -144,10 +146,10 @@ struct Round {
     phase: Phase,
 }
 
-// Hands over the first n bytes.
+// Hands over the first n bytes to standard output.
 fn put_part(w: Written, out: &[u8], n: usize) -> Written
     requires { ⌜ n ≤ length (now out) ⌝ }
-    ensures { λ r. ⌜ r .bytes ≡ (w .bytes + n) % 2 ^ 64 ⌝ }
+    ensures { λ r. ⌜ HandedOn C.Output w n r ⌝ }
 {
     channels::outlet::put(w, &out[..n])
 }
@@ -318,28 +320,53 @@ fn number_ended(phase: Phase, refused: u8, have: usize) -> u8
     }
 }
 
-// Hands over the text of the ending, if there is one.
+// Hands over the first n bytes on a channel.
+fn put_on(channel: Channel, w: Written, out: &[u8], n: usize) -> Written
+    requires { ⌜ n ≤ length (now out) ⌝ }
+    ensures { λ r. ⌜ HandedOn channel w n r ⌝ }
+{
+    match channel {
+        Channel::Output => put_part(w, out, n),
+        Channel::Errors => channels::outlet::put_beside(w, &out[..n]),
+    }
+}
+
+// Hands over the text of the ending, if there is one, on its channel.
 fn put_ending(shows: u8, r: Round, refused: u8, out: &mut [u8]) -> Written
-    requires { ⌜ (endingRoom ≤ length (now out)) × (r .written .bytes < 2 ^ 64) ⌝ }
+    requires { ⌜ (endingRoom ≤ length (now out)) × (r .written .bytes < 2 ^ 64) × (r .written .beside < 2 ^ 64) ⌝ }
     ensures { λ w. ⌜ EndingPut (showsBy shows) r refused w (now (out .exit)) ⌝ }
 {
     let phase = r.phase;
     if has_ending(phase) {
         let n = printer::ended(shows, r.memory, r.run, refused, r.place, out);
-        return put_part(r.written, out, n);
+        let channel = printer::ending_on(shows, refused);
+        return put_on(channel, r.written, out, n);
     }
     let written = r.written;
     written
 }
 
-fn close(shows: u8, r: Round, out: &mut [u8]) -> Ended
-    requires { ⌜ (endingRoom ≤ length (now out)) × (r .written .bytes < 2 ^ 64) ⌝ }
+// Says on standard error what failed outside the journal; that is in no count.
+fn say_why(name: &[u8], phase: Phase, w: Written) -> Written
+    ensures { λ r. ⌜ r ≡ w ⌝ }
+{
+    match phase {
+        Phase::ReadFailed => say_failed(w, name, b": reading failed"),
+        Phase::ReadsOver => say(w, name, b": too many reads\n"),
+        Phase::WriteFailed => say_failed(w, name, b": writing failed"),
+        Phase::Plays | Phase::Waits | Phase::Refused | Phase::InputOver => w,
+    }
+}
+
+fn close(name: &[u8], shows: u8, r: Round, out: &mut [u8]) -> Ended
+    requires { ⌜ (endingRoom ≤ length (now out)) × (r .written .bytes < 2 ^ 64) × (r .written .beside < 2 ^ 64) ⌝ }
     ensures { λ e. ⌜ Closed (showsBy shows) r e (now (out .exit)) ⌝ }
 {
     let before = r.phase;
     let refused = number_ended(before, r.refused, r.have);
-    let written = put_ending(shows, r, refused, out);
-    let phase = phase_ended(before, has_failed(written));
+    let handed = put_ending(shows, r, refused, out);
+    let phase = phase_ended(before, has_failed(handed));
+    let written = say_why(name, phase, handed);
     let run = r.run;
     let reads = r.reads;
     Ended {
@@ -349,16 +376,6 @@ fn close(shows: u8, r: Round, out: &mut [u8]) -> Ended
         reads,
         written,
         phase,
-    }
-}
-
-// Says on standard error what failed outside the journal.
-fn say_why(name: &[u8], phase: Phase) {
-    match phase {
-        Phase::ReadFailed => say_failed(name, b": reading failed"),
-        Phase::ReadsOver => say(name, b": too many reads\n"),
-        Phase::WriteFailed => say_failed(name, b": writing failed"),
-        Phase::Plays | Phase::Waits | Phase::Refused | Phase::InputOver => {}
     }
 }
 
@@ -378,8 +395,5 @@ pub fn play(name: &[u8], shows: u8) -> Ended
     let mut buf = io::large_buffer();
     let mut out = io::large_buffer();
     let round = run_rounds(&kinds, shows, &mut lists, &mut buf, &mut out);
-    let ended = close(shows, round, &mut out);
-    let phase = ended.phase;
-    say_why(name, phase);
-    ended
+    close(name, shows, round, &mut out)
 }

@@ -23,8 +23,10 @@ use Rattle.trace_text.specs.Trace.{traceCount, traceText}
 use Rattle.report.specs.Lines.{tickText, endText, refusedText}
 use Rattle.report.specs.Text.{traceRoom, traceUpTo}
 use Rattle.report.proofs.Fits.{tick-fits, end-fits, refused-fits}
+use Rattle.printer.specs.declared.Channel.{Channel}
+use Rattle.printer.specs.declared.Channel.the-variants.{Output}
 use Rattle.printer.specs.declared.Shown.{Shown}
-use Rattle.printer.specs.Printer.{Shows, lines, trace, traceCode, showsBy, Printer, tickShown, shownText, remembered, endingText, endingBy, eventRoom, endingRoom, shownAt, memoryAt, ShownIn, EndedIn}
+use Rattle.printer.specs.Printer.{Shows, lines, trace, traceCode, showsBy, Printer, tickShown, shownText, remembered, endingText, endingOn, endingBy, channelBy, eventRoom, endingRoom, shownAt, memoryAt, ShownIn, EndedIn}
 
 -- ---- room
 
@@ -124,6 +126,26 @@ module _ (p : Printer) (run : Run) (place : ℕ) where
   pub refused-line-by : (number : ℕ) → (number ≡ 0 → ⊥) → refusedText number place ≡ endingBy p run number place
   unfolding endingBy
   refused-line-by number z = rw (ne-eqb number 0 z) refl
+
+-- ---- its channel by its number
+
+pub ended-on : (w : Shows) → channelBy w 0 ≡ endingOn w ended
+unfolding channelBy
+ended-on lines = refl
+ended-on trace = refl
+
+pub refused-on : (w : Shows) (r : Refusal) (place : ℕ) → channelBy w (numberOf r) ≡ endingOn w (refused r place)
+unfolding channelBy
+refused-on lines r place = refl
+refused-on trace r place = refl
+
+-- which is standard output, whatever is shown
+pub on-output : (w : Shows) (number : ℕ) → Output ≡ channelBy w number
+unfolding channelBy
+on-output lines number = refl
+on-output trace number = refl
+
+-- ---- an ending in memory
 
 -- a line at the front of memory, which is the text of an ending; without room nothing is there
 pub ending-put : (out : List ℕ) (l : Line) (s t : List ℕ) → endingRoom ≤ length out → l ≡ lineOf s → length s ≤ lineRoom → s ≡ t → (r : ℕ) (out' : List ℕ)

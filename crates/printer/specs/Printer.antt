@@ -1,5 +1,6 @@
 -- What a program prints for a journal (01-scope.md, Journal, the program `fuse`): a text for each
--- event and one for its ending. A printer may remember something from event to event.
+-- event and one for its ending. A printer may remember something from event to event. The text of
+-- events goes to standard output; that of an ending may go beside it, to standard error.
 use mathlib.Core.Bool.{cond}
 use mathlib.Core.List.{List, [], _∷_, _++_}
 use mathlib.Core.Path.{_≡_}
@@ -18,6 +19,8 @@ use Rattle.text.specs.Memory.{hasRoom, placeWith, memoryWith}
 use Rattle.trace_text.specs.Trace.{traceCount}
 use Rattle.report.specs.Lines.{tickText, endText, refusedText}
 use Rattle.report.specs.Text.{traceRoom, traceUpTo}
+use Rattle.printer.specs.declared.Channel.{Channel}
+use Rattle.printer.specs.declared.Channel.the-variants.{Output, Errors}
 use Rattle.printer.specs.declared.Memory.{Memory}
 use Rattle.printer.specs.declared.Shown.{Shown}
 
@@ -80,6 +83,11 @@ unfoldable pub endingText : Printer → Run → Ending → List ℕ
 endingText p run ended = endText (run .rt .tally)
 endingText p run (refused r place) = refusedText (numberOf r) place
 
+-- the channel that its text goes to: standard output, for both
+abbrev pub endingOn : Shows → Ending → Channel
+endingOn lines e = Output
+endingOn trace e = Output
+
 -- ---- a whole journal
 
 -- the texts of its events, one after the other, and the printer after them
@@ -91,9 +99,24 @@ unfoldable pub printerAfterAll : Printer → List Event → Printer
 printerAfterAll p [] = p
 printerAfterAll p (e ∷ es) = printerAfterAll (printerAfter p e) es
 
--- all that is printed for these events, of which the fuse is left so, and this ending
+-- of the text s, which goes to the first channel, what the second one has
+abbrev pub sentTo : Channel → List ℕ → Channel → List ℕ
+sentTo Output s Output = s
+sentTo Output s Errors = []
+sentTo Errors s Output = []
+sentTo Errors s Errors = s
+
+-- all that is printed on a channel for these events, of which the fuse is left so, and this ending
+abbrev pub printedOn : Channel → Printer → List Event → Run → Ending → List ℕ
+printedOn c p es run e = sentTo Output (printed p es) c ++ sentTo (endingOn (p .shows) e) (endingText (printerAfterAll p es) run e) c
+
+-- that on standard output
 unfoldable pub textFrom : Printer → List Event → Run → Ending → List ℕ
-textFrom p es run e = printed p es ++ endingText (printerAfterAll p es) run e
+textFrom = printedOn Output
+
+-- and that beside it, on standard error
+unfoldable pub besideFrom : Printer → List Event → Run → Ending → List ℕ
+besideFrom = printedOn Errors
 
 -- the kinds of records that its program takes: those of the paper, for both
 unfoldable pub kindsTaken : Shows → List ℕ
@@ -103,9 +126,17 @@ kindsTaken w = journalKinds
 abbrev pub meaningFor : Printer → List ℕ → Meaning
 meaningFor p s = journalOf (kindsTaken (p .shows)) s
 
--- all that is printed for the journal s
+-- all that is printed for the journal s, on standard output and on standard error
 unfoldable pub textOf : Printer → List ℕ → List ℕ
 textOf p s = let m = meaningFor p s in textFrom p (m .events) (m .left .run) (m .ending)
+
+unfoldable pub besideOf : Printer → List ℕ → List ℕ
+besideOf p s = let m = meaningFor p s in besideFrom p (m .events) (m .left .run) (m .ending)
+
+-- all of it goes to standard output
+pub record OnOutput (p : Printer) (s : List ℕ) : Type 0 where
+  pub text : (let m = meaningFor p s in textOf p s ≡ printed p (m .events) ++ endingText (printerAfterAll p (m .events)) (m .left .run) (m .ending))
+  pub beside : besideOf p s ≡ []
 
 -- ---- in memory
 
@@ -135,6 +166,11 @@ pub record ShownIn (p : Printer) (e : Event) (out : List ℕ) (n : ℕ) (r : Sho
 -- the ending of a journal by the number of its refusal, 0 where there is none
 unfoldable pub endingBy : Printer → Run → ℕ → ℕ → List ℕ
 endingBy p run number place = cond (eqb number 0) (endText (run .rt .tally)) (refusedText number place)
+
+-- and its channel
+unfoldable pub channelBy : Shows → ℕ → Channel
+channelBy lines number = Output
+channelBy trace number = Output
 
 -- that text at the front of memory: how many bytes it has, and memory then; without room for an
 -- ending nothing is put

@@ -6,7 +6,7 @@ ghost use Prim.Native.Nat.{_+_, _≤_};
 ghost use lib.ListN.{length};
 ghost use Rattle.journal.specs.Events as E;
 ghost use Rattle.text.specs.Memory.{Put};
-ghost use Rattle.printer.specs.Printer.{showsBy, printerBy, kindsTaken, atStart, tickShown, eventRoom, ShownIn, endingBy, EndedIn};
+ghost use Rattle.printer.specs.Printer.{showsBy, printerBy, kindsTaken, atStart, tickShown, eventRoom, ShownIn, endingBy, channelBy, EndedIn};
 use journal::tick::Run;
 use lictor_core::fuse::TickInput;
 use lictor_core::verdict::SafetyVerdict;
@@ -25,6 +25,12 @@ pub const LINES: u8 = 0;
 
 // Its line, and then every field of the verdict, the run state and the tally.
 pub const TRACE: u8 = 1;
+
+// Where text goes: to standard output, or beside it to standard error.
+pub enum Channel {
+    Output,
+    Errors,
+}
 
 // What a printer remembers from event to event: these two, nothing.
 pub struct Memory {}
@@ -113,6 +119,13 @@ pub fn ticked(
 }
 
 // ---- the ending
+
+// The channel that its text goes to; that of events goes to standard output.
+pub fn ending_on(shows: u8, refused: u8) -> Channel
+    ensures { λ r. ⌜ r ≡ channelBy (showsBy shows) refused ⌝ }
+{
+    Channel::Output
+}
 
 // Puts the text of a journal's ending, `refused` the number of its refusal or 0, to the front of
 // memory, and answers how many bytes it has. Where there are fewer than ENDING_ROOM bytes, it puts

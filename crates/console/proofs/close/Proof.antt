@@ -16,19 +16,33 @@ has-failed-requires c κs = search needs
 phase-ended-requires : tie.Need-phase-ended-requires
 phase-ended-requires c κs = search needs
 
+say-why-requires : tie.Need-say-why-requires
+say-why-requires c κs = search needs
+
 same-length : tie.Need-same-length
 same-length c = search needs
 
 returns : tie.Need-returns
 unfolding endedOf
 returns c =
-    let phased = c .before .before in
+    let said = c .before .before in
+    let phased = said .before in
     let asked = phased .before in
     let put = asked .before .before .before in
     let number = put .before .before .number-ended .ensures in
-    record { put = rw number at (put .put-ending .ensures); is = rw (number, phased .phase-ended .ensures, asked .has-failed .ensures) refl }
+    record {
+      put = rw (said .say-why .ensures) (rw number at (put .put-ending .ensures));
+      is = rw (number, said .say-why .ensures, phased .phase-ended .ensures, asked .has-failed .ensures) refl;
+    }
 
 pub close-spec : {M : Type 1} → statement M
 close-spec =
     tie.close
-    (tie.spec number-ended-requires put-ending-requires has-failed-requires phase-ended-requires same-length returns)
+    (tie.spec
+    number-ended-requires
+    put-ending-requires
+    has-failed-requires
+    phase-ended-requires
+    say-why-requires
+    same-length
+    returns)

@@ -40,14 +40,11 @@ slice-aggregate-close c = search needs
 close-requires : tie.Need-close-requires
 close-requires c κs =
     let through = c .before .before .before .run-rounds .ensures in
-    (omega arith, through .sound .fits .text)
-
-say-why-requires : tie.Need-say-why-requires
-say-why-requires c κs = search needs
+    (omega arith, through .sound .fits .text, through .sound .fits .beside)
 
 returns : tie.Need-returns
 returns c =
-    let closed = c .before .before in
+    let closed = c .before in
     let rounds = closed .before .before .before .before in
     let taken = rounds .before .before .before .before .before .before .before .before in
     ran-taking _ _ (taken .kinds-taken .ensures) _ _ _ (rounds .run-rounds .ensures) _ _ (closed .close .ensures)
@@ -66,5 +63,4 @@ play-spec =
     run-rounds-requires
     slice-aggregate-close
     close-requires
-    say-why-requires
     returns)

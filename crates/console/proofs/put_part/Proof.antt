@@ -14,7 +14,7 @@ put-requires c κs = search needs
 returns : tie.Need-returns
 returns c =
     let start = c .before .before .before in
-    c .put .ensures .0 ∙ ap (λ (j : ℕ). (start .args .w .bytes + j) % 2 ^ 64) (length-take-le _ _ (start .pre))
+    (c .put .ensures .0 ∙ ap (λ (j : ℕ). (start .args .w .bytes + j) % 2 ^ 64) (length-take-le _ _ (start .pre)), c .put .ensures .1 .0)
 
 pub put-part-spec : {M : Type 1} → statement M
 put-part-spec = tie.close (tie.spec slice-aggregate-put put-requires returns)
