@@ -19,14 +19,14 @@ use Rattle.channels.specs.declared.intake.Reads.{Reads}
 use Rattle.channels.specs.declared.outlet.Written.{Written}
 use Rattle.channels.specs.Intake.{movedDown, mostReads, mayCome, Came}
 use Rattle.printer.specs.declared.Channel.the-variants.{Output}
-use Rattle.printer.specs.Printer.{Shows, eventRoom, printed, printerAfterAll}
+use Rattle.printer.specs.Printer.{Shows, eventRoom, printed, printerAfterAll, showing}
 use Rattle.player.specs.declared.Played.{Played}
 use Rattle.player.specs.Play.{playingFrom, textBy, numberAt, Rests, Fed}
 use Rattle.player.proofs.Following.{Followed, followed}
 use Rattle.console.specs.declared.Phase.the-variants.{Plays, Waits}
 use Rattle.console.specs.declared.Round.{Round}
 use Rattle.console.specs.Phases.{isUnwritten, phaseRead}
-use Rattle.console.specs.Console.{bufferRoom, readerIn, printerIn, atHand, KnownIn, Fits, Sound, HandedOn, roundPlayed, PlayedRound, roundRead, ReadRound, Rounded}
+use Rattle.console.specs.Console.{bufferRoom, readerIn, atHand, KnownIn, Fits, Sound, HandedOn, roundPlayed, PlayedRound, roundRead, ReadRound, Rounded}
 use Rattle.console.proofs.Phases.{wrote-played, stops-played, less-played, wrote-read, stops-read, most-read, few-read, less-read}
 
 -- ---- memory
@@ -48,9 +48,9 @@ module _ (at have : ℕ) (b : List ℕ) (h : have ≤ length b) where
 -- ---- what was fed
 
 module _ (kinds : List ℕ) (sh : Shows) (r : Round) (l : List Float) (b out : List ℕ) (p : Played) (l' : List Float) (out' : List ℕ)
-    (d : Fed kinds (playingFrom (printerIn sh r) (r .reader) (r .run) l) (atHand r b) out p l' out') where
-  abbrev o : Followed kinds (playingFrom (printerIn sh r) (r .reader) (r .run) l) (atHand r b) out p l' out'
-  o = followed kinds (playingFrom (printerIn sh r) (r .reader) (r .run) l) (atHand r b) out p l' out' refl d
+    (d : Fed kinds (playingFrom (showing sh (r .notes)) (r .reader) (r .run) l) (atHand r b) out p l' out') where
+  abbrev o : Followed kinds (playingFrom (showing sh (r .notes)) (r .reader) (r .run) l) (atHand r b) out p l' out'
+  o = followed kinds (playingFrom (showing sh (r .notes)) (r .reader) (r .run) l) (atHand r b) out p l' out' refl d
 
   -- what is handed over is in memory
   pub text-within : p .n ≤ length out'
@@ -83,12 +83,12 @@ more-bytes kinds st s told st' s' t e =
 
 module _ (kinds : List ℕ) (sh : Shows) (r : Round) (l : List Float) (b out : List ℕ) (f : Fits r b) (y : r .phase ≡ Plays) (room : eventRoom ≤ length out)
     (p : Played) (w : Written) (l' : List Float) (b' out' : List ℕ)
-    (d : Fed kinds (playingFrom (printerIn sh r) (r .reader) (r .run) l) (atHand r b) out p l' out')
+    (d : Fed kinds (playingFrom (showing sh (r .notes)) (r .reader) (r .run) l) (atHand r b) out p l' out')
     (k : HandedOn Output (r .written) (p .n) w) (m : b' ≡ movedDown (p .at) (r .have) b) where
   abbrev s : List ℕ
   s = atHand r b
 
-  abbrev g : Followed kinds (playingFrom (printerIn sh r) (r .reader) (r .run) l) s out p l' out'
+  abbrev g : Followed kinds (playingFrom (showing sh (r .notes)) (r .reader) (r .run) l) s out p l' out'
   g = o kinds sh r l b out p l' out' d
 
   before : p .at ≤ r .have
@@ -100,7 +100,7 @@ module _ (kinds : List ℕ) (sh : Shows) (r : Round) (l : List Float) (b out : L
   b-long : length b' ≡ length b
   b-long = rw m (moved-long (p .at) (r .have) b (f .within))
 
-  text-long : p .n ≡ length (textBy (printerIn sh r) (r .run) (g .told))
+  text-long : p .n ≡ length (textBy (showing sh (r .notes)) (r .run) (g .told))
   text-long = sym (length-take-le (p .n) out' (g .fits)) ∙ ap length (g .text)
 
   played-is : Rounded kinds sh r l b (roundPlayed r p w) l' b'

@@ -29,10 +29,10 @@ use Rattle.channels.specs.declared.intake.Reads.{Reads}
 use Rattle.channels.specs.declared.intake.Supply.the-variants.{More, Over, Failed}
 use Rattle.channels.specs.declared.outlet.Written.{Written}
 use Rattle.channels.specs.Intake.{mostReads}
-use Rattle.printer.specs.declared.Memory.{Memory}
+use Rattle.printer.specs.declared.Notes.{Notes}
 use Rattle.printer.specs.declared.Channel.{Channel}
 use Rattle.printer.specs.declared.Channel.the-variants.{Output, Errors}
-use Rattle.printer.specs.Printer.{Shows, Printer, atStart, kindsTaken, meaningFor, printed, printerAfterAll, endingText, endingOn, sentTo, printedOn, textFrom, besideFrom, textOf, besideOf, endingBy, channelBy}
+use Rattle.printer.specs.Printer.{Shows, Printer, atStart, kindsTaken, meaningFor, printed, printerAfterAll, endingText, endingOn, sentTo, printedOn, textFrom, besideFrom, textOf, besideOf, endingBy, channelBy, showing}
 use Rattle.printer.proofs.Parts.{after-append, text-append}
 use Rattle.printer.proofs.Rooms.{ended-by, refused-by, ended-on, refused-on}
 use Rattle.text.specs.Memory.{Put}
@@ -44,7 +44,7 @@ use Rattle.console.specs.declared.Phase.the-variants.{Plays, Waits, Refu
 use Rattle.console.specs.declared.Round.{Round}
 use Rattle.console.specs.declared.Ended.{Ended}
 use Rattle.console.specs.Phases.{isGoing, isUnwritten, hasEnding, phaseEnded, numberLeft, numberEnded}
-use Rattle.console.specs.Console.{readerIn, printerIn, startingWith, atHand, KnownIn, Fits, Sound, HandedOn, Rounded, Past, Through, numberIn, endingIn, EndingPut, endedOf, Closed, endNumber, endPlace, Answers, Halts, Pauses, StartsWith, EndsBy, Ran}
+use Rattle.console.specs.Console.{readerIn, atHand, KnownIn, Fits, Sound, HandedOn, Rounded, Past, Through, numberIn, endingIn, EndingPut, endedOf, Closed, endNumber, endPlace, Answers, Halts, Pauses, StartsWith, EndsBy, Ran}
 use Rattle.console.proofs.Phases.{wrote-ended}
 use Rattle.console.proofs.Rounds.{more-bytes}
 
@@ -68,16 +68,16 @@ sent-none Errors Errors = refl
 -- ---- round after round
 
 -- before the first round
-abbrev first : Reader → Run → Memory → Reads → Written → Round
-first rd run m k w = record { reader = rd; run = run; memory = m; place = 0; have = 0; refused = 0; reads = k; written = w; phase = Plays }
+abbrev first : Reader → Run → Notes → Reads → Written → Round
+first rd run m k w = record { reader = rd; run = run; notes = m; place = 0; have = 0; refused = 0; reads = k; written = w; phase = Plays }
 
-pub past-first : (kinds : List ℕ) (sh : Shows) (b : List ℕ) (rd : Reader) (run : Run) (m : Memory) (k : Reads) (w : Written) (l : List Float) → rd ≡ startReader → run ≡ startRun → m ≡ atStart
+pub past-first : (kinds : List ℕ) (sh : Shows) (b : List ℕ) (rd : Reader) (run : Run) (m : Notes) (k : Reads) (w : Written) (l : List Float) → rd ≡ startReader → run ≡ startRun → m ≡ atStart
     → k ≡ record { made = 0; bytes = 0; last = More } → w ≡ record { bytes = 0; beside = 0; failed = false } → l ≡ zeros places → Past kinds sh (first rd run m k w) l b
 unfolding startState textBy printed printerAfterAll
 past-first kinds sh b rd run m k w l e f n z h g =
     rw (e, f, n, z, h, g) (record { past = []; told = []; goes = refl; run-is = refl; printer-is = refl; count = refl; brought = refl; handed = refl; beside = refl })
 
-pub sound-first : (kinds b : List ℕ) (rd : Reader) (run : Run) (m : Memory) (l : List Float) {k : Reads} {w : Written} → k ≡ record { made = 0; bytes = 0; last = More } → w ≡ record { bytes = 0; beside = 0; failed = false }
+pub sound-first : (kinds b : List ℕ) (rd : Reader) (run : Run) (m : Notes) (l : List Float) {k : Reads} {w : Written} → k ≡ record { made = 0; bytes = 0; last = More } → w ≡ record { bytes = 0; beside = 0; failed = false }
     → Sound kinds (first rd run m k w) l b
 sound-first kinds b rd run m l z h = rw (z, h) (record {
   fits = record { within = omega arith; bytes = omega arith; text = omega arith; beside = omega arith; bound = omega arith; most = omega arith };
@@ -99,13 +99,13 @@ past-on kinds sh r l b q l' b' c n =
       printer-is =
           n .printer-is
           ∙ ap₂ (λ (u : Printer) (v : Run). printerAfterAll u (eventsFrom v (n .told))) (c .printer-is) (c .run-is)
-          ∙ sym (after-append (startingWith sh) (eventsFrom startRun (c .told)) (eventsFrom (runAfterAll startRun (c .told)) (n .told)))
-          ∙ ap (printerAfterAll (startingWith sh)) (sym (events-joined startRun (c .told) (n .told)));
+          ∙ sym (after-append (showing sh atStart) (eventsFrom startRun (c .told)) (eventsFrom (runAfterAll startRun (c .told)) (n .told)))
+          ∙ ap (printerAfterAll (showing sh atStart)) (sym (events-joined startRun (c .told) (n .told)));
       count = omega (arith, n .count, c .count, length-append (c .past) (n .came));
       brought = counts-on (r .reads .bytes) (q .reads .bytes) (c .past) (n .came) (c .brought) (n .brought);
       handed =
-          rw (F.text-append (startingWith sh) startRun (c .told) (n .told))
-          (counts-on (r .written .bytes) (q .written .bytes) (textBy (startingWith sh) startRun (c .told)) _ (c .handed) text);
+          rw (F.text-append (showing sh atStart) startRun (c .told) (n .told))
+          (counts-on (r .written .bytes) (q .written .bytes) (textBy (showing sh atStart) startRun (c .told)) _ (c .handed) text);
       beside = n .handed .1 ∙ c .beside;
     }
 
@@ -128,7 +128,7 @@ module _ (sh : Shows) (r : Round) (l : List Float) (b : List ℕ) (t : Through (
   kinds = kindsTaken sh
 
   abbrev p : Printer
-  p = startingWith sh
+  p = showing sh atStart
 
   abbrev s : List ℕ
   s = t .past .past
@@ -175,7 +175,7 @@ module _ (sh : Shows) (r : Round) (l : List Float) (b : List ℕ) (t : Through (
     channel = channelBy sh (numberIn r)
 
     abbrev last : List ℕ
-    last = endingBy (printerIn sh r) (r .run) (numberIn r) (r .place)
+    last = endingBy (showing sh (r .notes)) (r .run) (numberIn r) (r .place)
 
     -- all that is printed, on each channel
     all-on : (c : Channel) (x : Ending) → meaningFor p s ≡ meant x → numberIn r ≡ endNumber x → r .place ≡ endPlace s x
@@ -183,7 +183,7 @@ module _ (sh : Shows) (r : Round) (l : List Float) (b : List ℕ) (t : Through (
     unfolding textBy
     all-on c x j n k =
         let ending : last ≡ endingText (printerAfterAll p events) (r .run) x
-        = ap₂ (endingBy (printerIn sh r) (r .run)) n k ∙ ending-is (printerIn sh r) (r .run) s x ∙ ap (λ (q : Printer). endingText q (r .run) x) (t .past .printer-is) in
+        = ap₂ (endingBy (showing sh (r .notes)) (r .run)) n k ∙ ending-is (showing sh (r .notes)) (r .run) s x ∙ ap (λ (q : Printer). endingText q (r .run) x) (t .past .printer-is) in
         let on : channel ≡ endingOn sh x = ap (channelBy sh) n ∙ channel-is sh x in
         ap₂ (λ (d : Channel) (u : List ℕ). sentTo Output text c ++ sentTo d u c) on ending ∙ sym (ap (λ (m : Meaning). printedOn c p (m .events) (m .left .run) (m .ending)) j)
 
@@ -315,9 +315,9 @@ handed-none Output w k m = (omega (arith, k), refl)
 handed-none Errors w k m = (refl, omega (arith, m))
 
 pub ending-put : (sh : Shows) (r : Round) (number : ℕ) (w : Written) (n : ℕ) (out out' : List ℕ) → hasEnding (r .phase) ≡ true
-    → Put out 0 (endingBy (printerIn sh r) (r .run) number (r .place)) n out' → (d : Channel) → d ≡ channelBy sh number → HandedOn d (r .written) n w → EndingPut sh r number w out'
+    → Put out 0 (endingBy (showing sh (r .notes)) (r .run) number (r .place)) n out' → (d : Channel) → d ≡ channelBy sh number → HandedOn d (r .written) n w → EndingPut sh r number w out'
 ending-put sh r number w n out out' h q d on k =
-    let s = endingBy (printerIn sh r) (r .run) number (r .place) in
+    let s = endingBy (showing sh (r .notes)) (r .run) number (r .place) in
     let z : 0 + length s ≡ length s = omega arith in
     record {
       text = rw h (ap (λ (j : ℕ). take j out') (sym (q .ends ∙ z)) ∙ put-shows out 0 s n out' (omega arith) q);
@@ -334,11 +334,11 @@ ending-none sh r number out' h k m = record {
 
 -- ---- the whole run
 
-ran : (sh : Shows) (r : Round) (l : List Float) (b : List ℕ) → Through (kindsTaken sh) sh r l b → (e : Ended) (out' : List ℕ) → Closed sh r e out' → Ran (startingWith sh) e
+ran : (sh : Shows) (r : Round) (l : List Float) (b : List ℕ) → Through (kindsTaken sh) sh r l b → (e : Ended) (out' : List ℕ) → Closed sh r e out' → Ran (showing sh atStart) e
 unfolding endedOf
 ran sh r l b t e out' c =
     let w = e .written in
-    let text = textBy (startingWith sh) startRun (t .past .told) in
+    let text = textBy (showing sh atStart) startRun (t .past .told) in
     let ending = sentTo (channelBy sh (numberIn r)) (endingIn sh r (numberIn r)) in
     let reads-are : e .reads ≡ r .reads = ap (λ (x : Ended). x .reads) (c .is) in
     let phase-is : e .phase ≡ phaseEnded (r .phase) (w .failed) = ap (λ (x : Ended). x .phase) (c .is) in
@@ -352,7 +352,7 @@ ran sh r l b t e out' c =
       handed-beside = counts .1;
       wrote = wrote-ended (r .phase) (w .failed) (λ h. ap (λ (x : Written). x .failed) (c .put .none h) ∙ t .sound .wrote) ∙ sym (ap isUnwritten phase-is);
       ends =
-          subst (λ (x : Phase). EndsBy (startingWith sh) e (t .past .past) (text ++ ending Output) (ending Errors) x) (sym phase-is)
+          subst (λ (x : Phase). EndsBy (showing sh atStart) e (t .past .past) (text ++ ending Output) (ending Errors) x) (sym phase-is)
           (ends-by sh r l b t e w (c .is) (r .phase) refl (t .over) (t .sound .stops) (λ h u. ap (λ (x : Written). x .failed) (c .put .none h) ∙ t .sound .wrote ∙ u) (w .failed) refl);
     }
 
@@ -361,5 +361,5 @@ pub taken-short : (sh : Shows) (kinds : List ℕ) → kinds ≡ kindsTaken sh �
 unfolding kindsTaken
 taken-short sh kinds k = rw k journal-short
 
-pub ran-taking : (sh : Shows) (kinds : List ℕ) → kinds ≡ kindsTaken sh → (r : Round) (l : List Float) (b : List ℕ) → Through kinds sh r l b → (e : Ended) (out' : List ℕ) → Closed sh r e out' → Ran (startingWith sh) e
+pub ran-taking : (sh : Shows) (kinds : List ℕ) → kinds ≡ kindsTaken sh → (r : Round) (l : List Float) (b : List ℕ) → Through kinds sh r l b → (e : Ended) (out' : List ℕ) → Closed sh r e out' → Ran (showing sh atStart) e
 ran-taking sh kinds k r l b t = ran sh r l b (rw k at t)

@@ -22,7 +22,7 @@ use Rattle.channels.specs.declared.outlet.Written.{Written}
 use Rattle.channels.specs.Intake.{movedDown, mostReads, Came}
 use Rattle.printer.specs.declared.Channel.{Channel}
 use Rattle.printer.specs.declared.Channel.the-variants.{Output, Errors}
-use Rattle.printer.specs.Printer.{Shows, Printer, atStart, printed, printerAfterAll, kindsTaken, meaningFor, textOf, besideOf, endingBy, channelBy}
+use Rattle.printer.specs.Printer.{Shows, Printer, atStart, printed, printerAfterAll, kindsTaken, meaningFor, textOf, besideOf, endingBy, channelBy, showing}
 use Rattle.player.specs.declared.Played.{Played}
 use Rattle.player.specs.Play.{playingFrom, textBy, Rests, Fed}
 use Rattle.console.specs.declared.Phase.{Phase}
@@ -40,10 +40,6 @@ bufferRoom = recordRoom
 -- the reader with its lists, and the bytes that wait
 abbrev pub readerIn : Round → List Float → State
 readerIn r l = record { reader = r .reader; lists = l }
-
--- the printer
-abbrev pub printerIn : Shows → Round → Printer
-printerIn w r = record { shows = w; memory = r .memory }
 
 abbrev pub atHand : Round → List ℕ → List ℕ
 atHand r b = take (r .have) b
@@ -83,7 +79,7 @@ unfoldable pub roundPlayed : Round → Played → Written → Round
 roundPlayed r p w = record {
   reader = p .reader;
   run = p .run;
-  memory = p .memory;
+  notes = p .notes;
   place = r .place + p .at;
   have = r .have - p .at;
   refused = p .refused;
@@ -95,7 +91,7 @@ roundPlayed r p w = record {
 pub record PlayedRound (kinds : List ℕ) (sh : Shows) (r : Round) (l : List Float) (b out : List ℕ) (q : Round) (l' : List Float) (b' out' : List ℕ) : Type 0 where
   pub played : Played
   pub written : Written
-  pub fed : Fed kinds (playingFrom (printerIn sh r) (r .reader) (r .run) l) (atHand r b) out played l' out'
+  pub fed : Fed kinds (playingFrom (showing sh (r .notes)) (r .reader) (r .run) l) (atHand r b) out played l' out'
   pub handed : HandedOn Output (r .written) (played .n) written
   pub moved : b' ≡ movedDown (played .at) (r .have) b
   pub is : q ≡ roundPlayed r played written
@@ -105,7 +101,7 @@ unfoldable pub roundRead : Round → ℕ → Reads → Round
 roundRead r have reads = record {
   reader = r .reader;
   run = r .run;
-  memory = r .memory;
+  notes = r .notes;
   place = r .place;
   have = have;
   refused = r .refused;
@@ -138,18 +134,14 @@ pub record Rounded (kinds : List ℕ) (sh : Shows) (r : Round) (l : List Float) 
   pub came : List ℕ
   pub goes : settled (onBytes kinds) (readerIn r l) (atHand r b ++ came) ≡ telling told (settled (onBytes kinds) (readerIn q l') (atHand q b'))
   pub run-is : q .run ≡ runAfterAll (r .run) told
-  pub printer-is : printerIn sh q ≡ printerAfterAll (printerIn sh r) (eventsFrom (r .run) told)
+  pub printer-is : showing sh (q .notes) ≡ printerAfterAll (showing sh (r .notes)) (eventsFrom (r .run) told)
   pub count : q .place + q .have ≡ r .place + r .have + length came
   pub brought : q .reads .bytes ≡ (r .reads .bytes + length came) % 2 ^ 64
-  pub handed : HandedOn Output (r .written) (length (textBy (printerIn sh r) (r .run) told)) (q .written)
+  pub handed : HandedOn Output (r .written) (length (textBy (showing sh (r .notes)) (r .run) told)) (q .written)
   pub sound : Sound kinds q l' b'
   pub less : toDo q < toDo r
 
 -- ---- all rounds
-
--- the printer before the first event
-abbrev pub startingWith : Shows → Printer
-startingWith sh = record { shows = sh; memory = atStart }
 
 -- The bytes `past` came so far, and the instructions `told` were obeyed, from the first byte on.
 pub record Past (kinds : List ℕ) (sh : Shows) (r : Round) (l : List Float) (b : List ℕ) : Type 0 where
@@ -157,10 +149,10 @@ pub record Past (kinds : List ℕ) (sh : Shows) (r : Round) (l : List Float) (b 
   pub told : List Instruction
   pub goes : settled (onBytes kinds) startState past ≡ telling told (settled (onBytes kinds) (readerIn r l) (atHand r b))
   pub run-is : r .run ≡ runAfterAll startRun told
-  pub printer-is : printerIn sh r ≡ printerAfterAll (startingWith sh) (eventsFrom startRun told)
+  pub printer-is : showing sh (r .notes) ≡ printerAfterAll (showing sh atStart) (eventsFrom startRun told)
   pub count : r .place + r .have ≡ length past
   pub brought : r .reads .bytes ≡ length past % 2 ^ 64
-  pub handed : r .written .bytes ≡ length (textBy (startingWith sh) startRun told) % 2 ^ 64
+  pub handed : r .written .bytes ≡ length (textBy (showing sh atStart) startRun told) % 2 ^ 64
   pub beside : r .written .beside ≡ 0
 
 -- and no more rounds are made
@@ -177,7 +169,7 @@ numberIn r = numberEnded (r .phase) (r .refused) (r .have)
 
 -- its text, where it has one
 abbrev pub endingIn : Shows → Round → ℕ → List ℕ
-endingIn sh r number = cond (hasEnding (r .phase)) (endingBy (printerIn sh r) (r .run) number (r .place)) []
+endingIn sh r number = cond (hasEnding (r .phase)) (endingBy (showing sh (r .notes)) (r .run) number (r .place)) []
 
 -- it is at the front of memory, and was handed over on its channel
 pub record EndingPut (sh : Shows) (r : Round) (number : ℕ) (w : Written) (out' : List ℕ) : Type 0 where

@@ -27,7 +27,7 @@ use journal_reader::waiting::PLACES;
 use journal_reader::waiting::Reader;
 use journal_refusals::Refusal;
 use printer::Channel;
-use printer::Memory;
+use printer::Notes;
 
 // ---- whether it goes on, or why not
 
@@ -135,7 +135,7 @@ struct Round {
     reader: Reader,
     run: Run,
     // what the printer remembers
-    memory: Memory,
+    notes: Notes,
     // the bytes that were taken, and those that wait at the front of memory
     place: u64,
     have: usize,
@@ -170,7 +170,7 @@ fn play_round(
     let played = player::feed(
         kinds,
         shows,
-        r.memory,
+        r.notes,
         r.reader,
         r.run,
         lists,
@@ -181,7 +181,7 @@ fn play_round(
     move_down(buf, played.at, have);
     let reader = played.reader;
     let run = played.run;
-    let memory = played.memory;
+    let notes = played.notes;
     let reads = r.reads;
     let phase = phase_played(has_failed(written), played.more, played.refused);
     let place = r.place + played.at as u64;
@@ -189,7 +189,7 @@ fn play_round(
     Round {
         reader,
         run,
-        memory,
+        notes,
         place,
         have: left,
         refused: played.refused,
@@ -209,12 +209,12 @@ fn read_round(r: Round, buf: &mut [u8]) -> Round
     let phase = phase_read(last(reads));
     let reader = r.reader;
     let run = r.run;
-    let memory = r.memory;
+    let notes = r.notes;
     let written = r.written;
     Round {
         reader,
         run,
-        memory,
+        notes,
         place: r.place,
         have: got.have,
         refused: r.refused,
@@ -256,13 +256,13 @@ fn run_rounds(
 {
     let reader = journal_reader::waiting::start();
     let run = journal::start();
-    let memory = printer::start();
+    let notes = printer::start();
     let reads = no_reads();
     let written = nothing();
     let mut round = Round {
         reader,
         run,
-        memory,
+        notes,
         place: 0,
         have: 0,
         refused: 0,
@@ -338,7 +338,7 @@ fn put_ending(shows: u8, r: Round, refused: u8, out: &mut [u8]) -> Written
 {
     let phase = r.phase;
     if has_ending(phase) {
-        let n = printer::ended(shows, r.memory, r.run, refused, r.place, out);
+        let n = printer::ended(shows, r.notes, r.run, refused, r.place, out);
         let channel = printer::ending_on(shows, refused);
         return put_on(channel, r.written, out, n);
     }

@@ -15,7 +15,7 @@ use Rattle.journal.specs.declared.tick.Run.{Run}
 use Rattle.journal.specs.Events.{begunOf, runAfterAll, Event, eventsFrom}
 
 -- all that a journal works on: the reader with the lent lists, and the fuse
-pub record Whole : Type 0 where
+pub record Left : Type 0 where
   pub state : State
   pub run : Run
 
@@ -39,7 +39,7 @@ pub data Ending : Type 0 where
 pub record Meaning : Type 0 where
   pub events : List Event
   pub ending : Ending
-  pub left : Whole
+  pub left : Left
 
 -- at place p, with these bytes left: a record whose body the end cuts is refused too
 abbrev pub endingOf : ℕ → List ℕ → End Refusal → Ending

@@ -28,11 +28,11 @@ use Rattle.journal.proofs.Events.{reported-event, reported-run, run-joined, eve
 use Rattle.text.specs.Memory.{Put, hasRoom}
 use Rattle.text.proofs.Puts.{put-none, put-on}
 use Rattle.printer.specs.declared.Shown.{Shown}
-use Rattle.printer.specs.Printer.{Shows, Printer, shownText, remembered, printerAfter, printed, printerAfterAll, eventRoom, ShownIn}
+use Rattle.printer.specs.Printer.{Shows, Printer, shownText, remembered, printerAfter, printed, printerAfterAll, eventRoom, ShownIn, showing}
 use Rattle.printer.proofs.Rooms.{shown-there}
 use Rattle.printer.proofs.Parts.{printed-append, after-append}
 use Rattle.player.specs.declared.Played.{Played}
-use Rattle.player.specs.Play.{Playing, Stop, refuses, full, withReading, obeyed, withText, playOf, fedOf, playedOf, textBy, Fed, goesOnOf, obeyedBy, Obeys, printerOf, playingOf, Stopped, Plays, PlayedOn}
+use Rattle.player.specs.Play.{Playing, Stop, refuses, full, withReading, obeyed, withText, playOf, fedOf, playedOf, textBy, Fed, goesOnOf, obeyedBy, Obeys, playingOf, Stopped, PlayedUpTo, PlayedOn}
 use Rattle.player.proofs.Playing.{play-full, play-room, play-there, onward}
 
 -- the part from a place on
@@ -46,18 +46,18 @@ text-append p run a b = ap (printed p) (events-joined run a b) ∙ printed-appen
 
 -- an instruction whose event was shown
 pub obeys : (sh : Shows) (p : Played) (rd : Reader) (x : Instruction) (e : Event) → e ≡ eventOf (p .run) x → (run : Run) → run ≡ runAfter (p .run) x
-    → (out : List ℕ) → p .n + eventRoom ≤ length out → (w : Shown) (out' : List ℕ) → ShownIn (printerOf sh p) e out (p .n) w out'
-    → Obeys sh p rd x out (record { reader = rd; run = run; memory = w .memory; at = p .at; n = w .n; more = p .more; refused = p .refused }) out'
+    → (out : List ℕ) → p .n + eventRoom ≤ length out → (w : Shown) (out' : List ℕ) → ShownIn (showing sh (p .notes)) e out (p .n) w out'
+    → Obeys sh p rd x out (record { reader = rd; run = run; notes = w .notes; at = p .at; n = w .n; more = p .more; refused = p .refused }) out'
 unfolding obeyedBy
 obeys sh p rd x e y run z out room w out' q =
-    let t = rw y at (shown-there out (p .n) (printerOf sh p) e room w out' q) in
+    let t = rw y at (shown-there out (p .n) (showing sh (p .notes)) e room w out' q) in
     record { answer = rw (z, t .0, t .1 .ends) refl; text = t .1 }
 
 -- a tick that was reported and shown
 pub obeys-tick : (sh : Shows) (p : Played) (rd : Reader) (c : Brought) (t : Reported) → t ≡ reportedOf (p .run) c → (pos : List Float) → pos ≡ c .pos
     → (out : List ℕ) → p .n + eventRoom ≤ length out → (w : Shown) (out' : List ℕ)
-    → ShownIn (printerOf sh p) (ticked (record { input = c .input; pos = pos; guard = t .guard; verdict = t .verdict; run = t .run })) out (p .n) w out'
-    → Obeys sh p rd (tick c) out (record { reader = rd; run = t .run; memory = w .memory; at = p .at; n = w .n; more = p .more; refused = p .refused }) out'
+    → ShownIn (showing sh (p .notes)) (ticked (record { input = c .input; pos = pos; guard = t .guard; verdict = t .verdict; run = t .run })) out (p .n) w out'
+    → Obeys sh p rd (tick c) out (record { reader = rd; run = t .run; notes = w .notes; at = p .at; n = w .n; more = p .more; refused = p .refused }) out'
 obeys-tick sh p rd c t e pos y out room w out' q = obeys sh p rd (tick c) _ (rw (e, y) (sym (reported-event (p .run) c))) (t .run) (rw e (reported-run (p .run) c)) out room w out' q
 
 -- ---- what comes next, by what `read` says of it
@@ -138,7 +138,7 @@ module _ (kinds : List ℕ) (sh : Shows) (p : Played) (l : List Float) (s : List
 
   -- before the instruction, with its end for the place
   abbrev here : Played
-  here = record { reader = a .reader; run = p .run; memory = p .memory; at = at + a .end; n = p .n; more = true; refused = 0 }
+  here = record { reader = a .reader; run = p .run; notes = p .notes; at = at + a .end; n = p .n; more = true; refused = 0 }
 
   module _ (out : List ℕ) (room : p .n + eventRoom ≤ length out) where
     abbrev play : Playing → List ℕ → Next Playing Instruction Stop
@@ -151,7 +151,7 @@ module _ (kinds : List ℕ) (sh : Shows) (p : Played) (l : List Float) (s : List
 
     module _ (number : ℕ) where
       abbrev over : Played
-      over = record { reader = a .reader; run = p .run; memory = p .memory; at = at + a .end; n = p .n; more = false; refused = number }
+      over = record { reader = a .reader; run = p .run; notes = p .notes; at = at + a .end; n = p .n; more = false; refused = number }
 
       over-by : a .end ≡ a .used → Stopped kinds (length out) (playingOf sh over l') (drop i s) false number → PlayedOn kinds sh p l s out over l' out
       unfolding textBy printed printerAfterAll
@@ -226,7 +226,7 @@ module _ (kinds : List ℕ) (sh : Shows) (p : Played) (l : List Float) (s : List
               goes = goes-on;
               run-is = refl;
               printer-is = refl;
-              text = rw (append-nil (shownText (printerOf sh p) (eventOf (p .run) x))) (rw (o .answer) at (o .text));
+              text = rw (append-nil (shownText (showing sh (p .notes)) (eventOf (p .run) x))) (rw (o .answer) at (o .text));
             };
             further = λ z. omega (arith, end-place, fits .0);
             none = λ z. refl;
@@ -312,13 +312,13 @@ module _ (kinds : List ℕ) (room : ℕ) (p : Playing) (s : List ℕ) (number : 
 
 -- before the first record
 abbrev first : Playing → Played
-first p = record { reader = p .state .reader; run = p .run; memory = p .printer .memory; at = 0; n = 0; more = true; refused = 0 }
+first p = record { reader = p .state .reader; run = p .run; notes = p .printer .notes; at = 0; n = 0; more = true; refused = 0 }
 
 -- what was played so far, from p to r: where there is more to do, there is room; where it is over,
 -- no more records are taken
 pub record Since (kinds : List ℕ) (sh : Shows) (p : Played) (l₀ : List Float) (s out₀ : List ℕ) (r : Played) (l : List Float) (out : List ℕ) (more : Bool) : Type 0 where
   pub told : List Instruction
-  pub plays : Plays kinds sh (length out₀) p l₀ s out₀ told r l out
+  pub plays : PlayedUpTo kinds sh (length out₀) p l₀ s out₀ told r l out
   pub long : length out ≡ length out₀
   pub room : more ≡ true → r .n + eventRoom ≤ length out
   pub over : more ≡ false → Stopped kinds (length out₀) (playingOf sh r l) (drop (r .at) s) (r .more) (r .refused)
@@ -335,7 +335,7 @@ since-first kinds p s out more e = record {
 
 -- one way after the other
 plays-on : (kinds : List ℕ) (sh : Shows) (room : ℕ) (p : Played) (l : List Float) (s out : List ℕ) (told : List Instruction) (q : Played) (l' : List Float) (out' : List ℕ) (more : List Instruction) (r : Played)
-    (l'' : List Float) (out'' : List ℕ) → p .n ≤ length out → Plays kinds sh room p l s out told q l' out' → Plays kinds sh room q l' s out' more r l'' out'' → Plays kinds sh room p l s out (told ++ more) r l'' out''
+    (l'' : List Float) (out'' : List ℕ) → p .n ≤ length out → PlayedUpTo kinds sh room p l s out told q l' out' → PlayedUpTo kinds sh room q l' s out' more r l'' out'' → PlayedUpTo kinds sh room p l s out (told ++ more) r l'' out''
 plays-on kinds sh room p l s out told q l' out' more r l'' out'' h x y =
     let play = playOf kinds room in
     let goes-after = y .goes in
@@ -347,11 +347,11 @@ plays-on kinds sh room p l s out told q l' out' more r l'' out'' h x y =
       printer-is =
           y .printer-is
           ∙ ap₂ (λ (u : Printer) (w : Run). printerAfterAll u (eventsFrom w more)) (x .printer-is) (x .run-is)
-          ∙ sym (after-append (printerOf sh p) (eventsFrom (p .run) told) (eventsFrom (runAfterAll (p .run) told) more))
-          ∙ ap (printerAfterAll (printerOf sh p)) (sym (events-joined (p .run) told more));
+          ∙ sym (after-append (showing sh (p .notes)) (eventsFrom (p .run) told) (eventsFrom (runAfterAll (p .run) told) more))
+          ∙ ap (printerAfterAll (showing sh (p .notes))) (sym (events-joined (p .run) told more));
       text =
-          rw (text-append (printerOf sh p) (p .run) told more)
-          (put-on out (p .n) (textBy (printerOf sh p) (p .run) told) (q .n) out' (textBy (printerAfterAll (printerOf sh p) (eventsFrom (p .run) told)) (runAfterAll (p .run) told) more) (r .n) out'' h (x .text)
+          rw (text-append (showing sh (p .notes)) (p .run) told more)
+          (put-on out (p .n) (textBy (showing sh (p .notes)) (p .run) told) (q .n) out' (textBy (printerAfterAll (showing sh (p .notes)) (eventsFrom (p .run) told)) (runAfterAll (p .run) told) more) (r .n) out'' h (x .text)
           (rw (x .printer-is, x .run-is) at (y .text)));
     }
 
@@ -359,7 +359,7 @@ pub since-more : (kinds : List ℕ) (sh : Shows) (p : Played) (l₀ : List Float
     (out' : List ℕ) (more' : Bool) → p .n ≤ length out₀ → length out' ≡ length out → Since kinds sh p l₀ s out₀ q l out more
     → PlayedOn kinds sh q l s out r l' out' → more' ≡ goesOnOf (r .more) (r .n) (length out') → Since kinds sh p l₀ s out₀ r l' out' more'
 since-more kinds sh p l₀ s out₀ q l out more r l' out' more' h k i o y =
-    let on : Plays kinds sh (length out₀) q l s out (o .told) r l' out' = rw (i .long) at (o .plays) in
+    let on : PlayedUpTo kinds sh (length out₀) q l s out (o .told) r l' out' = rw (i .long) at (o .plays) in
     record {
       told = i .told ++ o .told;
       plays = plays-on kinds sh (length out₀) p l₀ s out₀ (i .told) q l out (o .told) r l' out' h (i .plays) on;

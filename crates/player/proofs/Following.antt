@@ -124,7 +124,7 @@ pub record Followed (kinds : List ℕ) (p : Playing) (s : List ℕ) (out : List 
   pub within : r .at ≤ length s
   pub goes : settled (onBytes kinds) (p .state) s ≡ telling told (settled (onBytes kinds) (record { reader = r .reader; lists = l' }) (drop (r .at) s))
   pub run-is : r .run ≡ runAfterAll (p .run) told
-  pub printer-is : record { shows = p .printer .shows; memory = r .memory } ≡ printerAfterAll (p .printer) (eventsFrom (p .run) told)
+  pub printer-is : record { shows = p .printer .shows; notes = r .notes } ≡ printerAfterAll (p .printer) (eventsFrom (p .run) told)
   pub text : take (r .n) out' ≡ textBy (p .printer) (p .run) told
   pub fits : r .n ≤ length out'
   pub further : eventRoom ≤ length out → r .more ≡ true → 0 < r .at
@@ -144,7 +144,7 @@ followed kinds p s out r l' out' z q =
       within = omega arith;
       goes = rw d (f .same);
       run-is = f .run-is;
-      printer-is = ap (λ (w : Shows). record { shows = w; memory = a .state .printer .memory }) (sym (f .shows-is)) ∙ f .printer-is;
+      printer-is = ap (λ (w : Shows). record { shows = w; notes = a .state .printer .notes }) (sym (f .shows-is)) ∙ f .printer-is;
       text = take-at t (drop (length t) out) (a .state .n) (omega (arith, f .count, z));
       fits = omega (arith, f .count, z, length-append t (drop (length t) out));
       further = λ h y. omega (arith, k, f .further (omega (arith, h, z)) y);

@@ -15,7 +15,7 @@ use Rattle.journal_reader.specs.Reading.{Instruction, onBytes}
 use Rattle.journal.specs.declared.tick.Run.{Run}
 use Rattle.journal.specs.Events.{runAfter, runAfterAll, eventOf, eventsFrom}
 use Rattle.text.specs.Memory.{Put, hasRoom}
-use Rattle.printer.specs.Printer.{Shows, Printer, shownText, remembered, printerAfter, printed, printerAfterAll, eventRoom}
+use Rattle.printer.specs.Printer.{Shows, Printer, shownText, remembered, printerAfter, printed, printerAfterAll, eventRoom, showing}
 use Rattle.player.specs.declared.Played.{Played}
 
 -- ---- a journal whose text goes to memory
@@ -80,7 +80,7 @@ unfoldable pub playedOf : List ℕ → Settled Playing Instruction Stop → Play
 playedOf s a = record {
   reader = a .state .state .reader;
   run = a .state .run;
-  memory = a .state .printer .memory;
+  notes = a .state .printer .notes;
   at = length s - length (a .rest);
   n = a .state .n;
   more = isFull (a .end);
@@ -122,10 +122,6 @@ pub record Rests (kinds : List ℕ) (st : State) (s : List ℕ) (number : ℕ) :
 unfoldable pub goesOnOf : Bool → ℕ → ℕ → Bool
 goesOnOf more n room = cond (hasRoom eventRoom n room) more false
 
--- the printer with what an answer says of it
-abbrev pub printerOf : Shows → Played → Printer
-printerOf w p = record { shows = w; memory = p .memory }
-
 -- the answer p with an instruction obeyed, which leaves the reader so
 unfoldable pub obeyedBy : Shows → Played → Reader → Instruction → Played
 obeyedBy w p rd i =
@@ -133,20 +129,20 @@ obeyedBy w p rd i =
     record {
       reader = rd;
       run = runAfter (p .run) i;
-      memory = remembered (printerOf w p) e;
+      notes = remembered (showing w (p .notes)) e;
       at = p .at;
-      n = p .n + length (shownText (printerOf w p) e);
+      n = p .n + length (shownText (showing w (p .notes)) e);
       more = p .more;
       refused = p .refused;
     }
 
 pub record Obeys (w : Shows) (p : Played) (rd : Reader) (i : Instruction) (out : List ℕ) (r : Played) (out' : List ℕ) : Type 0 where
   pub answer : r ≡ obeyedBy w p rd i
-  pub text : Put out (p .n) (shownText (printerOf w p) (eventOf (p .run) i)) (r .n) out'
+  pub text : Put out (p .n) (shownText (showing w (p .notes)) (eventOf (p .run) i)) (r .n) out'
 
 -- the journal with what an answer says of it
 abbrev pub playingOf : Shows → Played → List Float → Playing
-playingOf w r l = record { state = record { reader = r .reader; lists = l }; run = r .run; printer = printerOf w r; n = r .n }
+playingOf w r l = record { state = record { reader = r .reader; lists = l }; run = r .run; printer = showing w (r .notes); n = r .n }
 
 -- before all of s no record is taken, and why
 pub record Stopped (kinds : List ℕ) (room : ℕ) (p : Playing) (s : List ℕ) (more : Bool) (refused : ℕ) : Type 0 where
@@ -157,18 +153,18 @@ pub record Stopped (kinds : List ℕ) (room : ℕ) (p : Playing) (s : List ℕ) 
 
 -- From the place of p some records of s were played, to r: the instructions `told`, the text of
 -- whose events was put after that which was there.
-pub record Plays (kinds : List ℕ) (w : Shows) (room : ℕ) (p : Played) (l : List Float) (s out : List ℕ) (told : List Instruction) (r : Played) (l' : List Float) (out' : List ℕ) : Type 0 where
+pub record PlayedUpTo (kinds : List ℕ) (w : Shows) (room : ℕ) (p : Played) (l : List Float) (s out : List ℕ) (told : List Instruction) (r : Played) (l' : List Float) (out' : List ℕ) : Type 0 where
   pub from : p .at ≤ r .at
   pub within : r .at ≤ length s
   pub goes : settled (playOf kinds room) (playingOf w p l) (drop (p .at) s) ≡ telling told (settled (playOf kinds room) (playingOf w r l') (drop (r .at) s))
   pub run-is : r .run ≡ runAfterAll (p .run) told
-  pub printer-is : printerOf w r ≡ printerAfterAll (printerOf w p) (eventsFrom (p .run) told)
-  pub text : Put out (p .n) (textBy (printerOf w p) (p .run) told) (r .n) out'
+  pub printer-is : showing w (r .notes) ≡ printerAfterAll (showing w (p .notes)) (eventsFrom (p .run) told)
+  pub text : Put out (p .n) (textBy (showing w (p .notes)) (p .run) told) (r .n) out'
 
 -- up to the next instruction, and that one; or no more is to be had
 pub record PlayedOn (kinds : List ℕ) (w : Shows) (p : Played) (l : List Float) (s out : List ℕ) (r : Played) (l' : List Float) (out' : List ℕ) : Type 0 where
   pub told : List Instruction
-  pub plays : Plays kinds w (length out) p l s out told r l' out'
+  pub plays : PlayedUpTo kinds w (length out) p l s out told r l' out'
   pub further : r .more ≡ true → p .at < r .at
   pub none : r .more ≡ true → r .refused ≡ 0
   pub stops : r .more ≡ false → Stopped kinds (length out) (playingOf w r l') (drop (r .at) s) (r .more) (r .refused)

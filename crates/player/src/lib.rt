@@ -15,7 +15,7 @@ use journal_reader::waiting::PLACES;
 use journal_reader::waiting::Reader;
 use lictor_core::fuse::TickInput;
 use printer::EVENT_ROOM;
-use printer::Memory;
+use printer::Notes;
 use text::memory::has_room;
 
 // A journal that is being played.
@@ -23,7 +23,7 @@ pub struct Played {
     pub reader: Reader,
     pub run: Run,
     // what the printer remembers
-    pub memory: Memory,
+    pub notes: Notes,
     // the bytes that were taken, and those of text
     pub at: usize,
     pub n: usize,
@@ -43,12 +43,12 @@ fn begin(shows: u8, p: Played, body: &[u8], out: &mut [u8]) -> Played
     let before = p.reader;
     let reader = journal_reader::waiting::begun(before);
     let run = journal::begin(body);
-    let shown = printer::began(shows, p.memory, run, out, p.n);
-    let memory = shown.memory;
+    let shown = printer::began(shows, p.notes, run, out, p.n);
+    let notes = shown.notes;
     Played {
         reader,
         run,
-        memory,
+        notes,
         at: p.at,
         n: shown.n,
         more: p.more,
@@ -64,12 +64,12 @@ fn restart(shows: u8, p: Played, out: &mut [u8]) -> Played
     let before = p.reader;
     let reader = journal_reader::waiting::emptied(before);
     let run = journal::restart(p.run);
-    let shown = printer::restarted(shows, p.memory, run, out, p.n);
-    let memory = shown.memory;
+    let shown = printer::restarted(shows, p.notes, run, out, p.n);
+    let notes = shown.notes;
     Played {
         reader,
         run,
-        memory,
+        notes,
         at: p.at,
         n: shown.n,
         more: p.more,
@@ -91,7 +91,7 @@ fn tick(shows: u8, p: Played, lists: &[f64; PLACES], input: TickInput, out: &mut
     let pos = journal::tick::lent_positions(seen, lists);
     let shown = printer::ticked(
         shows,
-        p.memory,
+        p.notes,
         input,
         pos,
         reported.guard,
@@ -101,11 +101,11 @@ fn tick(shows: u8, p: Played, lists: &[f64; PLACES], input: TickInput, out: &mut
         p.n,
     );
     let reader = journal_reader::waiting::emptied(before);
-    let memory = shown.memory;
+    let notes = shown.notes;
     Played {
         reader,
         run,
-        memory,
+        notes,
         at: p.at,
         n: shown.n,
         more: p.more,
@@ -117,7 +117,7 @@ fn tick(shows: u8, p: Played, lists: &[f64; PLACES], input: TickInput, out: &mut
 
 // No more is to be had.
 fn stopped(p: Played, refused: u8) -> Played
-    ensures { λ r. ⌜ r ≡ record { reader = p .reader; run = p .run; memory = p .memory; at = p .at; n = p .n; more = false; refused = refused } ⌝ }
+    ensures { λ r. ⌜ r ≡ record { reader = p .reader; run = p .run; notes = p .notes; at = p .at; n = p .n; more = false; refused = refused } ⌝ }
 {
     let mut over = p;
     over.more = false;
@@ -141,12 +141,12 @@ fn play_on(
     let progress = journal_reader::read(kinds, p.reader, lists, &s[at..]);
     let reader = progress.reader;
     let run = p.run;
-    let memory = p.memory;
+    let notes = p.notes;
     let end = at + progress.end;
     let here = Played {
         reader,
         run,
-        memory,
+        notes,
         at: end,
         n: p.n,
         more: true,
@@ -181,19 +181,19 @@ fn goes_on(more: bool, n: usize, room: usize) -> bool
 pub fn feed(
     kinds: &[u16],
     shows: u8,
-    memory: Memory,
+    notes: Notes,
     rd: Reader,
     run: Run,
     lists: &mut [f64; PLACES],
     s: &[u8],
     out: &mut [u8],
 ) -> Played
-    ensures { λ r. ⌜ Fed (now (kinds .entry)) (playingFrom (printerBy shows memory) rd run (now (lists .entry))) (now (s .entry)) (now (out .entry)) r (now (lists .exit)) (now (out .exit)) ⌝ }
+    ensures { λ r. ⌜ Fed (now (kinds .entry)) (playingFrom (printerBy shows notes) rd run (now (lists .entry))) (now (s .entry)) (now (out .entry)) r (now (lists .exit)) (now (out .exit)) ⌝ }
 {
     let mut played = Played {
         reader: rd,
         run,
-        memory,
+        notes,
         at: 0,
         n: 0,
         more: true,

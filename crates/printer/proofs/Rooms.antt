@@ -55,32 +55,32 @@ ending-fits p run (refused r place) = omega (arith, refused-fits (numberOf r) pl
 
 module _ (out : List ℕ) (n : ℕ) (p : Printer) (e : Event) where
   -- where there is no room, and where the text was put
-  pub not-shown : hasRoom eventRoom n (length out) ≡ false → ShownIn p e out n (record { memory = p .memory; n = n }) out
+  pub not-shown : hasRoom eventRoom n (length out) ≡ false → ShownIn p e out n (record { notes = p .notes; n = n }) out
   unfolding shownAt memoryAt
   not-shown h =
       let m = no-room eventRoom out n (shownText p e) h in
-      record { answer = rw h (ap (λ (k : ℕ). record { memory = p .memory; n = k }) (m .0)); memory = m .1 }
+      record { answer = rw h (ap (λ (k : ℕ). record { notes = p .notes; n = k }) (m .0)); memory = m .1 }
 
-  pub is-shown : hasRoom eventRoom n (length out) ≡ true → (r : ℕ) (out' : List ℕ) → Put out n (shownText p e) r out' → ShownIn p e out n (record { memory = remembered p e; n = r }) out'
+  pub is-shown : hasRoom eventRoom n (length out) ≡ true → (r : ℕ) (out' : List ℕ) → Put out n (shownText p e) r out' → ShownIn p e out n (record { notes = remembered p e; n = r }) out'
   unfolding shownAt memoryAt
   is-shown h r out' q =
       let m = with-room eventRoom out n (shownText p e) h r out' q in
-      record { answer = rw h (ap (λ (k : ℕ). record { memory = remembered p e; n = k }) (m .0)); memory = m .1 }
+      record { answer = rw h (ap (λ (k : ℕ). record { notes = remembered p e; n = k }) (m .0)); memory = m .1 }
 
   -- an event that prints nothing and of which nothing is remembered
-  silent-by : (b : Bool) → hasRoom eventRoom n (length out) ≡ b → shownText p e ≡ [] → remembered p e ≡ p .memory → ShownIn p e out n (record { memory = p .memory; n = n }) out
+  silent-by : (b : Bool) → hasRoom eventRoom n (length out) ≡ b → shownText p e ≡ [] → remembered p e ≡ p .notes → ShownIn p e out n (record { notes = p .notes; n = n }) out
   silent-by true h s q = rw q at (is-shown h n out (rw s (put-none out n)))
   silent-by false h s q = not-shown h
 
-  pub silent : shownText p e ≡ [] → remembered p e ≡ p .memory → ShownIn p e out n (record { memory = p .memory; n = n }) out
+  pub silent : shownText p e ≡ [] → remembered p e ≡ p .notes → ShownIn p e out n (record { notes = p .notes; n = n }) out
   silent = silent-by (hasRoom eventRoom n (length out)) refl
 
   -- what a caller learns who saw to the room
-  pub shown-there : n + eventRoom ≤ length out → (r : Shown) (out' : List ℕ) → ShownIn p e out n r out' → (r .memory ≡ remembered p e) × Put out n (shownText p e) (r .n) out'
+  pub shown-there : n + eventRoom ≤ length out → (r : Shown) (out' : List ℕ) → ShownIn p e out n r out' → (r .notes ≡ remembered p e) × Put out n (shownText p e) (r .n) out'
   unfolding shownAt memoryAt
   shown-there h r out' q =
       let y = le-leb (n + eventRoom) (length out) h in
-      (ap (λ (x : Shown). x .memory) (rw y at (q .answer)), put-with eventRoom out n (shownText p e) h (r .n) out' (ap (λ (x : Shown). x .n) (q .answer), q .memory))
+      (ap (λ (x : Shown). x .notes) (rw y at (q .answer)), put-with eventRoom out n (shownText p e) h (r .n) out' (ap (λ (x : Shown). x .n) (q .answer), q .memory))
 
 -- what is shown, by its number
 pub shows-trace : (code : ℕ) → code ≡ traceCode → showsBy code ≡ trace

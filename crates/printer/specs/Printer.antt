@@ -21,7 +21,7 @@ use Rattle.report.specs.Lines.{tickText, endText, refusedText}
 use Rattle.report.specs.Text.{traceRoom, traceUpTo}
 use Rattle.printer.specs.declared.Channel.{Channel}
 use Rattle.printer.specs.declared.Channel.the-variants.{Output, Errors}
-use Rattle.printer.specs.declared.Memory.{Memory}
+use Rattle.printer.specs.declared.Notes.{Notes}
 use Rattle.printer.specs.declared.Shown.{Shown}
 
 -- ---- a printer
@@ -42,21 +42,25 @@ showsBy code = cond (eqb code traceCode) trace lines
 -- a printer: what it shows, and what it remembers from event to event
 pub record Printer : Type 0 where
   pub shows : Shows
-  pub memory : Memory
+  pub notes : Notes
 
-abbrev pub printerBy : ℕ → Memory → Printer
-printerBy code m = record { shows = showsBy code; memory = m }
+-- one that shows this, with these notes
+abbrev pub showing : Shows → Notes → Printer
+showing w m = record { shows = w; notes = m }
+
+abbrev pub printerBy : ℕ → Notes → Printer
+printerBy code m = showing (showsBy code) m
 
 -- before the first event nothing is remembered
-abbrev pub atStart : Memory
+abbrev pub atStart : Notes
 atStart = record {}
 
 -- the printers of `fuse` and `trace`
 abbrev pub fusePrinter : Printer
-fusePrinter = record { shows = lines; memory = atStart }
+fusePrinter = showing lines atStart
 
 abbrev pub tracePrinter : Printer
-tracePrinter = record { shows = trace; memory = atStart }
+tracePrinter = showing trace atStart
 
 -- ---- an event
 
@@ -71,11 +75,11 @@ shownText p (restarted run) = []
 shownText p (ticked t) = tickShown (p .shows) (t .verdict) (t .run .rt)
 
 -- what is remembered after an event: neither of the two remembers anything
-unfoldable pub remembered : Printer → Event → Memory
-remembered p e = p .memory
+unfoldable pub remembered : Printer → Event → Notes
+remembered p e = p .notes
 
 abbrev pub printerAfter : Printer → Event → Printer
-printerAfter p e = record { shows = p .shows; memory = remembered p e }
+printerAfter p e = showing (p .shows) (remembered p e)
 
 -- ---- the ending: `end`, or `refused` with the number and the place
 
@@ -152,7 +156,7 @@ endingRoom = 2 * lineRoom
 -- where its text ends, and the bytes then. Without room for an event nothing is put or remembered.
 unfoldable pub shownAt : ℕ → ℕ → Printer → Event → Shown
 shownAt room n p e = record {
-  memory = cond (hasRoom eventRoom n room) (remembered p e) (p .memory);
+  notes = cond (hasRoom eventRoom n room) (remembered p e) (p .notes);
   n = placeWith eventRoom room n (shownText p e);
 }
 

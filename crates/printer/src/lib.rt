@@ -33,11 +33,11 @@ pub enum Channel {
 }
 
 // What a printer remembers from event to event: these two, nothing.
-pub struct Memory {}
+pub struct Notes {}
 
 // What it remembers after an event, and where the event's text ends.
 pub struct Shown {
-    pub memory: Memory,
+    pub notes: Notes,
     pub n: usize,
 }
 
@@ -48,10 +48,10 @@ pub const EVENT_ROOM: usize = LINE + TRACE_ROOM;
 pub const ENDING_ROOM: usize = 2 * LINE;
 
 // Before the first event.
-pub fn start() -> Memory
+pub fn start() -> Notes
     ensures { λ r. ⌜ r ≡ atStart ⌝ }
 {
-    Memory {}
+    Notes {}
 }
 
 // The kinds of records that the program of this printer takes.
@@ -65,24 +65,24 @@ pub fn kinds_taken(shows: u8) -> [u16; 7]
 // left after n, nothing is put and the memory stays
 
 // Nothing is put, and the memory stays.
-fn unshown(memory: Memory, n: usize) -> Shown
-    ensures { λ r. ⌜ r ≡ record { memory = memory; n = n } ⌝ }
+fn unshown(notes: Notes, n: usize) -> Shown
+    ensures { λ r. ⌜ r ≡ record { notes = notes; n = n } ⌝ }
 {
-    Shown { memory, n }
+    Shown { notes, n }
 }
 
 // Settings.
-pub fn began(shows: u8, memory: Memory, run: Run, out: &mut [u8], n: usize) -> Shown
-    ensures { λ r. ⌜ ShownIn (printerBy shows memory) (E.began run) (now (out .entry)) n r (now (out .exit)) ⌝ }
+pub fn began(shows: u8, notes: Notes, run: Run, out: &mut [u8], n: usize) -> Shown
+    ensures { λ r. ⌜ ShownIn (printerBy shows notes) (E.began run) (now (out .entry)) n r (now (out .exit)) ⌝ }
 {
-    unshown(memory, n)
+    unshown(notes, n)
 }
 
 // A reset.
-pub fn restarted(shows: u8, memory: Memory, run: Run, out: &mut [u8], n: usize) -> Shown
-    ensures { λ r. ⌜ ShownIn (printerBy shows memory) (E.restarted run) (now (out .entry)) n r (now (out .exit)) ⌝ }
+pub fn restarted(shows: u8, notes: Notes, run: Run, out: &mut [u8], n: usize) -> Shown
+    ensures { λ r. ⌜ ShownIn (printerBy shows notes) (E.restarted run) (now (out .entry)) n r (now (out .exit)) ⌝ }
 {
-    unshown(memory, n)
+    unshown(notes, n)
 }
 
 fn put_ticked(shows: u8, verdict: SafetyVerdict, run: Run, out: &mut [u8], n: usize) -> usize
@@ -100,7 +100,7 @@ fn put_ticked(shows: u8, verdict: SafetyVerdict, run: Run, out: &mut [u8], n: us
 // A tick: its input and its positions as they came, the guard's bits, the verdict, the fuse after it.
 pub fn ticked(
     shows: u8,
-    memory: Memory,
+    notes: Notes,
     input: TickInput,
     pos: &[f64],
     guard: u32,
@@ -109,13 +109,13 @@ pub fn ticked(
     out: &mut [u8],
     n: usize,
 ) -> Shown
-    ensures { λ r. ⌜ ShownIn (printerBy shows memory) (E.ticked (record { input = input; pos = now (pos .entry); guard = guard; verdict = verdict; run = run })) (now (out .entry)) n r (now (out .exit)) ⌝ }
+    ensures { λ r. ⌜ ShownIn (printerBy shows notes) (E.ticked (record { input = input; pos = now (pos .entry); guard = guard; verdict = verdict; run = run })) (now (out .entry)) n r (now (out .exit)) ⌝ }
 {
     if has_room(EVENT_ROOM, n, out.len()) {
         let end = put_ticked(shows, verdict, run, out, n);
-        return Shown { memory, n: end };
+        return Shown { notes, n: end };
     }
-    unshown(memory, n)
+    unshown(notes, n)
 }
 
 // ---- the ending
@@ -130,8 +130,8 @@ pub fn ending_on(shows: u8, refused: u8) -> Channel
 // Puts the text of a journal's ending, `refused` the number of its refusal or 0, to the front of
 // memory, and answers how many bytes it has. Where there are fewer than ENDING_ROOM bytes, it puts
 // nothing.
-pub fn ended(shows: u8, memory: Memory, run: Run, refused: u8, place: u64, out: &mut [u8]) -> usize
-    ensures { λ r. ⌜ EndedIn (endingBy (printerBy shows memory) run refused place) (now (out .entry)) r (now (out .exit)) ⌝ }
+pub fn ended(shows: u8, notes: Notes, run: Run, refused: u8, place: u64, out: &mut [u8]) -> usize
+    ensures { λ r. ⌜ EndedIn (endingBy (printerBy shows notes) run refused place) (now (out .entry)) r (now (out .exit)) ⌝ }
 {
     if out.len() < ENDING_ROOM {
         return 0;

@@ -35,11 +35,11 @@ nothing-requires c κs = tt
 loop-holds : tie.Need-loop-holds Inv-loop μ-loop
 loop-holds c =
     let reads = c .before in
-    let memory = reads .before in
-    let run = memory .before in
+    let notes = reads .before in
+    let run = notes .before in
     let reader = run .before in
     let start = reader .before .before .before .before in
-    let first = past-first _ _ _ _ _ _ _ _ _ (reader .start .ensures) (run .start2 .ensures) (memory .start3 .ensures) (reads .no-reads .ensures) (c .nothing .ensures) (start .pre .1) in
+    let first = past-first _ _ _ _ _ _ _ _ _ (reader .start .ensures) (run .start2 .ensures) (notes .start3 .ensures) (reads .no-reads .ensures) (c .nothing .ensures) (start .pre .1) in
     (first, sound-first _ _ _ _ _ _ (reads .no-reads .ensures) (c .nothing .ensures), refl, refl, refl)
 
 go-on-requires : tie.Need-go-on-requires Inv-loop μ-loop

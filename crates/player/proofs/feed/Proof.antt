@@ -22,7 +22,7 @@ goes-on-requires c κs = search needs
 loop-holds : tie.Need-loop-holds Inv-loop μ-loop
 loop-holds c =
     let a = c .before .before .before .before .args in
-    since-first (a .kinds .now) (playingFrom (printerBy (a .shows) (a .memory)) (a .rd) (a .run) (a .lists .now)) _ _ _ (c .goes-on .ensures)
+    since-first (a .kinds .now) (playingFrom (printerBy (a .shows) (a .notes)) (a .rd) (a .run) (a .lists .now)) _ _ _ (c .goes-on .ensures)
 
 play-on-requires : tie.Need-play-on-requires Inv-loop μ-loop
 play-on-requires c κs =
@@ -52,7 +52,7 @@ same-length c = c .before .loop .inv .long
 returns : tie.Need-returns Inv-loop μ-loop
 returns c =
     let a = c .before .before .before .before .before .before .args in
-    fed-is (a .kinds .now) (playingFrom (printerBy (a .shows) (a .memory)) (a .rd) (a .run) (a .lists .now)) _ _ _ _ _ _ refl (c .loop-test .left) (c .before .loop .inv)
+    fed-is (a .kinds .now) (playingFrom (printerBy (a .shows) (a .notes)) (a .rd) (a .run) (a .lists .now)) _ _ _ _ _ _ refl (c .loop-test .left) (c .before .loop .inv)
 
 pub feed-spec : {M : Type 1} → statement M
 feed-spec =

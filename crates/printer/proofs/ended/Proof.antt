@@ -22,7 +22,7 @@ returns-2 : tie.Need-returns-2
 returns-2 c =
     let line = c .before .before .before in
     let a = line .before .before .before .before .before .args in
-    ending-put _ _ _ _ (omega arith) (line .refused-line .ensures) (refused-fits _ _) (refused-line-by (printerBy (a .shows) (a .memory)) (a .run) (a .place) (a .refused) (line .before .before .if2 .taken)) _ _ (c .before .before .put-line .ensures)
+    ending-put _ _ _ _ (omega arith) (line .refused-line .ensures) (refused-fits _ _) (refused-line-by (printerBy (a .shows) (a .notes)) (a .run) (a .place) (a .refused) (line .before .before .if2 .taken)) _ _ (c .before .before .put-line .ensures)
 
 end-line-requires : tie.Need-end-line-requires
 end-line-requires c κs = search needs
@@ -38,7 +38,7 @@ returns-3 c =
     let line = c .before .before .before in
     let asked = line .before .before .before .before in
     let a = asked .before .before .before .args in
-    ending-put _ _ _ _ (omega arith) (line .end-line .ensures) (end-fits _) (end-line-by (printerBy (a .shows) (a .memory)) (a .run) (a .place) (a .refused) (asked .if2 .left)) _ _ (c .before .before .put-line2 .ensures)
+    ending-put _ _ _ _ (omega arith) (line .end-line .ensures) (end-fits _) (end-line-by (printerBy (a .shows) (a .notes)) (a .run) (a .place) (a .refused) (asked .if2 .left)) _ _ (c .before .before .put-line2 .ensures)
 
 pub ended-spec : {M : Type 1} → statement M
 ended-spec =
