@@ -13,7 +13,7 @@ use Rattle.journal_refusals.specs.declared.Judged.{Judged}
 use Rattle.journal_reader.specs.State.{State, seenIn}
 use Rattle.journal.specs.Journal.{ended, refused, journalOf}
 
--- what the table says of the record whose kind byte is at place p, for a reader that is left so
+-- what the table says of the record whose kind byte is at place p, for the reader that comes to it
 unfoldable pub judgedAt : List ℕ → State → List ℕ → ℕ → Judged
 judgedAt kinds st s p =
     let k = byteAt s p in

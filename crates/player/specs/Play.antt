@@ -110,7 +110,7 @@ abbrev pub numberAt : End Refusal → ℕ
 numberAt awaits = 0
 numberAt (halted r) = numberOf r
 
--- the reader comes to rest at once, before all of s
+-- of s nothing can be taken: the reader stays where it is, and `number` says why
 pub record Rests (kinds : List ℕ) (st : State) (s : List ℕ) (number : ℕ) : Type 0 where
   pub end : End Refusal
   pub number-is : number ≡ numberAt end

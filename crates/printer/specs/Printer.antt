@@ -110,7 +110,7 @@ sentTo Output s Errors = []
 sentTo Errors s Output = []
 sentTo Errors s Errors = s
 
--- all that is printed on a channel for these events, of which the fuse is left so, and this ending
+-- what a channel has of a journal with these events and this ending, after which the fuse is `run`
 abbrev pub printedOn : Channel → Printer → List Event → Run → Ending → List ℕ
 printedOn c p es run e = sentTo Output (printed p es) c ++ sentTo (endingOn (p .shows) e) (endingText (printerAfterAll p es) run e) c
 
