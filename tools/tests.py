@@ -130,6 +130,7 @@ REFUSALS = [
     (3, "settings tau=nan", "tau is nan"),
     (4, "settings box_lo=-1,-1,2,-1", "pair 2: box_lo 2 is above box_hi 1"),
     (5, "settings\nreset\nraw 0800", "the kind is 8"),
+    (5, "settings\nraw " + b"settings".hex(), "the bytes are text: tools/journal write makes a journal of it"),
     (6, "settings\nreset\nraw 0700", "tick has 9 bytes of body, and 1 byte came"),
     (7, "settings\nreset\n" + "value pos 0\n" * 17, "pos has its 16 values already"),
     (8, "reset", "reset came first"),
@@ -236,7 +237,7 @@ def explain_outputs():
     os.close(reader)
     done = subprocess.run(["tools/explain"], input=STORY, stdout=writer, stderr=subprocess.PIPE, cwd=TOP, timeout=60)
     os.close(writer)
-    expect(done.returncode == 2 and b"Traceback" not in done.stderr, done.stderr)
+    expect(done.returncode == 2 and done.stderr == b"", done.stderr)
 
 
 def peak(command, parts):
@@ -452,8 +453,24 @@ def explain_page_that_fails():
     file.write_text("as before")
     status, _, said = explain(STORY, "--html", file, "--trace", "/bin/false")
     expect(status == 2 and file.read_text() == "as before" and sorted(OUT.glob("kept*")) == [file], said)
-    status, _, said = explain(STORY, "--html", "/dev/full/page.html")
-    expect(status == 2 and "Traceback" not in said, said)
+    status, _, said = explain(STORY, "--html", OUT / "no/page.html")
+    expect((status, said) == (2, f"explain: {OUT / 'no/page.html'}: No such file or directory\n"), said)
+
+
+def explain_page_to_other_places():
+    """A link stays a link, and a pipe a pipe."""
+    link, file, pipe = OUT / "link.html", OUT / "page.html", OUT / "pipe.html"
+    for one in (link, file, pipe):
+        one.unlink(missing_ok=True)
+    link.symlink_to(file)
+    expect(explain(STORY, "--html", link)[0] == 0 and link.is_symlink() and file.stat().st_size > 1000, "the link")
+    os.mkfifo(pipe)
+    with open(OUT / "story.journal", "wb") as given:
+        given.write(STORY)
+    child = subprocess.Popen(["tools/explain", OUT / "story.journal", "--html", pipe], cwd=TOP)
+    text = pipe.read_text()
+    expect(child.wait(60) == 0 and pipe.is_fifo(), "the pipe")
+    expect(text.replace("Journal story.journal", "Journal") == file.read_text(), "another page")
 
 
 def explain_picture():
@@ -478,7 +495,24 @@ def journal_all_or_nothing():
     has(said, "line 3: expected one of settings, reset,", "line 4: tick t: expected a number, found 'x'", "line 6: ack: expected NAME=VALUE with NAME one of decision, slot, nonce, handoff")
     has(said, "3 wrong lines, nothing is written")
     status, out, said = journal("write", b"what\n" * 1000)
-    expect((status, out) == (1, b"") and said.count("\n") == 21, said)
+    expect((status, out) == (1, b"") and said.count("\n") == 1001, said)
+    has(said, "line 1000: ", "1000 wrong lines, nothing is written")
+
+
+def journal_of_another_kind():
+    """A journal in place of text is noticed; nothing that a terminal obeys is printed, and no long word."""
+    status, out, said = journal("write", STORY)
+    expect((status, out) == (1, b""), f"status {status}")
+    has(said, "this begins as a journal does")
+    _, _, said = journal("write", b"what\x1b[31m\n" + b"x" * 10000)
+    expect("\x1b" not in said and len(said) < 400, said)
+
+
+def journal_commands():
+    for words, what in (("", "journal write < TEXT"), ("reed", "'reed' is not known"), ("read --place", "'read --place' is not known"), ("write x", "is not known")):
+        status, out, said = journal(words, b"")
+        expect((status, out) == (2, b""), f"{words}: {status}")
+        has(said, what)
 
 
 def journal_numbers():
@@ -490,7 +524,7 @@ def journal_numbers():
         ("value pos -1e999", "value x: -1e999 is too large for a float"),
         ("value pos .", "expected a float"),
         ("settings mode=enforced", "settings mode: expected one of observe, enforce, or a number; found 'enforced'"),
-        ("settings mode=256", "settings mode: expected a number below 256, found 256"),
+        ("settings mode=256", "settings mode: expected a number below 256, found '256'"),
         ("value hand 0", "value list: expected one of chunk, pos, vel, aux, ext, or a number; found 'hand'"),
         ("tick t=-1", "tick t: expected a number, found '-1'"),
     ):
