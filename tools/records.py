@@ -176,6 +176,44 @@ def values(b):
     return fields
 
 
+# ---- what the check of a record looks at
+
+# codes and flags with their last number
+LISTED = {
+    1: [("mode", 1), ("kind", 4), ("clamp", 1), ("rearm", 1)],
+    3: [("decision", 2)],
+    5: [("list", 4)],
+    6: [("feasible", 1)],
+    7: [("schema", 1), ("vel", 1)],
+}
+
+
+def decimal(x):
+    text = repr(x)
+    return text[:-2] if text.endswith(".0") else text
+
+
+def wrong(number, b):
+    """What of a record meets refusal 1, 2, 3 or 4."""
+    of, kind = values(b), b[0]
+    if number == 1:
+        return [f"{key} is {of[key]}, and 0 to {last} are listed" for key, last in LISTED.get(kind, []) if of[key] > last]
+    if kind != 1:
+        return []
+    if number == 2:
+        ranges = [("dim", 1, 8), ("pos_dim", 1, 8), ("horizon", 1, 64), ("exec", 1, of["horizon"])]
+        return [f"{key} is {of[key]}, not {low} to {high}" for key, low, high in ranges if not low <= of[key] <= high]
+    if number == 3:
+        floats = [(key, of[key]) for key in ("dt", "inv_dt", "a_max", "v_stop_eps", "warn_margin", "tau")]
+        floats += [(f"{key} {i}", x) for key in ("box_lo", "box_hi") for i, x in enumerate(of[key])]
+        return [f"{key} is {x!r}" for key, x in floats if x != x or x - x != 0 and key != "tau"]
+    pairs = enumerate(zip(of["box_lo"], of["box_hi"]))
+    return [f"pair {i}: box_lo {decimal(lo)} is above box_hi {decimal(hi)}" for i, (lo, hi) in pairs if lo > hi]
+
+
+# ---- a journal, record by record
+
+
 def stream(parts):
     """The records of a journal that comes in parts: (place, bytes).
 

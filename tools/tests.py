@@ -657,10 +657,26 @@ def settings_that_warnings_tell_true():
 
 
 def settings_refused():
-    for number, text in ((1, "kind=9"), (2, "horizon=0"), (3, "dt=nan"), (3, "inv_dt=inf"), (4, "box_lo=2"), (1, "mode=2 dim=0 dt=nan")):
+    for number, text, words in (
+        (1, "kind=9", "  kind is 9, and 0 to 4 are listed\n"),
+        (2, "horizon=0", "  horizon is 0, not 1 to 64\n"),
+        (3, "dt=nan", "  dt is nan\n"),
+        (3, "inv_dt=inf tau=inf", "  inv_dt is inf\n"),
+        (4, "box_lo=-1,2", "  pair 1: box_lo 2 is above box_hi 1\n"),
+        (1, "mode=2 dim=0 dt=nan", "  mode is 2, and 0 to 1 are listed\n"),
+    ):
         status, out, _ = settings("settings " + text)
         expect(status == 1, f"{text}: status {status}")
-        has(out, f"refused {number}: ")
+        has(out, f"refused {number}: ", words)
+        expect("tau is" not in out.split("warning")[0], out)
+
+
+def settings_outputs():
+    reader, writer = os.pipe()
+    os.close(reader)
+    done = subprocess.run(["tools/settings"], input=b"settings", stdout=writer, stderr=subprocess.PIPE, cwd=TOP, timeout=60)
+    os.close(writer)
+    expect(done.returncode == 2 and done.stderr == b"", done.stderr)
 
 
 def settings_failures():
