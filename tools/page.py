@@ -180,8 +180,8 @@ class Picture:
         for first, last, length in found:
             begin = first if first is not None else 0
             n = (last + 1 if last is not None else len(self.ticks)) - begin
-            # a frame that is not whole stays open at the right, where it goes on
-            self.bar("span", begin, min(self.limit + 1, len(self.ticks) - begin + 1) if first is not None else n, self.y, 9)
+            # a frame that goes on after the last tick is cut by the plot's edge, and so stays open there
+            self.bar("span", begin, min(self.limit + 1, 2 * len(self.ticks) + LEAST) if first is not None else n, self.y, 9)
             self.bar("s4", begin, n, self.y, 9)
         self.y += 21
         free = 0
