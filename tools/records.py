@@ -38,6 +38,12 @@ class Bad(Exception):
     """Text that is no record; the message says what was expected."""
 
 
+def found(text):
+    """A word as it is shown: short, and without what a terminal would obey."""
+    short = text if len(text) <= 60 else text[:60] + ".."
+    return "found '" + "".join(c if c.isprintable() else "?" for c in short) + "'"
+
+
 def width(form):
     return 1 if isinstance(form, list) else form if isinstance(form, int) else 8 * form[1]
 
@@ -56,11 +62,11 @@ FORM = {
 
 def number(text, size, what):
     if not re.fullmatch(r"\+?(0[xX][0-9a-fA-F]+|[0-9]+)", text):
-        raise Bad(f"{what}: expected a number, found '{text}'")
+        raise Bad(f"{what}: expected a number, {found(text)}")
     text = text.lstrip("+")
     n = int(text, 0) if text[:2] in ("0x", "0X") else int(text)
     if n >= 256**size:
-        raise Bad(f"{what}: expected a number below {256**size}, found {n}")
+        raise Bad(f"{what}: expected a number below {256**size}, {found(text)}")
     return n.to_bytes(size, "little")
 
 
@@ -68,7 +74,7 @@ def code(text, names, what):
     if text in names:
         return bytes([names.index(text)])
     if not re.fullmatch(r"\+?[0-9][0-9a-fA-FxX]*", text):
-        raise Bad(f"{what}: expected one of {', '.join(names)}, or a number; found '{text}'")
+        raise Bad(f"{what}: expected one of {', '.join(names)}, or a number; {found(text)}")
     return number(text, 1, what)
 
 
@@ -77,7 +83,7 @@ def double(text, what):
     if m:
         return int(m.group(1), 16).to_bytes(8, "little")
     if not re.fullmatch(r"[+-]?(inf|nan|([0-9]+\.?[0-9]*|\.[0-9]+)([eE][+-]?[0-9]+)?)", text):
-        raise Bad(f"{what}: expected a float (decimal, inf, -inf, nan or bits:HEX), found '{text}'")
+        raise Bad(f"{what}: expected a float (decimal, inf, -inf, nan or bits:HEX), {found(text)}")
     x = float(text)
     if x in (float("inf"), float("-inf")) and "inf" not in text:
         raise Bad(f"{what}: {text} is too large for a float; infinity is written inf or -inf")
@@ -106,7 +112,7 @@ def record(words):
             raise Bad("raw: expected an even number of hex digits")
         return bytes.fromhex(words[1])
     if words[0] not in KINDS:
-        raise Bad(f"expected one of {', '.join(KINDS)}, raw; found '{words[0]}'")
+        raise Bad(f"expected one of {', '.join(KINDS)}, raw; {found(words[0])}")
     kind = KINDS[words[0]]
     name, fields = RECORDS[kind]
     if name == "value" and len(words) == 3 and "=" not in words[1] + words[2]:
@@ -115,7 +121,7 @@ def record(words):
     for w in words[1:]:
         key, eq, text = w.partition("=")
         if not eq or key not in [f[0] for f in fields]:
-            raise Bad(f"{name}: expected NAME=VALUE with NAME one of {', '.join(f[0] for f in fields) or 'none'}; found '{w}'")
+            raise Bad(f"{name}: expected NAME=VALUE with NAME one of {', '.join(f[0] for f in fields) or 'none'}; {found(w)}")
         if key in given:
             raise Bad(f"{name}: {key} is there twice")
         given[key] = text
@@ -159,15 +165,53 @@ def text(b, defaults=False):
 
 def values(b):
     """The fields of a record by name; a list of floats is a tuple."""
-    flat, at, found = FORM[b[0]].unpack(b), 0, {}
+    flat, at, fields = FORM[b[0]].unpack(b), 0, {}
     for key, form, _ in RECORDS[b[0]][1]:
         if isinstance(form, tuple) and form[1] > 1:
-            found[key] = flat[at : at + form[1]]
+            fields[key] = flat[at : at + form[1]]
             at += form[1]
         else:
-            found[key] = flat[at]
+            fields[key] = flat[at]
             at += 1
-    return found
+    return fields
+
+
+# ---- what the check of a record looks at
+
+# codes and flags with their last number
+LISTED = {
+    1: [("mode", 1), ("kind", 4), ("clamp", 1), ("rearm", 1)],
+    3: [("decision", 2)],
+    5: [("list", 4)],
+    6: [("feasible", 1)],
+    7: [("schema", 1), ("vel", 1)],
+}
+
+
+def decimal(x):
+    text = repr(x)
+    return text[:-2] if text.endswith(".0") else text
+
+
+def wrong(number, b):
+    """What of a record meets refusal 1, 2, 3 or 4."""
+    of, kind = values(b), b[0]
+    if number == 1:
+        return [f"{key} is {of[key]}, and 0 to {last} are listed" for key, last in LISTED.get(kind, []) if of[key] > last]
+    if kind != 1:
+        return []
+    if number == 2:
+        ranges = [("dim", 1, 8), ("pos_dim", 1, 8), ("horizon", 1, 64), ("exec", 1, of["horizon"])]
+        return [f"{key} is {of[key]}, not {low} to {high}" for key, low, high in ranges if not low <= of[key] <= high]
+    if number == 3:
+        floats = [(key, of[key]) for key in ("dt", "inv_dt", "a_max", "v_stop_eps", "warn_margin", "tau")]
+        floats += [(f"{key} {i}", x) for key in ("box_lo", "box_hi") for i, x in enumerate(of[key])]
+        return [f"{key} is {x!r}" for key, x in floats if x != x or x - x != 0 and key != "tau"]
+    pairs = enumerate(zip(of["box_lo"], of["box_hi"]))
+    return [f"pair {i}: box_lo {decimal(lo)} is above box_hi {decimal(hi)}" for i, (lo, hi) in pairs if lo > hi]
+
+
+# ---- a journal, record by record
 
 
 def stream(parts):

@@ -1,5 +1,6 @@
 """The tests of tools/explain, tools/journal and tools/settings; tools/run runs them."""
 
+import html
 import html.parser
 import importlib.machinery
 import importlib.util
@@ -129,6 +130,7 @@ REFUSALS = [
     (3, "settings tau=nan", "tau is nan"),
     (4, "settings box_lo=-1,-1,2,-1", "pair 2: box_lo 2 is above box_hi 1"),
     (5, "settings\nreset\nraw 0800", "the kind is 8"),
+    (5, "settings\nraw " + b"settings".hex(), "the bytes are text: tools/journal write makes a journal of it"),
     (6, "settings\nreset\nraw 0700", "tick has 9 bytes of body, and 1 byte came"),
     (7, "settings\nreset\n" + "value pos 0\n" * 17, "pos has its 16 values already"),
     (8, "reset", "reset came first"),
@@ -235,7 +237,7 @@ def explain_outputs():
     os.close(reader)
     done = subprocess.run(["tools/explain"], input=STORY, stdout=writer, stderr=subprocess.PIPE, cwd=TOP, timeout=60)
     os.close(writer)
-    expect(done.returncode == 2 and b"Traceback" not in done.stderr, done.stderr)
+    expect(done.returncode == 2 and done.stderr == b"", done.stderr)
 
 
 def peak(command, parts):
@@ -329,21 +331,48 @@ def explain_page():
         has(file.read_text(), "refused 9: a second one" if status else "end: ")
 
 
-# What a browser gives the page's script: here each figure with its ticks, and what it listens to.
+def explain_page_counts():
+    """What has no picture is counted: resets without a tick, and ticks that a page has no room for."""
+    file = OUT / "page.html"
+    for text, count in (("settings", 0), ("settings\nreset", 1), (BEGIN + FIRST, 0), (BEGIN + FIRST + "reset\nreset\n" + FIRST + "reset", 2)):
+        explain(made(text), "--html", file)
+        found = re.findall(r"Resets without a tick: (\d+)", file.read_text())
+        expect(found == ([str(count)] if count else []), f"{text}: {found}")
+    status, _, said = explain(STORY[:221] + STORY[221:] * 1100, "--html", file)
+    texts = [text for figure in Page(file.read_text()).figures for text in figure]
+    expect(status == 0 and len(texts) == 12 * 500, f"{len(texts)} ticks, {said}")
+    has(file.read_text(), "The first 7200 ticks are left out")
+    tool = module("explain")
+    tool.page.MOST = 50
+    ticks = "".join(f"value pos 0\noutcome\ntick t={t} idx=1\n" for t in range(1, 260))
+    (OUT / "long.journal").write_bytes(made(BEGIN + FIRST + ticks))
+    said = []
+    tool.draw(tool.Story(tool.Trace(str(TOP / "target/bin/trace"), os.open(OUT / "long.journal", os.O_RDONLY))), said.append, "", None)
+    texts = [text for figure in Page("".join(said)).figures for text in figure]
+    expect([text.split(",")[0] for text in texts] == [f"seq {n}" for n in range(210, 260)], texts[:2])
+    has("".join(said), "without its first 210 ticks")
+
+
+# What the page's script gets of a browser, for node: a figure with its ticks, and what it listens to.
 STAGE = """
 const text = require('fs').readFileSync(0, 'utf8');
 const listens = {}, mark = { set: {}, setAttribute(k, v) { this.set[k] = v; } }, said = { textContent: '' };
-const plot = { dataset: { step: text.match(/data-step="([^"]+)"/)[1] }, querySelector: () => mark, parentElement: { scrollLeft: 0, clientWidth: 50 },
+const plot = { set: {}, dataset: { step: text.match(/data-step="([^"]+)"/)[1] }, querySelector: () => mark, querySelectorAll: () => [],
+  parentElement: { scrollLeft: 0, clientWidth: 240 }, setAttribute(k, v) { this.set[k] = v; },
   addEventListener: (name, f) => { listens[name] = f; }, getBoundingClientRect: () => ({ left: 100 }) };
 const data = { textContent: text.match(/<script type="application\\/json">([^]*?)<\\/script>/)[1] };
-const figure = { querySelector: (q) => ({ script: data, 'svg.plot': plot, output: said })[q] };
-global.document = { querySelectorAll: () => [figure] };
+const buttons = ['whole', 'wider', 'closer'].map((name) => ({ name, addEventListener: (_, f) => { listens[name] = f; } }));
+const figure = { querySelector: (q) => ({ script: data, 'svg.plot': plot, output: said })[q], querySelectorAll: () => buttons };
+global.document = { querySelectorAll: () => [figure], querySelector: () => plot.parentElement };
 eval(text.match(/<script>([^]*?)<\\/script>/)[1]);
-const step = Number(plot.dataset.step), told = [];
-const tell = () => told.push(said.textContent.split(':')[0], Math.round(mark.set.x / step));
-listens.pointermove({ clientX: 100 + 8.5 * step }); tell();
-listens.pointerdown({ clientX: 100 + 2.5 * step }); tell();
+const told = [];
+const tell = () => told.push(said.textContent.split(':')[0], mark.set.x / (plot.set.width / 12));
+listens.pointermove({ clientX: 100 + 170 }); tell();
+listens.pointerdown({ clientX: 100 + 50 }); tell();
 listens.keydown({ key: 'ArrowRight', preventDefault() {} }); tell();
+listens.closer(); told.push(plot.set.width, plot.parentElement.scrollLeft);
+listens.pointermove({ clientX: 100 + 170 }); tell();
+listens.whole(); told.push(plot.set.width);
 listens.pointermove({ clientX: 99999 }); tell();
 listens.keydown({ key: 'PageUp', preventDefault() {} }); tell();
 console.log(JSON.stringify(told));
@@ -351,23 +380,72 @@ console.log(JSON.stringify(told));
 
 
 def explain_page_shows_a_tick():
-    """The page's script, with node in place of a browser: pointing, tapping and keys show the tick."""
+    """The page's script, with node in place of a browser: pointing, tapping, keys and buttons."""
     if not shutil.which("node"):
         raise Skipped("no node")
     file = OUT / "page.html"
     explain(STORY, "--html", file)
     done = run("node", "-e", STAGE, given=file.read_bytes())
     expect(done.returncode == 0, done.stderr.decode())
-    told = [part for n in (8, 2, 3, 11, 0) for part in (f"seq {n}, t {n}", n)]
-    expect(json.loads(done.stdout) == told, done.stdout)
+    at = lambda n: [f"seq {n}, t {n}", n]  # noqa: E731
+    expect(json.loads(done.stdout) == [*at(8), *at(2), *at(3), 480, 0, *at(4), 240, *at(11), *at(0)], done.stdout)
 
 
-def explain_page_of_a_long_journal():
+# In a browser: what is said where a tick is pointed at, and texts that are cut or in each other's place.
+LOOK = """<script>
+const told = { said: [], cut: [], mixed: [], wider: document.documentElement.scrollWidth > innerWidth };
+const look = (figure) => {
+  for (const svg of figure.querySelectorAll('svg')) {
+    const box = svg.getBoundingClientRect(), seen = [];
+    for (const text of svg.querySelectorAll('text')) {
+      if (text.getAttribute('visibility') === 'hidden') continue;
+      const at = text.getBoundingClientRect();
+      if (at.left < box.left || at.right > box.right + 1 || at.bottom > box.bottom + 1) told.cut.push(text.textContent);
+      for (const other of seen) {
+        const o = other.getBoundingClientRect();
+        if (at.left < o.right && o.left < at.right && at.top + 3 < o.bottom && o.top + 3 < at.bottom) told.mixed.push(other.textContent + ' and ' + text.textContent);
+      }
+      seen.push(text);
+    }
+  }
+};
+document.querySelectorAll('section').forEach((section) => { section.style.contentVisibility = 'visible'; });
+for (const figure of document.querySelectorAll('figure')) {
+  const plot = figure.querySelector('svg.plot'), ticks = JSON.parse(figure.querySelector('script').textContent);
+  look(figure);
+  figure.querySelector('button[name=closer]').click();
+  look(figure);
+  figure.querySelector('button[name=whole]').click();
+  look(figure);
+  const box = plot.getBoundingClientRect(), step = Math.min(80, plot.parentElement.clientWidth / ticks.length);
+  ticks.forEach((text, i) => {
+    const event = { clientX: box.left + (i + 0.5) * step, clientY: box.top + 9, bubbles: true };
+    plot.dispatchEvent(new PointerEvent(i % 2 ? 'pointerdown' : 'pointermove', event));
+    told.said.push(figure.querySelector('output').textContent === text);
+  });
+}
+document.body.textContent = 'TOLD' + JSON.stringify(told) + 'TOLD';
+</script>"""
+
+
+def explain_page_in_a_browser():
+    """At two widths: every tick is told where it is pointed at, and no text is cut or lies on another."""
+    browser = next(filter(None, map(shutil.which, ("chromium", "chromium-browser", "google-chrome"))), None)
+    if not browser:
+        raise Skipped("no chromium")
     file = OUT / "page.html"
-    status, _, said = explain(STORY[:221] + STORY[221:] * 3400, "--html", file)
-    texts = [text for figure in Page(file.read_text()).figures for text in figure]
-    expect(status == 0 and len(texts) == 20000, f"{len(texts)} ticks, {said}")
-    has(file.read_text(), "The first 20800 ticks are left out")
+    for given, ticks in ((STORY, 12), ((TOP / "crates/trace/stdin").read_bytes(), None)):
+        explain(given, "--html", file)
+        ticks = ticks or sum(map(len, Page(file.read_text()).figures))
+        file.write_text(file.read_text() + LOOK)
+        for width in (500, 1280):
+            with tempfile.TemporaryDirectory() as own:
+                done = run(browser, "--headless", "--no-sandbox", "--disable-gpu", f"--user-data-dir={own}", f"--window-size={width},800", "--dump-dom", file.as_uri())
+            found = re.search(r"TOLD(.*)TOLD", done.stdout.decode())
+            expect(found, f"{width}: the script did not end: {done.stdout.decode()[-300:]}")
+            told = json.loads(html.unescape(found[1]))
+            expect(told["said"] == [True] * ticks, f"{width}: {told['said'].count(True)} of {ticks} ticks are told")
+            expect(not (told["cut"] or told["mixed"] or told["wider"]), f"{width}: cut {told['cut']}, mixed {told['mixed']}, wider {told['wider']}")
 
 
 def explain_page_that_fails():
@@ -375,8 +453,24 @@ def explain_page_that_fails():
     file.write_text("as before")
     status, _, said = explain(STORY, "--html", file, "--trace", "/bin/false")
     expect(status == 2 and file.read_text() == "as before" and sorted(OUT.glob("kept*")) == [file], said)
-    status, _, said = explain(STORY, "--html", "/dev/full/page.html")
-    expect(status == 2 and "Traceback" not in said, said)
+    status, _, said = explain(STORY, "--html", OUT / "no/page.html")
+    expect((status, said) == (2, f"explain: {OUT / 'no/page.html'}: No such file or directory\n"), said)
+
+
+def explain_page_to_other_places():
+    """A link stays a link, and a pipe a pipe."""
+    link, file, pipe = OUT / "link.html", OUT / "page.html", OUT / "pipe.html"
+    for one in (link, file, pipe):
+        one.unlink(missing_ok=True)
+    link.symlink_to(file)
+    expect(explain(STORY, "--html", link)[0] == 0 and link.is_symlink() and file.stat().st_size > 1000, "the link")
+    os.mkfifo(pipe)
+    with open(OUT / "story.journal", "wb") as given:
+        given.write(STORY)
+    child = subprocess.Popen(["tools/explain", OUT / "story.journal", "--html", pipe], cwd=TOP)
+    text = pipe.read_text()
+    expect(child.wait(60) == 0 and pipe.is_fifo(), "the pipe")
+    expect(text.replace("Journal story.journal", "Journal") == file.read_text(), "another page")
 
 
 def explain_picture():
@@ -401,7 +495,24 @@ def journal_all_or_nothing():
     has(said, "line 3: expected one of settings, reset,", "line 4: tick t: expected a number, found 'x'", "line 6: ack: expected NAME=VALUE with NAME one of decision, slot, nonce, handoff")
     has(said, "3 wrong lines, nothing is written")
     status, out, said = journal("write", b"what\n" * 1000)
-    expect((status, out) == (1, b"") and said.count("\n") == 21, said)
+    expect((status, out) == (1, b"") and said.count("\n") == 1001, said)
+    has(said, "line 1000: ", "1000 wrong lines, nothing is written")
+
+
+def journal_of_another_kind():
+    """A journal in place of text is noticed; nothing that a terminal obeys is printed, and no long word."""
+    status, out, said = journal("write", STORY)
+    expect((status, out) == (1, b""), f"status {status}")
+    has(said, "this begins as a journal does")
+    _, _, said = journal("write", b"what\x1b[31m\n" + b"x" * 10000)
+    expect("\x1b" not in said and len(said) < 400, said)
+
+
+def journal_commands():
+    for words, what in (("", "journal write < TEXT"), ("reed", "'reed' is not known"), ("read --place", "'read --place' is not known"), ("write x", "is not known")):
+        status, out, said = journal(words, b"")
+        expect((status, out) == (2, b""), f"{words}: {status}")
+        has(said, what)
 
 
 def journal_numbers():
@@ -413,7 +524,7 @@ def journal_numbers():
         ("value pos -1e999", "value x: -1e999 is too large for a float"),
         ("value pos .", "expected a float"),
         ("settings mode=enforced", "settings mode: expected one of observe, enforce, or a number; found 'enforced'"),
-        ("settings mode=256", "settings mode: expected a number below 256, found 256"),
+        ("settings mode=256", "settings mode: expected a number below 256, found '256'"),
         ("value hand 0", "value list: expected one of chunk, pos, vel, aux, ext, or a number; found 'hand'"),
         ("tick t=-1", "tick t: expected a number, found '-1'"),
     ):
@@ -546,10 +657,26 @@ def settings_that_warnings_tell_true():
 
 
 def settings_refused():
-    for number, text in ((1, "kind=9"), (2, "horizon=0"), (3, "dt=nan"), (3, "inv_dt=inf"), (4, "box_lo=2"), (1, "mode=2 dim=0 dt=nan")):
+    for number, text, words in (
+        (1, "kind=9", "  kind is 9, and 0 to 4 are listed\n"),
+        (2, "horizon=0", "  horizon is 0, not 1 to 64\n"),
+        (3, "dt=nan", "  dt is nan\n"),
+        (3, "inv_dt=inf tau=inf", "  inv_dt is inf\n"),
+        (4, "box_lo=-1,2", "  pair 1: box_lo 2 is above box_hi 1\n"),
+        (1, "mode=2 dim=0 dt=nan", "  mode is 2, and 0 to 1 are listed\n"),
+    ):
         status, out, _ = settings("settings " + text)
         expect(status == 1, f"{text}: status {status}")
-        has(out, f"refused {number}: ")
+        has(out, f"refused {number}: ", words)
+        expect("tau is" not in out.split("warning")[0], out)
+
+
+def settings_outputs():
+    reader, writer = os.pipe()
+    os.close(reader)
+    done = subprocess.run(["tools/settings"], input=b"settings", stdout=writer, stderr=subprocess.PIPE, cwd=TOP, timeout=60)
+    os.close(writer)
+    expect(done.returncode == 2 and done.stderr == b"", done.stderr)
 
 
 def settings_failures():

@@ -130,6 +130,17 @@ fn settings_are_refused_by_their_number() {
     assert!(Fuse::new(Settings { tau: f64::INFINITY, ..settings() }).is_ok());
 }
 
+#[test]
+fn a_refusal_is_an_error_with_words() {
+    let start = |s| -> Result<Fuse, Box<dyn std::error::Error>> { Ok(Fuse::new(s)?) };
+    let said = |s| start(s).unwrap_err().to_string();
+    let codes = "the settings are refused, number 1: a code that is not listed: mode, kind, clamp or rearm";
+    assert_eq!(said(Settings { mode: 2, ..settings() }), codes);
+    let texts: Vec<String> = (1..=5).map(|number| Refused(number).to_string()).collect();
+    assert!(texts.iter().zip(1..).all(|(text, number)| text.contains(&format!("number {number}: "))));
+    assert_eq!(texts.iter().collect::<std::collections::HashSet<_>>().len(), 5);
+}
+
 /// Memory for a run state of which every byte can be looked at, those between the fields too.
 #[derive(Clone, Copy, PartialEq)]
 #[repr(C, align(8))]
