@@ -9,8 +9,6 @@ use native.Mathlib.Decide.{decLe}
 use borrow.Author.Tests.{eqb-true}
 use lib.ListN.{length, take, drop, length-take, length-drop, getD, drop-of-length-le}
 use lib.Seq.{take-all, drop-cons, drop-drop}
-use denote.Enum.Declared.{tagOf}
-use types.Run.{OneOf, miss}
 use lib.Dec.{eqb}
 use lib.Ieee.{Float}
 use Rattle.lictor_core.specs.declared.ack.VerifiedAck.{VerifiedAck}
@@ -20,13 +18,12 @@ use Rattle.lictor_core.specs.declared.fuse.TickInput.{TickInput}
 use Rattle.journal_records.specs.declared.TickNumbers.{TickNumbers}
 use Rattle.journal_records.specs.declared.Record.{Record}
 use Rattle.journal_records.specs.declared.Record.the-variants.{Settings, Reset, Ack, Head, Value, Outcome, Tick}
-use Rattle.journal_records.proofs.Record as R
 use Rattle.journal_frames.specs.declared.Frame.{Frame}
 use Rattle.journal_frames.specs.declared.Frame.the-variants as F
 use Rattle.journal_frames.specs.Frames.{bodyOf, frameOf, onFrame}
 use Rattle.journal_frames.proofs.Frames.{frame-fits}
 use Rattle.journal_records.specs.Kinds.{valueKind}
-use Rattle.journal_records.proofs.Decoded.{decoded}
+use Rattle.journal_records.proofs.Decoded.{decoded-value}
 use Rattle.journal_records.specs.Body.{decodeOf}
 use Rattle.journal_records.specs.Long.{outcomeOf}
 use Rattle.journal_refusals.specs.declared.Refusal.{Refusal}
@@ -50,39 +47,7 @@ use Rattle.stream.specs.Stream.{go, goesOn, size, Reached}
 use Rattle.journal_reader.specs.Reading.{broughtOf, onRecord, onJudged, onWhole, onBytes, whatOf}
 use Rattle.journal_reader.specs.Steps.{stateWith, lookAs, lookIn, lookOf, onLook, Room, isSmall, looksSmall, Added, TookOne, Collected, Instructs, TookStretch}
 use Rattle.stream.proofs.Stream.{impossible, goes, reached-none, reached-one, reached-on}
-use Rattle.journal_reader.proofs.Look as K
 use Rattle.journal_reader.proofs.Reading.{Move, machine, next-frame}
-
--- ---- the arms that kinds share, by the numbers of the cases
-
-abbrev others : List ℕ
-others = 0 ∷ 1 ∷ 5 ∷ 6 ∷ []
-
-abbrev small : List ℕ
-small = 2 ∷ 3 ∷ 4 ∷ []
-
-pub not-small : (x : Record) → OneOf others (tagOf R.the-type x) → isSmall x ≡ false
-not-small Settings k = refl
-not-small Reset k = refl
-not-small (Ack a) k = absurd (miss others 2 tt k)
-not-small (Head h) k = absurd (miss others 3 tt k)
-not-small (Value c x) k = absurd (miss others 4 tt k)
-not-small Outcome k = refl
-not-small (Tick t) k = refl
-
-pub is-small : (x : Record) → OneOf small (tagOf R.the-type x) → isSmall x ≡ true
-is-small Settings k = absurd (miss small 0 tt k)
-is-small Reset k = absurd (miss small 1 tt k)
-is-small (Ack a) k = refl
-is-small (Head h) k = refl
-is-small (Value c x) k = refl
-is-small Outcome k = absurd (miss small 5 tt k)
-is-small (Tick t) k = absurd (miss small 6 tt k)
-
-pub none-found : (x : Look) → OneOf (0 ∷ 1 ∷ []) (tagOf K.the-type x) → looksSmall x ≡ false
-none-found L.Waits k = refl
-none-found (L.Refuses r) k = refl
-none-found (L.Found r n) k = absurd (miss (0 ∷ 1 ∷ []) 2 tt k)
 
 -- ---- records at a place
 
@@ -176,17 +141,10 @@ pub record FoundIs (seen : Seen) (s : List ℕ) (x : Record) (n : ℕ) : Type 0 
   pub room : Room seen x
 
 room-of : (seen : Seen) (k : ℕ) (b : List ℕ) → wholeOf seen k b ≡ Accepted → Room seen (decodeOf k b)
-room-of seen k b e =
-    decoded k b (Room seen)
-    (record {
-      settings = λ p. tt;
-      reset = λ p. tt;
-      ack = λ p. tt;
-      head = λ p. tt;
-      value = λ p. (let f : wholeOf seen valueKind b ≡ Accepted = rw p at e in (accepted-list seen b f, accepted-room seen b f));
-      outcome = λ p. tt;
-      tick = tt;
-    })
+room-of seen k b e c x d =
+    let v = decoded-value k b c x d in
+    let f : wholeOf seen valueKind b ≡ Accepted = rw (v .0) at e in
+    rw (v .1) (accepted-list seen b f, accepted-room seen b f)
 
 found-as : (seen : Seen) (k : ℕ) (b : List ℕ) (m : ℕ) (x : Record) (n : ℕ) (j : Judged) → wholeOf seen k b ≡ j → lookAs k b m j ≡ L.Found x n → (m ≡ n) × Room seen x
 found-as seen k b m x n (Refused r) e f = impossible cc

@@ -57,15 +57,9 @@ onLook st s (L.Found r n) = onRecord st (bodyOf n s) (suc n) r
 
 -- ---- what the functions leave each other
 
--- a value is of a list that has room
+-- where it is a value, its list has room
 abbrev pub Room : Seen → Record → Type 0
-Room seen Settings = Unit
-Room seen Reset = Unit
-Room seen (Ack a) = Unit
-Room seen (Head h) = Unit
-Room seen (Value c x) = (c < length capacities) × (countOf seen c < getD capacities c 0)
-Room seen Outcome = Unit
-Room seen (Tick t) = Unit
+Room seen r = (c : ℕ) (x : Float) → r ≡ Value c x → (c < length capacities) × (countOf seen c < getD capacities c 0)
 
 -- a record that waits and is small: an acknowledgement, a head or a value
 abbrev pub isSmall : Record → Bool

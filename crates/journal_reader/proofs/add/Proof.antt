@@ -1,7 +1,9 @@
 use borrow.Author.Needs.{needs}
-use mathlib.Core.Path.{subst}
-use Rattle.journal_reader.specs.Steps.{Room}
-use Rattle.journal_reader.proofs.Steps.{added-ack, added-head, added-value, added-none, not-small}
+use mathlib.Core.Bool.{false}
+use Rattle.journal_records.proofs.Record as R
+use Rattle.journal_reader.specs.Steps.{isSmall}
+use Rattle.journal_reader.proofs.Arms.{keyed, in-arm}
+use Rattle.journal_reader.proofs.Steps.{added-ack, added-head, added-value, added-none}
 use Rattle.journal_reader.proofs.add.Statement.{statement}
 use Rattle.journal_reader.proofs.add.Tie as tie
 
@@ -27,10 +29,10 @@ enum-known-x-3 : tie.Need-enum-known-x-3
 enum-known-x-3 c = search needs
 
 store-requires : tie.Need-store-requires
-store-requires c κs = subst (Room (c .before .before .before .before .before .args .w .seen)) (c .before .before .x3 .given .1) (c .before .before .before .before .before .pre .1)
+store-requires c κs = let told = c .before .before in told .before .before .before .pre .1 _ _ (told .x3 .given .1)
 
 with-value-requires : tie.Need-with-value-requires
-with-value-requires c κs = subst (Room (c .before .before .before .before .before .before .args .w .seen)) (c .before .before .before .x3 .given .1) (c .before .before .before .before .before .before .pre .1)
+with-value-requires c κs = let told = c .before .before .before in told .before .before .before .pre .1 _ _ (told .x3 .given .1)
 
 returns : tie.Need-returns
 returns c = added-ack _ _ _ _ _ _ _ (c .before .before .x .given .1) (c .with-ack .ensures)
@@ -42,7 +44,9 @@ returns-3 : tie.Need-returns-3
 returns-3 c = added-value _ _ _ _ _ _ _ _ _ (c .before .before .before .before .x3 .given .1) (c .with-value .ensures) (c .before .store .ensures)
 
 returns-4 : tie.Need-returns-4
-returns-4 c = added-none _ _ _ _ _ (not-small (c .before .before .args .x) (c .match .keys4))
+returns-4 c =
+    let x = c .before .before .args .x in
+    added-none _ _ _ _ _ (in-arm R.enum isSmall false x (c .match .keys4) (search (keyed R.enum isSmall false x)))
 
 pub add-spec : {M : Type 1} → statement M
 add-spec =

@@ -4,8 +4,11 @@ use Prim.Native.Nat.{ℕ}
 use mathlib.Core.Bool.{Bool, true, false}
 use mathlib.Core.Path.{_≡_, ap, _∙_}
 use Rattle.journal_records.specs.Long.{outcomeOf}
+use Rattle.journal_records.proofs.Record as R
 use Rattle.stream.proofs.Stream.{impossible}
-use Rattle.journal_reader.proofs.Steps.{body-part, instructs-outcome, instructs-settings, instructs-reset, instructs-tick, is-small}
+use Rattle.journal_reader.specs.Steps.{isSmall}
+use Rattle.journal_reader.proofs.Arms.{keyed, in-arm}
+use Rattle.journal_reader.proofs.Steps.{body-part, instructs-outcome, instructs-settings, instructs-reset, instructs-tick}
 use Rattle.journal_reader.proofs.instruct.Statement.{statement}
 use Rattle.journal_reader.proofs.instruct.Tie as tie
 
@@ -63,7 +66,10 @@ returns-4 : tie.Need-returns-4
 returns-4 c = instructs-tick _ _ _ _ _ _ _ _ (c .before .before .x .given .1) (c .input-of .ensures)
 
 returns-5 : tie.Need-returns-5
-returns-5 c = absurd (never _ (c .before .before .before .pre .1) (is-small (c .before .before .before .args .x) (c .match .keys5)))
+returns-5 c =
+    let start = c .before .before .before in
+    let x = start .args .x in
+    absurd (never _ (start .pre .1) (in-arm R.enum isSmall true x (c .match .keys5) (search (keyed R.enum isSmall true x))))
 
 pub instruct-spec : {M : Type 1} → statement M
 instruct-spec =
