@@ -36,7 +36,8 @@ came-none b have a q reads k h =
       none = λ z. refl;
     }
 
--- memory b, of which a read changed the bytes from place a on, the last of the first `have` bytes or of all
+-- memory b, of which a read changed the bytes from place a on, the last of the first `have` bytes
+-- or of all
 module _ (b : List ℕ) (have a : ℕ) (q : a ≡ min have (length b)) (y : List ℕ) (l : length y ≡ length (take (length b - a) (drop a b))) where
   abbrev after-read : List ℕ
   after-read = putMid a (length b - a) b y

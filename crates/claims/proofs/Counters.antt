@@ -1,4 +1,5 @@
--- What one tick makes of each counter: the proof of specs/Counters, by the rows of the transition table; and what follows at each end.
+-- What one tick makes of each counter: the proof of specs/Counters, by the rows of the transition
+-- table; and what follows at each end.
 use mathlib.Core.Path.{_≡_, refl}
 use mathlib.Core.Bool.{Bool, true, false, cond, _&&_}
 use mathlib.Core.List.{List}

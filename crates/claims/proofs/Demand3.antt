@@ -1,4 +1,5 @@
--- Demand 3: every tick meets the laws of `Law`, so every list of calls meets the claim (specs/Demand3).
+-- Demand 3: every tick meets the laws of `Law`, so every list of calls meets the claim
+-- (specs/Demand3).
 use mathlib.Core.Path.{_≡_, refl, sym, subst, _∙_}
 use mathlib.Core.Bool.{Bool, true, false, cond, not, _||_}
 use mathlib.Core.List.{List, [], _∷_}

@@ -1,4 +1,5 @@
--- The verdict's flag and the consumed acknowledgement: the proof of specs/Flag. The flag goes by the reason, so: which lines of the table give its reasons.
+-- The verdict's flag and the consumed acknowledgement: the proof of specs/Flag. The flag goes by
+-- the reason, so: which lines of the table give its reasons.
 use mathlib.Core.Path.{_≡_, refl, sym}
 use mathlib.Core.Bool.{Bool, true, false, cond, not, _&&_, _||_}
 use mathlib.Core.List.{List}

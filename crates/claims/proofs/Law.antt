@@ -1,4 +1,5 @@
--- What demand 3 needs of one tick, and no more: a law of the arm and a law of the stored nonces; and what they say of a list of ticks.
+-- What demand 3 needs of one tick, and no more: a law of the arm and a law of the stored nonces;
+-- and what they say of a list of ticks.
 use mathlib.Core.Bool.{Bool, not}
 use mathlib.Core.Logic.{_⊎_, inl, inr}
 use mathlib.Core.List.{List}
@@ -13,7 +14,8 @@ use Rattle.claims.proofs.Runs.{Run, answered, latched, within, once}
 
 -- ---- the arm
 
--- as demand 3 sees it: whether it is in Fault; how many ticks an open stop has left (zero: none is open); how many rearms of its own are left
+-- as demand 3 sees it: whether it is in Fault; how many ticks an open stop has left (zero: none is
+-- open); how many rearms of its own are left
 pub record Arm : Type 0 where
   pub faulted : Bool
   pub left : ℕ
@@ -42,7 +44,8 @@ module _ (s : Settings) {c : Arm} {l : List TickSeen} (r : Run (ArmLaw s) c l) w
   pub rearms-by : total rearmsAlone l ≤ c .budget
   rearms-by = within (ArmLaw s) (λ c. c .budget) rearmsAlone (λ c x c′ h. h .spends) r
 
--- ---- the stored nonces, by slot: none falls, and one that is consumed lies above its slot's and is stored
+-- ---- the stored nonces, by slot: none falls, and one that is consumed lies above its slot's and
+-- is stored
 
 pub record NonceLaw (f : ℕ → ℕ) (x : TickSeen) (f′ : ℕ → ℕ) : Type 0 where
   pub kept : (slot : ℕ) → f slot ≤ f′ slot

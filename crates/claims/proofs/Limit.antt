@@ -122,7 +122,8 @@ module _ (cfg : FuseConfig) (rt : Control) (pos : List Float) (inp : FsmInput) (
   unfolding nextByRows settledOf countRun brakingOf confirmedOf standstillRow
   standing h k c m = rw (← tells cfg rt pos inp, braking-rows (rt .state) _ _ _ h, lt-leb _ _ k, m, c, le-leb 1 (rt .«stopped_ticks» + 1) (omega arith)) refl
 
--- ---- what a tick of the stop needs of the run state: a chunk was taken, the clock is at i, the velocity has a first component
+-- ---- what a tick of the stop needs of the run state: a chunk was taken, the clock is at i, the
+-- velocity has a first component
 
 record Running (i : ℕ) (r : FuseRt) : Type 0 where
   filled : r .clock .filled ≡ true

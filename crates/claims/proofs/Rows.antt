@@ -50,12 +50,14 @@ unless : (b : Bool) (m : MaybeAck) → T (none? (cond b NoAck m)) → T (not b) 
 unless true m h n = absurd n
 unless false m h n = h
 
--- A tick from q to p, with the run state r before it and r′ after it; `bits`: a fault bit came; `ack`: the acknowledgement that is accepted.
+-- A tick from q to p, with the run state r before it and r′ after it; `bits`: a fault bit came;
+-- `ack`: the acknowledgement that is accepted.
 module _ (s : Settings) (z : Sized s) (bits : Bool) (ack : MaybeAck) (r r′ : Control) (extra : ℕ) (reason : ReasonCode) where
   abbrev Law : FuseState → FuseState → Type 0
   Law q p = StopLaw (configOf s) q bits ack r (to p extra reason r′)
 
-  -- from a state of an open stop: below each limit its count rises, at the limit the next state's count starts
+  -- from a state of an open stop: below each limit its count rises, at the limit the next state's
+  -- count starts
   falls : (q p : FuseState) → Law q p → 0 < armIn s q r .left → T (not (isState Armed p || (isState Fault p || isState Terminated p)))
       → (0 < armIn s p r′ .left) × (armIn s p r′ .left < armIn s q r .left)
   unfolding configOf
@@ -118,7 +120,8 @@ module _ (s : Settings) (z : Sized s) (bits : Bool) (ack : MaybeAck) (r r′ : C
   stays Fault p l h = or-false (isState Fault p) (l .ends)
   stays Terminated p l h = absurd h
 
-  -- a rearm that consumes no acknowledgement is below the limit and counted; no other tick lowers the count
+  -- a rearm that consumes no acknowledgement is below the limit and counted; no other tick lowers
+  -- the count
   spends : (q p : FuseState) (took : MaybeAck) → took ≡ cond bits NoAck (takenIn q ack) → Law q p
       → cond (isState Armed p && (isState Held q && none? took)) 1 0 + armIn s p r′ .budget ≤ armIn s q r .budget
   unfolding configOf

@@ -21,12 +21,14 @@ module _ {A : Type 0} where
 -- ---- a list of events by a law
 
 module _ {S A : Type 0} where
-  -- `Run L c l`: from the state c, the events l, each by the law L from the state that the one before left
+  -- `Run L c l`: from the state c, the events l, each by the law L from the state that the one
+  -- before left
   pub data Run (L : S → A → S → Type 0) : S → List A → Type 0 where
     done : {c : S} → Run L c []
     next : {c : S} {x : A} {c′ : S} {l : List A} → L c x c′ → Run L c′ l → Run L c (x ∷ l)
 
-  -- The one induction: what holds of each step and of the run after it holds of each event and those after it.
+  -- The one induction: what holds of each step and of the run after it holds of each event and
+  -- those after it.
   pub each : {L : S → A → S → Type 0} (P : A → List A → Type 0)
       → ((c : S) (x : A) (c′ : S) (l : List A) → L c x c′ → Run L c′ l → P x l)
       → {c : S} {l : List A} → Run L c l → Each P l
@@ -44,7 +46,8 @@ module _ {S S′ A : Type 0} where
 -- ---- the course of a machine is a run, if each call meets the law as seen from `view`
 
 module _ {R A K S : Type 0} (step : R → K → Step R A) (view : R → S) (Ok : R → Type 0) (Fit : K → Type 0) (L : S → A → S → Type 0) where
-  -- what is asked of one call: it keeps the invariant `Ok`, and either changes nothing that is seen or gives an event by the law
+  -- what is asked of one call: it keeps the invariant `Ok`, and either changes nothing that is seen
+  -- or gives an event by the law
   abbrev pub Meets : R → Step R A → Type 0
   Meets r (silent r′) = Ok r′ × (view r ≡ view r′)
   Meets r (event x r′) = Ok r′ × L (view r) x (view r′)
@@ -114,7 +117,8 @@ module _ {S A : Type 0} (L : S → A → S → Type 0) (budget : S → ℕ) (cos
   within done = omega arith
   within {c} (next {x = x} {c′ = c′} {l = l} h r) = let ih = within r in omega (arith, spends c x c′ h)
 
--- ---- what is used once: the numbers used of each place lie above its floor, which then rises to them
+-- ---- what is used once: the numbers used of each place lie above its floor, which then rises to
+-- them
 
 module _ {S A : Type 0} (L : S → A → S → Type 0) {N : Type 0} (floor : S → N → ℕ) (Uses : A → N → ℕ → Type 0)
     (kept : (c : S) (x : A) (c′ : S) → L c x c′ → (k : N) → floor c k ≤ floor c′ k)

@@ -1,4 +1,5 @@
--- A call is refused and changes nothing, or it is a tick by the transition table: a clean tick, or a fault tick, which the guard makes.
+-- A call is refused and changes nothing, or it is a tick by the transition table: a clean tick, or
+-- a fault tick, which the guard makes.
 use mathlib.Core.Path.{_≡_, refl}
 use mathlib.Core.Bool.{Bool, true, false, cond, not}
 use lib.Dec.{T, T-not, eqb}
@@ -41,7 +42,8 @@ unfolding refusedTick
 refused-keeps r c h = by-call (λ (a : Ticked). a .rt ≡ r) r c (λ f. absurd (T-not (settingsPass c) h f)) (λ g. refl)
 
 module _ {A : Type 0} (see : FuseRt → Call → Ticked → A) where
-  -- what holds of the event of a tick and the run state that it leaves, and of silence that leaves the run state as it was, holds of the step
+  -- what holds of the event of a tick and the run state that it leaves, and of silence that leaves
+  -- the run state as it was, holds of the step
   pub by-step : (P : FuseRt → Step FuseRt A → Type 0) (r : FuseRt) (c : Call)
       → (T (settingsPass c) → P (decided r c .rt) (event (see r c (givenOf (decided r c))) (decided r c .rt))) → (T (not (settingsPass c)) → P r (silent r))
       → P (tickAnswer r c .rt) (stepOf see r c)
@@ -57,7 +59,8 @@ module _ {A : Type 0} where
   by-both P true x y f g = f tt
   by-both P false x y f g = g tt
 
--- what holds of a clean tick where the guard finds no bit, and of a fault tick where it finds one, holds of the tick
+-- what holds of a clean tick where the guard finds no bit, and of a fault tick where it finds one,
+-- holds of the tick
 pub by-guard : (P : Bool → Decided → Type 0) (r : FuseRt) (c : Call)
     → (T (eqb (guardBits r c) 0) → P true (cleanTick (configOf (c .settings)) r (c .input) (c .outcome) (c .pos) (c .vel)))
     → (T (not (eqb (guardBits r c) 0)) → P false (faultTick (configOf (c .settings)) r (c .input) (guardBits r c) (c .pos)))

@@ -1,4 +1,5 @@
--- The definitions print the example as the paper says: everything is computed, from the bytes to the text.
+-- The definitions print the example as the paper says: everything is computed, from the bytes to
+-- the text.
 use mathlib.Core.Path.{_≡_, refl}
 use Rattle.text.specs.Line.{lineOf, putOf, pushOf}
 use Rattle.journal_frames.specs.Frames.{isKnown, bodyLen, frameOf, byFrames}

@@ -1,7 +1,10 @@
--- NaN, as the test `x != x` tells it, as `isNan` does, and as its bit pattern does. Assumes nothing.
+-- NaN, as the test `x != x` tells it, as `isNan` does, and as its bit pattern does. Assumes
+-- nothing.
 --     nan-told         the two tests are one
---     is-nan, not-nan  what a program learns by `x != x`, where it holds and where it does not.        the-nan      what `isNan` tells
---     nan-at, not-nan-at       a pattern above the infinity's, its sign left out, is a NaN's, and no other is
+--     is-nan, not-nan  what a program learns by `x != x`, where it holds and where it does not.
+-- the-nan      what `isNan` tells
+--     nan-at, not-nan-at       a pattern above the infinity's, its sign left out, is a NaN's, and
+-- no other is
 use mathlib.Core.Path.{_≡_, refl, sym, subst, _∙_}
 use mathlib.Core.Bool.{Bool, true, false, not}
 use Prim.Native.Nat.{ℕ, _%_, _^_, _≤_, _<_}

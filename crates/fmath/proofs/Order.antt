@@ -22,7 +22,8 @@ pub max-not-greater : (a b : Float) → lt b a ≡ false → maxOf a b ≡ b
 unfolding maxOf
 max-not-greater a b e = rw e
 
--- a NaN is less than nothing and nothing is less than it, so as the second argument it wins and as the first it loses
+-- a NaN is less than nothing and nothing is less than it, so as the second argument it wins and as
+-- the first it loses
 below-nan : (a : Float) → lt a nan ≡ false
 unfolding lt
 below-nan nan = refl

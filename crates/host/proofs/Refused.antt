@@ -27,7 +27,8 @@ pub by-test : (s : Settings) (rt : FuseRt) (inp : TickInput) (out : Outcome) (po
 unfolding tickOf tickBy
 by-test s rt inp out pos vel aux ext chunk b e = ap (λ (t : Bool). cond t (acceptedTick s rt inp out pos vel aux ext chunk) (refusedTick (checkOf s) rt)) e
 
--- where they are refused, the answer has the number of the cause and no verdict, and the run state is the one that came in
+-- where they are refused, the answer has the number of the cause and no verdict, and the run state
+-- is the one that came in
 pub refused-call : (s : Settings) (rt : FuseRt) (inp : TickInput) (out : Outcome) (pos vel aux ext chunk : List Float) → isAccepted (checkOf s) ≡ false
     → (hostNumber (hostAnswerOf (tickOf s rt inp out pos vel aux ext chunk)) ≡ checkNumber (checkOf s)) × (tickOf s rt inp out pos vel aux ext chunk .verdict ≡ noVerdict) × (tickOf s rt inp out pos vel aux ext chunk .rt ≡ rt)
 unfolding refusedTick

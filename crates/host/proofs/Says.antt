@@ -1,4 +1,5 @@
--- What the lent tick promises of the answer and of the last state, as a walk takes it (the crate `lent`, proofs/Call).
+-- What the lent tick promises of the answer and of the last state, as a walk takes it (the crate
+-- `lent`, proofs/Call).
 --     fuseGives    what the tick by value gives
 --     FuseSays     the contract, of the answer a and of the last state z
 -- Assumes nothing.

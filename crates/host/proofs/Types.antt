@@ -1,9 +1,10 @@
 -- The types of the fuse as a walk takes them (the crate `lent`, proofs/Data),
 -- how the core's result and the answer lie, and how settings are refused.
 --     fuseRun, fuseSettings, fuseInput, fuseOutcome    what a tick gets
---     fuseResult, fuseAnswer                           the result of the tick by value, the answer of the lent one
---     fuseChecked, turning                             the result of `refusal`, and what a walk asks of it
--- Assumes nothing.
+--     fuseResult, fuseAnswer                           the result of the tick by value, the answer
+-- of the lent one
+--     fuseChecked, turning                             the result of `refusal`, and what a walk
+-- asks of it Assumes nothing.
 use mathlib.Core.Path.{refl}
 use mathlib.Core.Bool.{not}
 use mir.Syntax.{w8}

@@ -16,6 +16,7 @@ hostAnswerOf t = record { check = t .check; verdict = t .verdict }
 abbrev pub hostNumber : HostAnswer → ℕ
 hostNumber a = checkNumber (a .check)
 
--- what the test of the settings gives: its number, and the answer of a refused call (Journal: gets that number)
+-- what the test of the settings gives: its number, and the answer of a refused call (Journal: gets
+-- that number)
 abbrev pub refusalOf : SettingsCheck → Checked
 refusalOf c = record { number = checkNumber c; answer = record { check = c; verdict = noVerdict } }

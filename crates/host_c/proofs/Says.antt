@@ -3,8 +3,8 @@
 --     libTicked    what the fuse's tick gives for what was lent
 --     libGives     what a call gives
 --     LibSays      the contract, of the answer a and of the last state z
---     told         it holds of what the fuse's tick gives, where what is stored is what a call gives
--- Assumes nothing.
+--     told         it holds of what the fuse's tick gives, where what is stored is what a call
+-- gives Assumes nothing.
 use mathlib.Core.Path.{_≡_, _∙_}
 use mathlib.Core.Bool.{false}
 use Rattle.lictor_settings.specs.Settings.{checkOf, checkNumber}

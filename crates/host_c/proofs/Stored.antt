@@ -1,6 +1,7 @@
--- A host that lends what it was given has the fuse's own run of states, though it never sees one: such a run state means what it was made of (`stored-back`, host_layout, proofs/Stored).
---     reset-on-stored, tick-on-stored      a call on such a run state gives what the fuse's reset or tick gives, as numbers
--- Assumes nothing.
+-- A host that lends what it was given has the fuse's own run of states, though it never sees one:
+-- such a run state means what it was made of (`stored-back`, host_layout, proofs/Stored).
+--     reset-on-stored, tick-on-stored      a call on such a run state gives what the fuse's reset
+-- or tick gives, as numbers Assumes nothing.
 use mathlib.Core.Path.{_≡_, refl, sym, _∙_, ap, subst}
 use mathlib.Core.Bool.{Bool, true, false, cond}
 use mathlib.Core.List.{List}

@@ -1,10 +1,11 @@
--- The library's types as a walk takes them (the crate `lent`, proofs/Data), how the result of a step
--- and the answer lie, and how settings are refused.
+-- The library's types as a walk takes them (the crate `lent`, proofs/Data), how the result of a
+-- step and the answer lie, and how settings are refused.
 --     libRun, libSettings, libInput, libOutcome        what a tick gets
 --     settingsCopied, inputCopied, outcomeCopied       the last three can be copied
---     libResult, libAnswer                             the result of `ticked_out`, the answer of `ticked`
---     libChecked, turning                              the result of `refusal`, and what a walk asks of it
--- Assumes nothing.
+--     libResult, libAnswer                             the result of `ticked_out`, the answer of
+-- `ticked`
+--     libChecked, turning                              the result of `refusal`, and what a walk
+-- asks of it Assumes nothing.
 use mathlib.Core.Path.{refl}
 use mathlib.Core.Bool.{not}
 use mir.Syntax.{w8, tyInt}

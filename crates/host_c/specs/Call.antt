@@ -22,7 +22,8 @@ use Rattle.host_layout.specs.Input.{settingsIn, inputIn, outcomeIn}
 use Rattle.host_layout.specs.State.{stateIn, stateOut}
 use Rattle.host_layout.specs.Verdict.{verdictOut}
 
--- what the test of the settings gives: its number, and the answer of a refused call, which has no verdict
+-- what the test of the settings gives: its number, and the answer of a refused call, which has no
+-- verdict
 abbrev pub refusalOut : SettingsCheck → Checked
 refusalOut c = record { number = checkNumber c; answer = record { number = checkNumber c; verdict = verdictOut noVerdict } }
 

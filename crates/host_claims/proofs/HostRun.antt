@@ -1,4 +1,5 @@
--- `host-run`: by induction on the list, since each call on a stored run state stores what the fuse returns (host_c, proofs/Stored). `host-stops`: demand 3 of that run.
+-- `host-run`: by induction on the list, since each call on a stored run state stores what the fuse
+-- returns (host_c, proofs/Stored). `host-stops`: demand 3 of that run.
 use mathlib.Core.Path.{_≡_, refl, ap, _∙_}
 use mathlib.Core.List.{List, [], _∷_, map}
 use Rattle.lictor_core.specs.Initial.{resetOf}

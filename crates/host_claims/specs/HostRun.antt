@@ -71,8 +71,8 @@ pub record HostStops (s : Settings) (rt : RunState) (hs : List HostCall) : Type 
   pub answers : answeredFrom (resetRun rt) hs ≡ map tickedOut (answersFrom (resetOf (stateIn rt)) (map meant hs))
   pub stops : Demand3 (settingsIn s) (ticksFrom (resetOf (stateIn rt)) (map meant hs))
 
--- The claim: of every list of calls under s. `stops_close` promises it of every settings record that
--- a host can hold (src/lib.rt).
+-- The claim: of every list of calls under s. `stops_close` promises it of every settings record
+-- that a host can hold (src/lib.rt).
 abbrev pub HostStopsUnder : Settings → Type 0
 HostStopsUnder s =
     (rt : RunState) (hs : List HostCall) → All (λ h. Under (settingsIn s) (meant h)) hs → HostStops s rt hs

@@ -1,4 +1,5 @@
--- Demand 1: every journal ends, with its events and the end of its bytes, or with a refusal; and exactly the causes of the table refuse a record.
+-- Demand 1: every journal ends, with its events and the end of its bytes, or with a refusal; and
+-- exactly the causes of the table refuse a record.
 use Prim.Native.Nat.{ℕ, _+_, _-_, _<_}
 use mathlib.Core.Path.{_≡_, refl, sym, ap, ap₂, _∙_}
 use mathlib.Core.List.{List, [], _∷_, _++_}

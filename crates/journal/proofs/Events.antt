@@ -1,4 +1,5 @@
--- Laws of events: each tells the fuse that its instruction leaves; one list of instructions, and then another.
+-- Laws of events: each tells the fuse that its instruction leaves; one list of instructions, and
+-- then another.
 use mathlib.Core.Path.{_≡_, refl, ap}
 use mathlib.Core.List.{List, [], _∷_, _++_}
 use Rattle.lictor_fuse.specs.Decide.{decideBy, decideOf}

@@ -1,4 +1,5 @@
--- Demand 3 of journals: an episode's ticks are calls of `tick` under the journal's settings, from a reset on (specs/JournalStops).
+-- Demand 3 of journals: an episode's ticks are calls of `tick` under the journal's settings, from a
+-- reset on (specs/JournalStops).
 use mathlib.Core.Path.{_≡_, refl, sym, ap, subst, _∙_}
 use mathlib.Core.List.{List, [], _∷_, _++_, map}
 use Prim.Native.Nat.{ℕ}

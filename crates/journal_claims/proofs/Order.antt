@@ -1,4 +1,5 @@
--- A journal's instructions are none, or its settings and then resets and ticks: the judge refuses what comes before settings, and settings again.
+-- A journal's instructions are none, or its settings and then resets and ticks: the judge refuses
+-- what comes before settings, and settings again.
 use mathlib.Core.Path.{_≡_, refl, _∙_}
 use mathlib.Core.Bool.{Bool, true, false, cond, not, _&&_}
 use mathlib.Core.List.{List, [], _∷_}

@@ -235,7 +235,8 @@ pub copying-machine : (kinds : List ℕ) → Machine (onFrames kinds)
 unfolding onFrames
 copying-machine kinds = frames-machine kinds tt tellsRecord takes-record
 
--- the records that it tells, and then the rest, are the bytes that it got: to copy them loses nothing
+-- the records that it tells, and then the rest, are the bytes that it got: to copy them loses
+-- nothing
 module _ (kinds : List ℕ) where
   front-bytes : (s : List ℕ) (k n : ℕ) → frameOf kinds s ≡ Whole k n → (k ∷ bodyOf n s) ++ drop (suc n) s ≡ s
   unfolding frameOf

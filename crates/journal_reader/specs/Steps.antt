@@ -1,6 +1,6 @@
 -- What the reader's own functions promise each other: one record, a run of records that only wait,
--- one turn of the reader. It joins the code of `journal_reader` to specs/Reading, and states nothing of the
--- papers.
+-- one turn of the reader. It joins the code of `journal_reader` to specs/Reading, and states
+-- nothing of the papers.
 use mathlib.Core.Bool.{Bool, true, false}
 use mathlib.Core.List.{List}
 use mathlib.Core.Path.{_≡_}

@@ -1,4 +1,5 @@
--- The rows about a body's contents, kind by kind: at a given kind the other kinds' causes are not there.
+-- The rows about a body's contents, kind by kind: at a given kind the other kinds' causes are not
+-- there.
 use Prim.Native.Nat.{ℕ}
 use mathlib.Core.Path.{_≡_, refl}
 use mathlib.Core.Bool.{Bool, true, false, cond, _||_}

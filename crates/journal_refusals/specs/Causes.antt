@@ -1,6 +1,6 @@
--- The causes that refuse a record (01-scope.md, Journal, the table, in its order). A cause looks at what has been
--- seen, at the record's kind and at its body as far as it came, and at nothing else: at no run
--- state, at no value of a list (at their counts only) and at no byte after the record.
+-- The causes that refuse a record (01-scope.md, Journal, the table, in its order). A cause looks at
+-- what has been seen, at the record's kind and at its body as far as it came, and at nothing else:
+-- at no run state, at no value of a list (at their counts only) and at no byte after the record.
 use mathlib.Core.Bool.{Bool, false, cond, not, _&&_, _||_}
 use mathlib.Core.List.{List, [], _∷_}
 use Prim.Native.Nat.{ℕ}

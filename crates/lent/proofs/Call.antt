@@ -1,9 +1,16 @@
--- The thin functions of `Thin.antt` meet their contracts, once for every such function: its types are variables, and what its core gives is any function of what it is passed.
---     resetSig, resetClauses       fn f(rt: &mut S), and what it says: the last state is `f` of the first.        keptSig, keptClauses     its core's, fn core(rt: S) -> S
---     tickSig, tickClauses         fn f(rt: &mut S, G, I, O, five lists) -> Z, and what it says of its answer and of the last state.        coreSig, coreClauses     its core's, fn core(G, S, I, O, five lists) -> R
---     testSig, testClauses         fn test(G) -> Y, and what it gives: a number, and the answer of a call that it refuses
---     restored-meets, turned-meets          each function meets its contract where its core does, and the test
--- The lists go to the core at their own lifetimes. They stand last among its parameters as among the function's, so what they own is handed on in one piece, and so are the tokens of their lifetimes, which come back.
+-- The thin functions of `Thin.antt` meet their contracts, once for every such function: its types
+-- are variables, and what its core gives is any function of what it is passed.
+--     resetSig, resetClauses       fn f(rt: &mut S), and what it says: the last state is `f` of the
+-- first.        keptSig, keptClauses     its core's, fn core(rt: S) -> S
+--     tickSig, tickClauses         fn f(rt: &mut S, G, I, O, five lists) -> Z, and what it says of
+-- its answer and of the last state.        coreSig, coreClauses     its core's, fn core(G, S, I, O,
+-- five lists) -> R
+--     testSig, testClauses         fn test(G) -> Y, and what it gives: a number, and the answer of
+-- a call that it refuses
+--     restored-meets, turned-meets          each function meets its contract where its core does,
+-- and the test The lists go to the core at their own lifetimes. They stand last among its
+-- parameters as among the function's, so what they own is handed on in one piece, and so are the
+-- tokens of their lifetimes, which come back.
 -- The theorems take `Given`. The rest assumes nothing.
 use mathlib.Core.Path.{_≡_, refl, sym, _∙_, ap, subst}
 use Prim.Native.Nat.{ℕ}
@@ -111,8 +118,8 @@ module _ (S : Data) (f : S .D → S .D) (k : Name) {M : Type 1} (𝓤 : URA M) (
       (walked 𝓤 H A T stayed (resetClauses S f 𝓤) (WpFn 𝓤 H (𝓣 .C) (𝓣 .Λ) (restored S k)) (λ κs. (ptr-vals, tt)) (λ κs. (mut-tells (named 0) (κs .0) (row S), tt))
       (λ κs qs bounds a _ are. via 𝓤 _ (fst∗ 𝓤 _ (emp 𝓤)) (walk (𝓣 .C) (𝓣 .Λ) (fmOf 𝓤 H (W .laws) 𝓣) known (κs .0) (qs .0) (a .0 .ptr .0) (a .0 .ptr .1) (a .0 .name) (a .0 .now))))
 
--- ---- fn f(rt: &mut S, g: G, i: I, o: O, five lists) -> Z { let t = core(g, *rt, i, o, the lists); *rt = t.1; Z { t.0, t.2 } }
--- five lists as they are passed, and their values
+-- ---- fn f(rt: &mut S, g: G, i: I, o: O, five lists) -> Z { let t = core(g, *rt, i, o, the lists);
+-- *rt = t.1; Z { t.0, t.2 } } five lists as they are passed, and their values
 abbrev pub L : Type 0
 L = RefT (List Float)
 
@@ -164,7 +171,8 @@ tickEnded S G I O Z = record { signature = tickSig S G I O Z; kept = (yes, (yes,
 abbrev pub coreEnded : (S G I O R : Data) → Ended
 coreEnded S G I O R = record { signature = coreSig S G I O R; kept = (yes, (yes, (yes, (yes, (yes, (yes, (yes, (yes, (yes, tt))))))))) }
 
--- what the function says of the state, the other parameters, the answer and the last state; and what the core gives
+-- what the function says of the state, the other parameters, the answer and the last state; and
+-- what the core gives
 abbrev pub tickClauses : (S G I O Z : Data) → (S .D → G .D → I .D → O .D → Fs → Z .D → S .D → Type 0) → {M : Type 1} (𝓤 : URA M) → Clauses 𝓤 (tickEnded S G I O Z)
 tickClauses S G I O Z Says 𝓤 κs a = record { ghost = Unit {0}; requires = λ _. emp 𝓤; ensures = λ _ r e. fact 𝓤 (Says (now (a .0)) (a .1 .0) (a .1 .1 .0) (a .1 .1 .1 .0) (nows (a .1 .1 .1 .1)) r (now (e .0))) }
 
@@ -177,7 +185,8 @@ resultVal c z v = vstruct (vcons c (vcons z (vcons v vnil)))
 abbrev pub answerVal : Val → Val → Val
 answerVal c v = vstruct (vcons c (vcons v vnil))
 
--- How R and Z lie: R is the struct of a part c, the state and a part v, and Z that of c and v. Of types that are written out, each equation is a `refl`.
+-- How R and Z lie: R is the struct of a part c, the state and a part v, and Z that of c and v. Of
+-- types that are written out, each equation is a `refl`.
 pub record Parts (S R Z : Data) : Type 2 where
   pub τc : Ty
   pub τv : Ty
@@ -194,7 +203,8 @@ pub record Parts (S R Z : Data) : Type 2 where
   pub st-of : (r : R .D) → Of R r → Of S (st r)
   pub an-of : (r : R .D) → Of R r → Of Z (an r)
 
--- A test of G: what it gives, its number and its answer, how they lie, and whether the number is another than 0. Of types that are written out, each equation is a `refl`.
+-- A test of G: what it gives, its number and its answer, how they lie, and whether the number is
+-- another than 0. Of types that are written out, each equation is a `refl`.
 pub record Turning (G Z Y : Data) : Type 2 where
   pub νY : Sym
   pub turn : G .D → Y .D

@@ -1,10 +1,17 @@
 -- A type of plain data, with all that a walk asks of it. It says nothing of the fuse.
---     Data     a type's row (`denote.RattleType`), with its one MIR type told apart from the rest, and with nothing left to say of it at exit, so that a walk over a type that is a variable knows both;  `val`, a value's machine value;  and the laws: the row's relation tells the machine value, and makes what the type owns, and the machine value has the type's MIR type
+--     Data     a type's row (`denote.RattleType`), with its one MIR type told apart from the rest,
+-- and with nothing left to say of it at exit, so that a walk over a type that is a variable knows
+-- both;  `val`, a value's machine value;  and the laws: the row's relation tells the machine value,
+-- and makes what the type owns, and the machine value has the type's MIR type
 --     row      the row of it
---     Copied   its values can be had twice, which is asked where one is read behind a `&`.        copied   of a declared struct whose fields are all copied
---     struct   of a declared struct, from the modules that `rattle check` makes of it: `struct T.the-type T′.the-laws T′.the-plain`
---     vals     a value's machine values, of which there is one.        Of D x       the relation of x and its machine value
---     had D x is       what x owns is had for nothing.        typed D x is     its machine value has the type's MIR type
+--     Copied   its values can be had twice, which is asked where one is read behind a `&`.
+-- copied   of a declared struct whose fields are all copied
+--     struct   of a declared struct, from the modules that `rattle check` makes of it: `struct
+-- T.the-type T′.the-laws T′.the-plain`
+--     vals     a value's machine values, of which there is one.        Of D x       the relation of
+-- x and its machine value
+--     had D x is       what x owns is had for nothing.        typed D x is     its machine value
+-- has the type's MIR type
 --     spelled  any machine value that is related to x is the one that `val` gives
 -- The laws take `Given`. The rest assumes nothing.
 use mathlib.Core.Path.{subst}

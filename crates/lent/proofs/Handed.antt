@@ -1,8 +1,12 @@
--- The call of a thin function over a lent struct (`Call.antt`'s `tickSig`), for whoever hands the reference on: what it asks, and what it gives back.
---     Toks         the tokens of the lists' lifetimes.        Held     these, and what the lists own.        Tick     the contract.        Lent     the reference, its lifetime's token, and `Held`
---     Told         what the machine value of its answer and the last state are known to be.        Came     the tokens, and what says the last state
---     asks, gives  `Lent` is what it asks, and an answer and a last state that are `Told` come back, with `Came`
--- The theorems take `Given`. The rest assumes nothing.
+-- The call of a thin function over a lent struct (`Call.antt`'s `tickSig`), for whoever hands the
+-- reference on: what it asks, and what it gives back.
+--     Toks         the tokens of the lists' lifetimes.        Held     these, and what the lists
+-- own.        Tick     the contract.        Lent     the reference, its lifetime's token, and
+-- `Held`
+--     Told         what the machine value of its answer and the last state are known to be.
+-- Came     the tokens, and what says the last state
+--     asks, gives  `Lent` is what it asks, and an answer and a last state that are `Told` come
+-- back, with `Came` The theorems take `Given`. The rest assumes nothing.
 use mathlib.Core.Path.{_≡_, ap}
 use Prim.Native.Nat.{ℕ}
 use mathlib.Core.List.{[], _∷_}

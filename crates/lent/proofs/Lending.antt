@@ -1,4 +1,6 @@
--- A function by value that lends a local to a thin function (`Lent.antt`'s `lending`) meets its contract, once for every such function: it is the core's contract of `Call.antt`, over the thin function's.
+-- A function by value that lends a local to a thin function (`Lent.antt`'s `lending`) meets its
+-- contract, once for every such function: it is the core's contract of `Call.antt`, over the thin
+-- function's.
 --     Joined           how the answer and the last state are put together
 --     lending-meets    the function meets its contract where the thin one does
 -- The theorem takes `Given`. The rest assumes nothing.
@@ -36,7 +38,8 @@ use Rattle.lent.proofs.Handed.{Toks, Held, Tick}
 use Rattle.lent.proofs.Lent.{lending, lends}
 use Rattle.lent.proofs.Thin.{resultTy, answerTy}
 
--- How an answer and a state are put together to a result, of which they are the parts. Of types that are written out, each equation is a `refl`.
+-- How an answer and a state are put together to a result, of which they are the parts. Of types
+-- that are written out, each equation is a `refl`.
 pub record Joined (S R Z : Data) (P : Parts S R Z) : Type 0 where
   pub both : Z .D → S .D → R .D
   pub both-of : (a : Z .D) (z : S .D) → Of Z a → Of S z → Of R (both a z)

@@ -1,8 +1,13 @@
--- The walk of a function by value that lends a local to a thin function (`Thin.antt`'s `turned`), once for every such function. No field of the struct is named.
---     lending      fn f(_1, r: S, _3, .., _9) -> R { let mut rt = r; let a = core(&mut rt, _1, _3, .., _9); R { a.0, rt, a.1 } }
---     lends        its walk: the local is lent for a lifetime of the call, and taken back once the call has returned
---     lies-in      the cell that holds x's machine value, and the relation of x ⊢ x lies there.        lies-out     x lies there ⊢ the relation of x, and the cell
--- The walk is told of the call alone: what it asks beside the reference (`Asked`), and what its answer r gives: the last state (`st r`), whatever else is wanted (`Good r`), and what comes back (`Back`).
+-- The walk of a function by value that lends a local to a thin function (`Thin.antt`'s `turned`),
+-- once for every such function. No field of the struct is named.
+--     lending      fn f(_1, r: S, _3, .., _9) -> R { let mut rt = r; let a = core(&mut rt, _1, _3,
+-- .., _9); R { a.0, rt, a.1 } }
+--     lends        its walk: the local is lent for a lifetime of the call, and taken back once the
+-- call has returned
+--     lies-in      the cell that holds x's machine value, and the relation of x ⊢ x lies there.
+-- lies-out     x lies there ⊢ the relation of x, and the cell The walk is told of the call alone:
+-- what it asks beside the reference (`Asked`), and what its answer r gives: the last state (`st
+-- r`), whatever else is wanted (`Good r`), and what comes back (`Back`).
 -- The walk takes `Given`. The rest assumes nothing.
 use mathlib.Core.Path.{_≡_, refl}
 use Prim.Native.Nat.{ℕ}
@@ -85,21 +90,26 @@ module _ (S : Data) {M : Type 1} (𝓤 : URA M) (H : Heap 𝓤) (A : Atoms 𝓤)
     lends =
         qed W (raw Asked ∷ []) ∵ enter ! C Λ (lending S τ2 τ3 τ4 τ5 τ6 τ7 τ8 τ9 τc τv νR νZ k) (v2 ∷ S .val h ∷ v3 ∷ v4 ∷ v5 ∷ v6 ∷ v7 ∷ v8 ∷ v9 ∷ []) _ $ alloc1 ! (λ l0. alloc1 ! (λ l1. alloc1 ! (λ l2. alloc1 ! (λ l3. alloc1 ! (λ l4. alloc1 ! (λ l5. alloc1 ! (λ l6. alloc1 ! (λ l7. alloc1 ! (λ l8. alloc1 ! (λ l9. alloc1 ! (λ l10. alloc1 ! (λ l11. alloc1 ! (λ l12. alloc1 ! (λ l13. alloc0 ! $
         params1 ! $ pass1 ! (init ! 24 refl t2) $ pass1 ! (init ! 22 refl (typed W S h h-of)) $ pass1 ! (init ! 20 refl t3) $ pass1 ! (init ! 18 refl t4) $ pass1 ! (init ! 16 refl t5) $ pass1 ! (init ! 14 refl t6) $ pass1 ! (init ! 12 refl t7) $ pass1 ! (init ! 10 refl t8) $ pass1 ! (init ! 8 refl t9) $ pass0 ! $
-        -- [_13 (0); _12 (2); _11 (4); _10 (6); _9 (8); _8 (10); _7 (12); _6 (14); _5 (16); _4 (18); _3 (20); _2 (22); _1 (24); _0 (26); what the core asks (28)]
+        -- [_13 (0); _12 (2); _11 (4); _10 (6); _9 (8); _8 (10); _7 (12); _6 (14); _5 (16); _4 (18);
+        -- _3 (20); _2 (22); _1 (24); _0 (26); what the core asks (28)]
         assigns ! (of-opd ! (load ! (from ! (stop !)) (look ! 22 refl))) (from ! (stop !)) (init ! 6 refl (typed W S h h-of)) $ assigns ! (addr ! (from ! (stop !))) (from ! (stop !)) (init ! 2 refl (tt, tt)) $
         -- the local is lent, for a lifetime α of the call
         move ! (6 ∷ []) $ use1 W (‵ (cellAt fullShare (S .ty ∷ []) (vals S h) l10 0)) (W .laws .at-raw fullShare (S .ty) l10 0 (S .val h)) $ use1 W (‵ (mem (row S) .lies h l10 0)) (lies-in 𝓤 H A W S h l10 0 h-of) $
         lft-new ! tt (λ α. move ! (1 ∷ []) $ use1 W (later (some (λ (γ : GName). ‵ (MutRef (named 0) (α ∷ []) (row S) .own (lentAt l10 γ) (vptr l10 0 ∷ [])) ⊛ ‵ (flent (α ∷ []) (Body (mem (row S)) l10 0 γ))))) (lends-ref 𝓤 H A W (row S) (named 0) (α ∷ []) h l10 0) $ await ! tt $ pick ! (λ γ. split ! $
         move ! (0 ∷ 2 ∷ 30 ∷ []) $ use3 W (raw (sep 𝓤 (sem 𝓤 H A (MutRef (named 0) (α ∷ []) (row S) .own (lentAt l10 γ) (vptr l10 0 ∷ []))) (sep 𝓤 (A .lft (α ∷ []) fullShare) Asked))) (id⊢ 𝓤 _) $
-        -- [what the core asks; the lender's part; _13 (2); _12 (4); _11 (6); what frees _10 (8); _9 (9); _8 (11); _7 (13); _6 (15); _5 (17); _4 (19); _3 (21); _2 (23); _1 (25); _0 (27)]
+        -- [what the core asks; the lender's part; _13 (2); _12 (4); _11 (6); what frees _10 (8); _9
+        -- (9); _8 (11); _7 (13); _6 (15); _5 (17); _4 (19); _3 (21); _2 (23); _1 (25); _0 (27)]
         calls-from ! fm (raw (sep 𝓤 (sem 𝓤 H A (MutRef (named 0) (α ∷ []) (row S) .own (lentAt l10 γ) (vptr l10 0 ∷ []))) (sep 𝓤 (A .lft (α ∷ []) fullShare) Asked))) (vptr l10 0 ∷ v2 ∷ v3 ∷ v4 ∷ v5 ∷ v6 ∷ v7 ∷ v8 ∷ v9 ∷ []) (Result l10 α γ) (calls l10 α γ) (passed ! 4 refl (passed ! 25 refl (passed ! 21 refl (passed ! 19 refl (passed ! 17 refl (passed ! 15 refl (passed ! 13 refl (passed ! 11 refl (passed ! 9 refl (no-more !)))))))))) (λ v.
         use1 W (later (some (λ (r : R). given (Told v r) (‵ (flft (α ∷ []) fullShare) ⊛ ‵ (fres γ (S .coded .code (st r))) ⊛ raw Back)))) (gives l10 α γ v) $ await ! tt $ pick ! (λ r. learn ! (λ p. split3 ! $
-        -- [the lifetime's token; the last state's; what comes back; the lender's part; _13 (4); _12 (6); _11 (8); what frees _10 (10); _9 (11); _8 (13); _7 (15); _6 (17); _5 (19); _4 (21); _3 (23); _2 (25); _1 (27); _0 (29)]
+        -- [the lifetime's token; the last state's; what comes back; the lender's part; _13 (4); _12
+        -- (6); _11 (8); what frees _10 (10); _9 (11); _8 (13); _7 (15); _6 (17); _5 (19); _4 (21);
+        -- _3 (23); _2 (25); _1 (27); _0 (29)]
         land ! (from ! (stop !)) (init ! 8 refl (has-ty (answerTy τc τv νZ) (p .0) (p .1))) $ rewrite ! 8 (λ (u : Val). ‵ (fat fullShare (answerTy τc τv νZ) l11 0 u)) (p .0) refl $
         -- the lifetime is ended, and the local comes back
         lft-end ! tt $ move ! (0 ∷ 3 ∷ 1 ∷ []) $ use3 W (later (‵ (mem (row S) .lies (st r) l10 0))) (ref-back 𝓤 H A W (row S) (α ∷ []) γ (st r) l10 0) $ await ! tt $
         use1 W (given (Of S (st r)) (‵ (cellAt fullShare (S .ty ∷ []) (vals S (st r)) l10 0))) (lies-out 𝓤 H A W S (st r) l10 0) $ learn ! (λ z-of. use1 W (‵ (fat fullShare (S .ty) l10 0 (S .val (st r)))) (W .laws .raw-at fullShare (S .ty) l10 0 (S .val (st r))) $
-        -- [_10; what comes back; _13 (2); _12 (4); _11 (6); what frees _10 (8); _9 (9); _8 (11); _7 (13); _6 (15); _5 (17); _4 (19); _3 (21); _2 (23); _1 (25); _0 (27)]
+        -- [_10; what comes back; _13 (2); _12 (4); _11 (6); what frees _10 (8); _9 (9); _8 (11); _7
+        -- (13); _6 (15); _5 (17); _4 (19); _3 (21); _2 (23); _1 (25); _0 (27)]
         assigns ! (of-opd ! (load ! (from ! (stop !)) (look ! 0 refl))) (from ! (stop !)) (init ! 2 refl (typed W S (st r) z-of)) $
         assigns ! (agg ! (and-then ! (load ! (from ! (fld ! refl (stop !))) (look-in ! 6 (sub ! 0 refl (whole !)))) (passed ! 2 refl (and-then ! (load ! (from ! (fld ! refl (stop !))) (look-in ! 6 (sub ! 1 refl (whole !)))) (no-more !))))) (from ! (stop !)) (init ! 27 refl (p .2 z-of)) $
         returns ! (look ! 27 refl) $ forget ! 0 refl $ forget ! 2 refl $ forget ! 4 refl $ forget ! 6 refl $ forget ! 9 refl $ forget ! 11 refl $ forget ! 13 refl $ forget ! 15 refl $ forget ! 17 refl $ forget ! 19 refl $ forget ! 21 refl $ forget ! 23 refl $ forget ! 25 refl $ forget ! 27 refl $

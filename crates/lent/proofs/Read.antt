@@ -1,7 +1,11 @@
--- The walk of a function that passes a lent struct on, and copies of what lies behind three `&`, once for every such function. No field of any struct is named.
---     reading      fn f(rt: &mut S, g: &G, i: &I, o: &O, _5, .., _9) -> Z { core(rt, *g, *i, *o, _5, .., _9) }
---     reads        its walk: each `&` is looked into for its value and shut again, and the reference is given up to the core
--- The walk is told of the call alone: what it asks (`Asked`), and what its answer r gives: its value (`av r`), whatever else is wanted of it (`Good r`), and what comes back (`Back r`).
+-- The walk of a function that passes a lent struct on, and copies of what lies behind three `&`,
+-- once for every such function. No field of any struct is named.
+--     reading      fn f(rt: &mut S, g: &G, i: &I, o: &O, _5, .., _9) -> Z { core(rt, *g, *i, *o,
+-- _5, .., _9) }
+--     reads        its walk: each `&` is looked into for its value and shut again, and the
+-- reference is given up to the core The walk is told of the call alone: what it asks (`Asked`), and
+-- what its answer r gives: its value (`av r`), whatever else is wanted of it (`Good r`), and what
+-- comes back (`Back r`).
 -- The walk takes `Given`. The rest assumes nothing.
 use mathlib.Core.Path.{_≡_, refl}
 use Prim.Native.Nat.{ℕ}
@@ -70,7 +74,9 @@ module _ (S G I O : Data) (G² : Copied G) (I² : Copied I) (O² : Copied O) {M 
         qed W (‵ (fshr-bor κG (λ s. partAt (row G) s g bG oG)) ∷ ‵ (flft κG qG) ∷ ‵ (fshr-bor κI (λ s. partAt (row I) s i bI oI)) ∷ ‵ (flft κI qI) ∷ ‵ (fshr-bor κO (λ s. partAt (row O) s u bO oO)) ∷ ‵ (flft κO qO) ∷ raw Asked ∷ []) ∵
         enter ! C Λ (reading S G I O τ5 τ6 τ7 τ8 τ9 τ0 k) (vptr b o ∷ vptr bG oG ∷ vptr bI oI ∷ vptr bO oO ∷ v5 ∷ v6 ∷ v7 ∷ v8 ∷ v9 ∷ []) _ $ alloc1 ! (λ l0. alloc1 ! (λ l1. alloc1 ! (λ l2. alloc1 ! (λ l3. alloc1 ! (λ l4. alloc1 ! (λ l5. alloc1 ! (λ l6. alloc1 ! (λ l7. alloc1 ! (λ l8. alloc1 ! (λ l9. alloc1 ! (λ l10. alloc1 ! (λ l11. alloc1 ! (λ l12. alloc1 ! (λ l13. alloc0 ! $
         params1 ! $ pass1 ! (init ! 24 refl (tt, tt)) $ pass1 ! (init ! 22 refl (tt, tt)) $ pass1 ! (init ! 20 refl (tt, tt)) $ pass1 ! (init ! 18 refl (tt, tt)) $ pass1 ! (init ! 16 refl t5) $ pass1 ! (init ! 14 refl t6) $ pass1 ! (init ! 12 refl t7) $ pass1 ! (init ! 10 refl t8) $ pass1 ! (init ! 8 refl t9) $ pass0 ! $
-        -- [_13 (0); _12 (2); _11 (4); _10 (6); _9 (8); _8 (10); _7 (12); _6 (14); _5 (16); _4 (18); _3 (20); _2 (22); _1 (24); _0 (26); G's (28); its token; I's (30); its token; O's (32); its token; what the core asks (34)]
+        -- [_13 (0); _12 (2); _11 (4); _10 (6); _9 (8); _8 (10); _7 (12); _6 (14); _5 (16); _4 (18);
+        -- _3 (20); _2 (22); _1 (24); _0 (26); G's (28); its token; I's (30); its token; O's (32);
+        -- its token; what the core asks (34)]
         assigns ! (addr ! (from ! (hop ! (look ! 24 refl) (stop !)))) (from ! (stop !)) (init ! 6 refl (tt, tt)) $
         -- in front, while G's is open: [its cell; what it owns; what shuts it; G's]
         move ! (28 ∷ 29 ∷ []) $ looks ! tt (row G) (Is (row G)) (shows 𝓤 H A (row G)) (vals G) (G .tells) (G² .copy 𝓤 H A W) g bG oG (λ q₁ q₁s. spelt ! (row G) (Is (row G)) (shows 𝓤 H A (row G)) (vals G) (G .tells) q₁ g q₁s bG oG $ move ! (1 ∷ []) $ peeks ! (row G) (Is (row G)) (shows 𝓤 H A (row G)) g (vals G g) (λ g-of. move ! (1 ∷ 0 ∷ []) $

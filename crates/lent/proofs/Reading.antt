@@ -1,5 +1,7 @@
--- The function of `Read.antt` meets its contract, once for every such function: it is the contract of the thin function that it calls (`Call.antt`'s `tickClauses`), read behind the `&`s.
---     readSig, readClauses     fn f(rt: &mut S, &G, &I, &O, five lists) -> Z, and what it says of its answer and of the last state
+-- The function of `Read.antt` meets its contract, once for every such function: it is the contract
+-- of the thin function that it calls (`Call.antt`'s `tickClauses`), read behind the `&`s.
+--     readSig, readClauses     fn f(rt: &mut S, &G, &I, &O, five lists) -> Z, and what it says of
+-- its answer and of the last state
 --     reading-meets            it meets that where the function that it calls does
 -- The theorem takes `Given`. The rest assumes nothing.
 use mathlib.Core.Path.{_≡_, refl}
@@ -111,7 +113,8 @@ module _ (S G I O Z : Data) (G² : Copied G) (I² : Copied I) (O² : Copied O) (
         split ! $ move ! (1 ∷ []) $ split ! $ move ! (1 ∷ []) $ split ! $ move ! (1 ∷ []) $ split ! $
         -- [O's token; those of the lists; I's; G's; the state's; what the parameters own]
         move ! (5 ∷ []) $ fsplit ! $ move ! (1 ∷ []) $ fsplit ! $ fsplit3 ! $ drop ! $ drop ! $ move ! (1 ∷ []) $ fsplit ! $ fsplit3 ! $ drop ! $ drop ! $ move ! (1 ∷ []) $ fsplit ! $ fsplit3 ! $ drop ! $ drop ! $
-        -- [O's; the lists; I's; G's; the reference; O's token; those of the lists; I's; G's; the state's]
+        -- [O's; the lists; I's; G's; the reference; O's token; those of the lists; I's; G's; the
+        -- state's]
         keep ! (3 ∷ 8 ∷ 2 ∷ 7 ∷ 0 ∷ 5 ∷ 4 ∷ 9 ∷ 1 ∷ 6 ∷ []) $ done !
 
     -- what is wanted of an answer and a last state

@@ -1,9 +1,17 @@
--- The walks of two thin functions over a lent struct, once for every such function. The struct's type is a variable, and so are the types of the other parameters and of the result: no field of any of them is named.
+-- The walks of two thin functions over a lent struct, once for every such function. The struct's
+-- type is a variable, and so are the types of the other parameters and of the result: no field of
+-- any of them is named.
 --     restored     fn f(rt: &mut S) { *rt = core(*rt); }
---     turned       fn f(rt: &mut S, _2, .., _9) -> Z { let a = test(_2); if a.0 != 0 { return a.1; } let t = core(_2, *rt, _3, .., _9); *rt = t.1; Z { t.0, t.2 } }
---     restores, turns     the walk of each: the borrow is opened, the struct is copied out whole and passed to the core, the struct that it answers is stored back whole, and the borrow is closed there
--- A walk is told of the call alone: what it asks (`Asked`), and what its answer r gives: the state to be stored (`st r`), whatever else is wanted of it (`Good r`), and what comes back (`Back`).
--- `turns` is told of the test too: its number and its answer (`tn`, `ta`), what else is wanted of it (`Fit`), and whether the number is not 0 (`is-other`). Where it is not, nothing is opened and nothing stored.
+--     turned       fn f(rt: &mut S, _2, .., _9) -> Z { let a = test(_2); if a.0 != 0 { return a.1;
+-- } let t = core(_2, *rt, _3, .., _9); *rt = t.1; Z { t.0, t.2 } }
+--     restores, turns     the walk of each: the borrow is opened, the struct is copied out whole
+-- and passed to the core, the struct that it answers is stored back whole, and the borrow is closed
+-- there A walk is told of the call alone: what it asks (`Asked`), and what its answer r gives: the
+-- state to be stored (`st r`), whatever else is wanted of it (`Good r`), and what comes back
+-- (`Back`).
+-- `turns` is told of the test too: its number and its answer (`tn`, `ta`), what else is wanted of
+-- it (`Fit`), and whether the number is not 0 (`is-other`). Where it is not, nothing is opened and
+-- nothing stored.
 -- The walks take `Given`. The rest assumes nothing.
 use mathlib.Core.Path.{_≡_, refl, sym, subst}
 use Prim.Native.Nat.{ℕ}
@@ -96,11 +104,13 @@ module _ (S : Data) {M : Type 1} (𝓤 : URA M) (H : Heap 𝓤) (A : Atoms 𝓤)
           enter ! C Λ (restored S k) (vptr b o ∷ []) _ $ alloc1 ! (λ l0. alloc1 ! (λ l1. alloc1 ! (λ l2. alloc1 ! (λ l3. alloc0 ! $ params1 ! $ pass1 ! (init ! 4 refl (tt, tt)) $ pass0 ! $
           move ! (8 ∷ 9 ∷ 10 ∷ []) $ opens ! tt (row S) {h = h} b o (λ us. spelt ! (row S) (Is (row S)) (shows 𝓤 H A (row S)) (vals S) (S .tells) fullShare h us b o $
           move ! (1 ∷ []) $ peeks ! (row S) (Is (row S)) (shows 𝓤 H A (row S)) h (vals S h) (λ g. drop ! $
-          -- [the struct's cell; the open borrow; obs; auth; _3 (4); _2 (6); _1 (8); _0 (10); what the core asks (12)]
+          -- [the struct's cell; the open borrow; obs; auth; _3 (4); _2 (6); _1 (8); _0 (10); what
+          -- the core asks (12)]
           assigns ! (of-opd ! (load ! (from ! (hop ! (look ! 8 refl) (stop !))) (look-raw ! 0 refl))) (from ! (stop !)) (init ! 4 refl (typed W S h g)) $
           move ! (12 ∷ []) $ calls-from ! fm (raw Asked) (S .val h ∷ []) Result (calls g) (passed ! 5 refl (no-more !)) (λ v.
           use1 W (later (some (λ (r : R). given ((v ≡ S .val (st r)) × Of S (st r) × Good r) (raw Back)))) (gives v) $ await ! tt $ pick ! (λ r. learn ! (λ p. move ! (1 ∷ 2 ∷ 3 ∷ 4 ∷ []) $
-          -- [the struct's cell; the open borrow; obs; auth; what comes back; _3 (5); _2 (7); _1 (9); _0 (11)]
+          -- [the struct's cell; the open borrow; obs; auth; what comes back; _3 (5); _2 (7); _1
+          -- (9); _0 (11)]
           land ! (from ! (stop !)) (init ! 7 refl (has-ty (S .ty) (p .0) (typed W S (st r) (p .1)))) $ rewrite ! 7 (λ (u : Val). ‵ (fat fullShare (S .ty) l2 0 u)) (p .0) refl $
           assigns ! (of-opd ! (load ! (from ! (stop !)) (look ! 7 refl))) (from ! (hop ! (look ! 9 refl) (stop !))) (store-raw ! 0 refl (typed W S (st r) (p .1))) $
           assigns ! (of-opd ! (unit-lit !)) (from ! (stop !)) (init ! 11 refl (tt, tt)) $
@@ -143,7 +153,9 @@ module _ (S : Data) {M : Type 1} (𝓤 : URA M) (H : Heap 𝓤) (A : Atoms 𝓤)
                 qed W (‵ (fobs γ (S .coded .code h)) ∷ ‵ (fbor κ (Body (mem (row S)) b o γ)) ∷ ‵ (flft κ q) ∷ raw Asked ∷ []) ∵
                 enter ! C Λ (turned S τ2 τ3 τ4 τ5 τ6 τ7 τ8 τ9 τc τv νR νZ νY j k) (vptr b o ∷ v2 ∷ v3 ∷ v4 ∷ v5 ∷ v6 ∷ v7 ∷ v8 ∷ v9 ∷ []) _ $ alloc1 ! (λ l0. alloc1 ! (λ l1. alloc1 ! (λ l2. alloc1 ! (λ l3. alloc1 ! (λ l4. alloc1 ! (λ l5. alloc1 ! (λ l6. alloc1 ! (λ l7. alloc1 ! (λ l8. alloc1 ! (λ l9. alloc1 ! (λ l10. alloc1 ! (λ l11. alloc1 ! (λ l12. alloc1 ! (λ l13. alloc0 ! $
                 params1 ! $ pass1 ! (init ! 24 refl (tt, tt)) $ pass1 ! (init ! 22 refl t2) $ pass1 ! (init ! 20 refl t3) $ pass1 ! (init ! 18 refl t4) $ pass1 ! (init ! 16 refl t5) $ pass1 ! (init ! 14 refl t6) $ pass1 ! (init ! 12 refl t7) $ pass1 ! (init ! 10 refl t8) $ pass1 ! (init ! 8 refl t9) $ pass0 ! $
-                -- [_13 (0); _12 (2); _11 (4); _10 (6); _9 (8); _8 (10); _7 (12); _6 (14); _5 (16); _4 (18); _3 (20); _2 (22); _1 (24); _0 (26); obs (28); the borrow; the token; what the core asks]
+                -- [_13 (0); _12 (2); _11 (4); _10 (6); _9 (8); _8 (10); _7 (12); _6 (14); _5 (16);
+                -- _4 (18); _3 (20); _2 (22); _1 (24); _0 (26); obs (28); the borrow; the token;
+                -- what the core asks]
                 nothing ! $ calls-from ! fm (‵ ftrue) (v2 ∷ []) Test asks (passed ! 23 refl (no-more !)) (λ v.
                 use1 W (later (given (Tested v) (raw (emp 𝓤)))) (tells v) $ await ! tt $ learn ! (λ t. drop ! $
                 land ! (from ! (stop !)) (init ! 6 refl (has-ty (refusalTy (answerTy τc τv νZ) νY) (t .0) (t .1))) $ rewrite ! 6 (λ (u : Val). ‵ (fat fullShare (refusalTy (answerTy τc τv νZ) νY) l10 0 u)) (t .0) refl $
@@ -156,17 +168,23 @@ module _ (S : Data) {M : Type 1} (𝓤 : URA M) (H : Heap 𝓤) (A : Atoms 𝓤)
                 (λ fine. skips ! $ exec ! C Λ (E (l0 ∷ l1 ∷ l2 ∷ l3 ∷ l4 ∷ l5 ∷ l6 ∷ l7 ∷ l8 ∷ l9 ∷ l10 ∷ l11 ∷ l12 ∷ l13 ∷ [])) (goes-on S k) (atRet (E (l0 ∷ l1 ∷ l2 ∷ l3 ∷ l4 ∷ l5 ∷ l6 ∷ l7 ∷ l8 ∷ l9 ∷ l10 ∷ l11 ∷ l12 ∷ l13 ∷ [])) Post) $
                 move ! (28 ∷ 29 ∷ 30 ∷ []) $ opens ! tt (row S) {h = h} b o (λ us. spelt ! (row S) (Is (row S)) (shows 𝓤 H A (row S)) (vals S) (S .tells) fullShare h us b o $
                 move ! (1 ∷ []) $ peeks ! (row S) (Is (row S)) (shows 𝓤 H A (row S)) h (vals S h) (λ g. drop ! $
-                -- [the struct's cell; the open borrow; obs; auth; _13 (4); _12 (6); _11 (8); _10 (10); _9 (12); _8 (14); _7 (16); _6 (18); _5 (20); _4 (22); _3 (24); _2 (26); _1 (28); _0 (30); what the core asks (32)]
+                -- [the struct's cell; the open borrow; obs; auth; _13 (4); _12 (6); _11 (8); _10
+                -- (10); _9 (12); _8 (14); _7 (16); _6 (18); _5 (20); _4 (22); _3 (24); _2 (26); _1
+                -- (28); _0 (30); what the core asks (32)]
                 assigns ! (of-opd ! (load ! (from ! (hop ! (look ! 28 refl) (stop !))) (look-raw ! 0 refl))) (from ! (stop !)) (init ! 4 refl (typed W S h g)) $
                 move ! (32 ∷ []) $
                 calls-from ! fm (raw Asked) (v2 ∷ S .val h ∷ v3 ∷ v4 ∷ v5 ∷ v6 ∷ v7 ∷ v8 ∷ v9 ∷ []) Result (calls g) (passed ! 27 refl (passed ! 5 refl (passed ! 25 refl (passed ! 23 refl (passed ! 21 refl (passed ! 19 refl (passed ! 17 refl (passed ! 15 refl (passed ! 13 refl (no-more !)))))))))) (λ w.
                 use1 W (later (some (λ (r : R). given (Told w r) (raw Back)))) (gives w) $ await ! tt $ pick ! (λ r. learn ! (λ p. move ! (1 ∷ 2 ∷ 3 ∷ 4 ∷ []) $
-                -- [the struct's cell; the open borrow; obs; auth; what comes back; _13 (5); _12 (7); _11 (9); _10 (11); _9 (13); _8 (15); _7 (17); _6 (19); _5 (21); _4 (23); _3 (25); _2 (27); _1 (29); _0 (31)]
+                -- [the struct's cell; the open borrow; obs; auth; what comes back; _13 (5); _12
+                -- (7); _11 (9); _10 (11); _9 (13); _8 (15); _7 (17); _6 (19); _5 (21); _4 (23); _3
+                -- (25); _2 (27); _1 (29); _0 (31)]
                 land ! (from ! (stop !)) (init ! 9 refl (has-ty (resultTy S τc τv νR) (p .0) (p .2))) $ rewrite ! 9 (λ (u : Val). ‵ (fat fullShare (resultTy S τc τv νR) l11 0 u)) (p .0) refl $
                 assigns ! (of-opd ! (load ! (from ! (fld ! refl (stop !))) (look-in ! 9 (sub ! 1 refl (whole !))))) (from ! (hop ! (look ! 29 refl) (stop !))) (store-raw ! 0 refl (typed W S (st r) (p .1))) $
                 assigns ! (agg ! (and-then ! (load ! (from ! (fld ! refl (stop !))) (look-in ! 9 (sub ! 0 refl (whole !)))) (and-then ! (load ! (from ! (fld ! refl (stop !))) (look-in ! 9 (sub ! 2 refl (whole !)))) (no-more !)))) (from ! (stop !)) (init ! 31 refl (p .3)) $
                 had ! S (st r) (p .1) $ move ! (1 ∷ 0 ∷ []) $ closes ! tt (row S) (st r) (vals S (st r)) b o $
-                -- [obs; the borrow; the token; what comes back; _13 (4); _12 (6); _11 (8); _10 (10); _9 (12); _8 (14); _7 (16); _6 (18); _5 (20); _4 (22); _3 (24); _2 (26); _1 (28); _0 (30)]
+                -- [obs; the borrow; the token; what comes back; _13 (4); _12 (6); _11 (8); _10
+                -- (10); _9 (12); _8 (14); _7 (16); _6 (18); _5 (20); _4 (22); _3 (24); _2 (26); _1
+                -- (28); _0 (30)]
                 returns ! (look ! 30 refl) $ forget ! 4 refl $ forget ! 6 refl $ forget ! 8 refl $ forget ! 10 refl $ forget ! 12 refl $ forget ! 14 refl $ forget ! 16 refl $ forget ! 18 refl $ forget ! 20 refl $ forget ! 22 refl $ forget ! 24 refl $ forget ! 26 refl $ forget ! 28 refl $ forget ! 30 refl $
                 move ! (30 ∷ 31 ∷ []) $ free1 ! $ move ! (28 ∷ 29 ∷ []) $ free1 ! $ move ! (26 ∷ 27 ∷ []) $ free1 ! $ move ! (24 ∷ 25 ∷ []) $ free1 ! $ move ! (22 ∷ 23 ∷ []) $ free1 ! $ move ! (20 ∷ 21 ∷ []) $ free1 ! $ move ! (18 ∷ 19 ∷ []) $ free1 ! $ move ! (16 ∷ 17 ∷ []) $
                 free1 ! $ move ! (14 ∷ 15 ∷ []) $ free1 ! $ move ! (12 ∷ 13 ∷ []) $ free1 ! $ move ! (10 ∷ 11 ∷ []) $ free1 ! $ move ! (8 ∷ 9 ∷ []) $ free1 ! $ move ! (6 ∷ 7 ∷ []) $ free1 ! $ move ! (4 ∷ 5 ∷ []) $ free1 ! $ free0 ! $

@@ -1,4 +1,5 @@
--- What a branch of the code has to do with a definition that goes by cases: a value that is the one arm's is the whole's where the test says so.
+-- What a branch of the code has to do with a definition that goes by cases: a value that is the one
+-- arm's is the whole's where the test says so.
 -- `search branches` and `search states` close a function that only tests and calls.
 use mathlib.Core.Path.{_≡_, refl, sym, _∙_}
 use mathlib.Core.Bool.{Bool, true, false, cond, not, _&&_, _||_}

@@ -14,7 +14,8 @@ row-more : (f : ℕ → Float) (h : List Float) (k : ℕ) → set (rowTo f h k) 
 unfolding rowTo
 row-more f h k = rw add-one
 
--- A loop that goes over all places and gives those below n: `g` is the row before a round, `r` after it.
+-- A loop that goes over all places and gives those below n: `g` is the row before a round, `r`
+-- after it.
 pub row-start : (f : ℕ → Float) (h : List Float) (n : ℕ) → h ≡ rowTo f h (min 0 n)
 unfolding rowTo
 row-start f h n = let a : 0 ≡ min 0 n = omega arith in ap (rowTo f h) a

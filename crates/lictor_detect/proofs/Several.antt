@@ -1,6 +1,6 @@
 -- An arm that stands for several kinds of action is what each of them asks.
---     on-position, on-velocity     the arm of the kinds that give positions, and of those that give velocities
--- Assumes nothing.
+--     on-position, on-velocity     the arm of the kinds that give positions, and of those that give
+-- velocities Assumes nothing.
 use mathlib.Core.Path.{_≡_}
 use mathlib.Core.List.{[], _∷_, List}
 use Prim.Native.Nat.{ℕ}

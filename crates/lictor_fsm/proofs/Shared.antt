@@ -1,4 +1,5 @@
--- The arm of the code that three states share: Armed, Watching and Clamped, whose numbers are 1 to 3.
+-- The arm of the code that three states share: Armed, Watching and Clamped, whose numbers are 1 to
+-- 3.
 use mathlib.Core.Bool.{Bool}
 use mathlib.Core.List.{List, [], _∷_}
 use mathlib.Core.Path.{_≡_, refl}

@@ -1,4 +1,5 @@
--- What a tick does to the state and to the counts that limit a stop, and to the nonces: read off the table, state by state.
+-- What a tick does to the state and to the counts that limit a stop, and to the nonces: read off
+-- the table, state by state.
 use mathlib.Core.Path.{_≡_, refl}
 use mathlib.Core.Bool.{Bool, true, false, cond, not, _&&_, _||_}
 use mathlib.Core.List.{List}
@@ -29,7 +30,8 @@ use Rattle.lictor_table.specs.Rows.{holdingOf, mayRearm, rearmRow, escal
 use Rattle.lictor_table.specs.Consumed.{takenIn}
 use Rattle.lictor_table.proofs.Lines.{by-test, by-bool}
 
--- the states that a tick can end in, by the one that it starts from; a fault bit leads to Fault from each
+-- the states that a tick can end in, by the one that it starts from; a fault bit leads to Fault
+-- from each
 abbrev pub mayEnd : FuseState → FuseState → Bool
 mayEnd from q =
     isState Fault q
@@ -47,16 +49,19 @@ mayEnd from q =
 abbrev pub none? : MaybeAck → Bool
 none? ack = byAck ack true (λ a. false)
 
--- A tick from the state q with the run state r ends in t; `bits`: a fault bit came; `ack`: the acknowledgement that is accepted.
+-- A tick from the state q with the run state r ends in t; `bits`: a fault bit came; `ack`: the
+-- acknowledgement that is accepted.
 pub record StopLaw (cfg : FuseConfig) (q : FuseState) (bits : Bool) (ack : MaybeAck) (r : Control) (t : Turn) : Type 0 where
   pub ends : T (mayEnd q (t .state))
   pub faults : T bits → T (isState Fault (t .state))
-  -- Braking: its count starts at 0 and goes up; below B it goes on or Held begins, at B the tick faults
+  -- Braking: its count starts at 0 and goes up; below B it goes on or Held begins, at B the tick
+  -- faults
   pub brakeBegins : T (isState Braking (t .state)) → T (not (isState Braking q)) → t .rt .«brake_ticks» ≡ 0
   pub brakeCounts : T (isState Braking (t .state)) → T (isState Braking q) → t .rt .«brake_ticks» ≡ satUp 16 (r .«brake_ticks»)
   pub brakeBelow : T (isState Braking q) → T (not (isState Fault (t .state))) → r .«brake_ticks» < cfg .hyst .«brake_timeout_ticks»
   pub brakeEnds : T (isState Braking q) → T (isState Fault (t .state)) → T (not bits) → cfg .hyst .«brake_timeout_ticks» ≤ r .«brake_ticks»
-  -- Held: its count starts at 0 and goes up below H; at H it escalates, and the count of Escalated starts
+  -- Held: its count starts at 0 and goes up below H; at H it escalates, and the count of Escalated
+  -- starts
   pub holdBegins : T (isState Held (t .state)) → T (not (isState Held q)) → t .rt .«held_ticks» ≡ 0
   pub holdCounts : T (isState Held (t .state)) → T (isState Held q)
       → (r .«held_ticks» < cfg .hyst .«escalate_after_hold_ticks») × (t .rt .«held_ticks» ≡ satUp 16 (r .«held_ticks»))
@@ -65,16 +70,19 @@ pub record StopLaw (cfg : FuseConfig) (q : FuseState) (bits : Bool) (ack : Maybe
   -- Escalated: its count goes up below E
   pub waitCounts : T (isState Escalated (t .state)) → T (isState Escalated q)
       → (r .«escalated_ticks» < cfg .hyst .«handoff_timeout_ticks») × (t .rt .«escalated_ticks» ≡ satUp 32 (r .«escalated_ticks»))
-  -- with neither a fault bit nor an accepted acknowledgement a tick leaves Held, under AckOnly, for Escalated alone, and Escalated only at E
+  -- with neither a fault bit nor an accepted acknowledgement a tick leaves Held, under AckOnly, for
+  -- Escalated alone, and Escalated only at E
   pub heldCalm : T (isState Held q) → T (not bits) → T (none? ack) → rearmCode (cfg .rearm) ≡ 1 → T (isState Held (t .state) || isState Escalated (t .state))
   pub waitCalm : T (isState Escalated q) → T (not bits) → T (none? ack) → T (isState Escalated (t .state) || isState Terminated (t .state))
   pub waitEnds : T (isState Escalated q) → T (isState Terminated (t .state)) → T (none? ack) → cfg .hyst .«handoff_timeout_ticks» ≤ r .«escalated_ticks»
-  -- the rearm count never falls (it is a number of 8 bits), and a rearm that consumes no acknowledgement is below the limit and counted
+  -- the rearm count never falls (it is a number of 8 bits), and a rearm that consumes no
+  -- acknowledgement is below the limit and counted
   pub rearmsKept : min (r .rearms) 255 ≤ t .rt .rearms
   pub rearmsSelf : T (isState Armed (t .state)) → T (isState Held q) → T (none? (takenIn q ack))
       → (r .rearms < cfg .hyst .«max_rearms») × (t .rt .rearms ≡ satUp 8 (r .rearms))
 
--- what a turn consumes (specs/Consumed): a fault bit decides it before the lines for Held and Escalated
+-- what a turn consumes (specs/Consumed): a fault bit decides it before the lines for Held and
+-- Escalated
 unfoldable pub consumedOf : Control → FsmInput → MaybeAck
 consumedOf rt inp =
     cond (anyOf (inp .trips) faultBits) NoAck (takenIn (rt .state) (acceptedAck (rt .«handoff_seq») (rt .«last_nonce») (inp .ack)))

@@ -1,4 +1,5 @@
--- The tally and its history: the proofs of specs/History. A law of one tick for each field, and what it says of a list of ticks.
+-- The tally and its history: the proofs of specs/History. A law of one tick for each field, and
+-- what it says of a list of ticks.
 use mathlib.Core.Path.{_≡_, refl, _∙_}
 use mathlib.Core.Bool.{Bool, true, false, cond, _&&_}
 use mathlib.Core.List.{List, [], _∷_, _++_}
@@ -125,7 +126,8 @@ module _ (mark : Tally → Mark) (p : Item → Bool) (tick : (t : Tally) (x : It
   mark-from t [] = mark-none (mark t)
   mark-from t (x ∷ h) = mark-from (recorded t x) h ∙ rw (tick t x) (mark-this (p x) (x .verdict .t) (mark t) (firstIn p h))
 
--- the reason beside a mark: the one that was written, else that of the first tick in the list, else the old one
+-- the reason beside a mark: the one that was written, else that of the first tick in the list, else
+-- the old one
 abbrev pub orReason : Mark → ReasonMark → ReasonMark → ReasonMark
 orReason Never old NoReason = old
 orReason Never old (For w) = For w

@@ -1,4 +1,5 @@
--- Lists whose elements each go by the rule of their place: what an element becomes, and how a loop gets there, one place a turn.
+-- Lists whose elements each go by the rule of their place: what an element becomes, and how a loop
+-- gets there, one place a turn.
 use mathlib.Core.Path.{_≡_, refl, ap}
 use mathlib.Core.List.{List, [], _∷_}
 use Prim.Native.Nat.{ℕ, zero, suc, _+_, _<_}

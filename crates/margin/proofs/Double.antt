@@ -1,4 +1,5 @@
--- The margin of a double by its three fields, the sign, the exponent and the digits, as they are in its bits.
+-- The margin of a double by its three fields, the sign, the exponent and the digits, as they are in
+-- its bits.
 use Prim.Native.Nat.{ℕ, zero, suc, _+_, _-_, _*_, _/_, _%_, _^_, _≤_, _<_}
 use mathlib.Core.Path.{_≡_, refl, sym, ap, ap₂, subst, _∙_}
 use mathlib.Core.Bool.{Bool, true, false, not, cond}

@@ -1,4 +1,5 @@
--- The definition of the rounding is the nearest whole number, and that alone; equal fractions round alike.
+-- The definition of the rounding is the nearest whole number, and that alone; equal fractions round
+-- alike.
 use Prim.Native.Nat.{ℕ, zero, suc, _+_, _-_, _*_, _/_, _%_, _≤_, _<_}
 use mathlib.Core.Path.{_≡_, refl, sym, ap, _∙_}
 use mathlib.Core.Bool.{Bool, true, false, cond, not}
@@ -88,7 +89,8 @@ natAbs-signed true zero = refl
 natAbs-signed true (suc n) = refl
 natAbs-signed false n = refl
 
--- the sign apart, the millimetres that a finite margin of m * 2 ^ e metres prints are the nearest whole number of millimetres, and at most 999999
+-- the sign apart, the millimetres that a finite margin of m * 2 ^ e metres prints are the nearest
+-- whole number of millimetres, and at most 999999
 module _ (s : Bool) (m : ℕ) (e z : ℤ) (h : marginOf (fin s m e) ≡ Millis z) where
   printed-by : Dec (999999 < nearestWhole (m * up e * 1000) (down e)) → (z ≡ signed s (natAbs z)) × Nearest (m * up e * 1000) (down e) (natAbs z) × (natAbs z ≤ 999999)
   unfolding marginOf

@@ -1,4 +1,5 @@
--- What bytes are played to, in terms of the reader: the same instructions, and what the reader makes of the bytes that are left.
+-- What bytes are played to, in terms of the reader: the same instructions, and what the reader
+-- makes of the bytes that are left.
 use Prim.Native.Nat.{ℕ, zero, suc, _+_, _-_, _≤_, _<_}
 use mathlib.Core.Path.{_≡_, refl, sym, ap, ap₂, _∙_}
 use mathlib.Core.List.{List, [], _∷_}
@@ -118,7 +119,8 @@ module _ (kinds : List ℕ) (room : ℕ) where
 
 -- ---- what was fed
 
--- the instructions `told` are those of the first bytes of s, and their text is in memory; the other bytes give what is left of the journal
+-- the instructions `told` are those of the first bytes of s, and their text is in memory; the other
+-- bytes give what is left of the journal
 pub record Followed (kinds : List ℕ) (p : Playing) (s : List ℕ) (out : List ℕ) (r : Played) (l' : List Float) (out' : List ℕ) : Type 0 where
   pub told : List Instruction
   pub within : r .at ≤ length s

@@ -1,4 +1,5 @@
--- A journal that is played into memory: what it does next, and how far it goes without an instruction.
+-- A journal that is played into memory: what it does next, and how far it goes without an
+-- instruction.
 use Prim.Native.Nat.{ℕ, zero, suc, _+_, _≤_, _<_}
 use mathlib.Core.Path.{_≡_, refl, sym, ap, _∙_}
 use mathlib.Core.List.{List}

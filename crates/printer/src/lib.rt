@@ -97,7 +97,8 @@ fn put_ticked(shows: u8, verdict: SafetyVerdict, run: Run, out: &mut [u8], n: us
     end
 }
 
-// A tick: its input and its positions as they came, the guard's bits, the verdict, the fuse after it.
+// A tick: its input and its positions as they came, the guard's bits, the verdict, the fuse after
+// it.
 pub fn ticked(
     shows: u8,
     notes: Notes,

@@ -1,4 +1,5 @@
--- THEOREM `root-nearest`: for each finite x of binary64 that is not below zero, `rootOf x` is the nearest value to the root of x, and no other is as near.
+-- THEOREM `root-nearest`: for each finite x of binary64 that is not below zero, `rootOf x` is the
+-- nearest value to the root of x, and no other is as near.
 -- Assumes nothing.
 use mathlib.Core.Path.{_≡_, refl, sym, ap, _∙_, subst}
 use mathlib.Core.Logic.{_⊎_, inl, inr}
@@ -49,7 +50,8 @@ wide R Y = let h : Y ≤ R + Y = omega arith in mul-le-mul h h
 less : (R Y : ℕ) → (R - Y) * (R - Y) ≤ R * R
 less R Y = let h : R - Y ≤ R = omega arith in mul-le-mul h h
 
--- ---- g * 2 ^ k units, where g is nearest to the root of n, against any other value of u units; 2 ^ k is P
+-- ---- g * 2 ^ k units, where g is nearest to the root of n, against any other value of u units; 2
+-- ^ k is P
 module _ (n g k : ℕ) (above : 2 ^ 104 ≤ n) (below : n + 2 ^ 53 ≤ 2 ^ 106) (lo : 56 ≤ k) (hi : k ≤ 2045) (near : NearRoot n g) where
   abbrev P : ℕ
   P = 2 ^ k
@@ -71,7 +73,8 @@ module _ (n g k : ℕ) (above : 2 ^ 104 ≤ n) (below : n + 2 ^ 53 ≤ 2 ^ 106) 
       let s : g * P + u < 2 * g * P = omega arith in
       omega (arith, square-lt s, mul-le-mul-right (P * P) h)
 
-  -- and where n is below the square of g: then g is above 2 ^ 52, so that the value is (g - 1) * P at most, and n is above the square of g - 1 / 2
+  -- and where n is below the square of g: then g is above 2 ^ 52, so that the value is (g - 1) * P
+  -- at most, and n is above the square of g - 1 / 2
   under-high : n < g * g → (u : ℕ) → Units u → u < g * P → (g * P + u) * (g * P + u) < 4 * (n * (P * P))
   under-high h u w l = half-below n g P (g * P + u) P-pos (near .low) (omega (arith, one-down))
     where

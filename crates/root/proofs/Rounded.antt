@@ -1,4 +1,5 @@
--- What `round` makes of the root of n * (2 ^ k * 2 ^ k) units: g * 2 ^ k units, where g is the whole number nearest to the root of n. Assumes nothing.
+-- What `round` makes of the root of n * (2 ^ k * 2 ^ k) units: g * 2 ^ k units, where g is the
+-- whole number nearest to the root of n. Assumes nothing.
 use mathlib.Core.Path.{_≡_, refl, sym, ap, _∙_, subst}
 use Prim.Native.Nat.{ℕ, zero, suc, _+_, _-_, _*_, _/_, _%_, _^_, _≤_, _<_}
 use native.Mathlib.Nat.{lt-of-not-le, not-le-of-lt, le-trans, le-of-eq, lt-of-lt-of-le, mul-assoc, mul-div-cancel, mul-pos, pow-suc, div-lt-iff-lt-mul}

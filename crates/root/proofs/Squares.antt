@@ -1,4 +1,5 @@
--- Roots of whole numbers: `wholeRoot` is the root cut to a whole number, and how the root of n * (P * P) lies against the whole number nearest to the root of n.
+-- Roots of whole numbers: `wholeRoot` is the root cut to a whole number, and how the root of n * (P
+-- * P) lies against the whole number nearest to the root of n.
 -- Assumes nothing.
 use mathlib.Core.Path.{_≡_, subst}
 use mathlib.Core.Logic.{inl, inr}
@@ -144,7 +145,8 @@ module _ (n g P s : ℕ) (w : Scaled n g P s) where
   s-above : g * P * 2 < s * 2 + P
   s-above = lt-of-not-le (λ (h : s * 2 + P ≤ g * P * 2). far g (w .near .low) g-lt h)
     where
-      -- twice the root, 2 * s + 2 at most, would be no more than (2 * j + 1) * P + 2, whose square is below 4 * n * P * P
+      -- twice the root, 2 * s + 2 at most, would be no more than (2 * j + 1) * P + 2, whose square
+      -- is below 4 * n * P * P
       far : (g : ℕ) → g * g < n + g → g < 2 ^ 53 → s * 2 + P ≤ g * P * 2 → ⊥
       far zero l k h = omega (arith, P-pos)
       far (suc j) l k h =

@@ -1,4 +1,5 @@
--- The steps of `sqrt` as facts of numbers: moving up, the product from its halves, and the two tests. Assumes nothing.
+-- The steps of `sqrt` as facts of numbers: moving up, the product from its halves, and the two
+-- tests. Assumes nothing.
 use mathlib.Core.Path.{_≡_, refl, sym, ap, _∙_}
 use Prim.Native.Nat.{ℕ, zero, suc, _+_, _-_, _*_, _/_, _%_, _^_, _≤_, _<_}
 use native.Mathlib.Nat.{lt-of-not-le, lt-irrefl, le-of-suc-le-suc, lt-of-lt-of-le, le-trans, mul-assoc, mul-le-mul, mul-le-mul-left, pow-suc}

@@ -1,4 +1,5 @@
--- The values of binary64 in units of 2 ^ -1074: each is n * 2 ^ j units with an n of 53 binary digits at most. Assumes nothing.
+-- The values of binary64 in units of 2 ^ -1074: each is n * 2 ^ j units with an n of 53 binary
+-- digits at most. Assumes nothing.
 use mathlib.Core.Path.{_≡_, refl, sym, ap, _∙_, subst}
 use Prim.Native.Nat.{ℕ, zero, suc, _+_, _-_, _*_, _/_, _%_, _^_, _≤_, _<_}
 use native.Mathlib.Nat.{lt-of-not-le, not-le-of-lt, lt-irrefl, le-trans, le-of-eq, le-of-suc-le-suc, lt-of-lt-of-le, lt-of-le-of-lt, mul-one, mul-assoc, mul-comm, mul-lt-mul-of-pos-right, lt-of-mul-lt-mul-right, mul-div-cancel, div-one, zero-mul, zero-div}

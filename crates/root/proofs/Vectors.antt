@@ -29,12 +29,14 @@ pub root-of-largest : rootOf (ofBits binary64 0x7fef_ffff_ffff_ffff) ≡ ofBits 
 unfolding rootOf ofBits
 root-of-largest = refl
 
--- the next value above 1: its root is just below the middle between 1 and that value, and goes down to 1
+-- the next value above 1: its root is just below the middle between 1 and that value, and goes down
+-- to 1
 pub root-above-one : rootOf (ofBits binary64 0x3ff0_0000_0000_0001) ≡ ofBits binary64 0x3ff0_0000_0000_0000
 unfolding rootOf ofBits
 root-above-one = refl
 
--- the next value below 1: its root is just below the middle between that value and 1, and goes down to that value
+-- the next value below 1: its root is just below the middle between that value and 1, and goes down
+-- to that value
 pub root-below-one : rootOf (ofBits binary64 0x3fef_ffff_ffff_ffff) ≡ ofBits binary64 0x3fef_ffff_ffff_ffff
 unfolding rootOf ofBits
 root-below-one = refl

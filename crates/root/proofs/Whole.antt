@@ -91,7 +91,8 @@ root-at (fin false zero e) n v h = absurd (lt-irrefl 0 (subst (λ (z : ℕ). 0 <
 root-at (fin false (suc m) e) n v h = ap (λ (z : ℕ). round binary64 false (wholeRoot (z * 2 ^ 1074)) (2 ^ 1074)) (ap (λ (z : ℕ). z / down e) (v .1) ∙ mul-div-cancel n (down-pos e))
 
 -- ---- the pattern of the root
--- a number m * 2 ^ e, whether e is even or odd, in the form n * (2 ^ k * 2 ^ k) with an n of 105 or 106 binary digits
+-- a number m * 2 ^ e, whether e is even or odd, in the form n * (2 ^ k * 2 ^ k) with an n of 105 or
+-- 106 binary digits
 pub record Window (m e : ℕ) : Type 0 where
   pub k : ℕ
   pub n : ℕ

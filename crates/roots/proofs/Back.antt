@@ -1,4 +1,5 @@
--- THEOREM `reads-back`: the 16 digits that are written for a pattern, as a line, read back to that pattern. Assumes nothing.
+-- THEOREM `reads-back`: the 16 digits that are written for a pattern, as a line, read back to that
+-- pattern. Assumes nothing.
 use mathlib.Core.Path.{_≡_, refl, sym, ap, _∙_}
 use mathlib.Core.Bool.{Bool, true, false, cond}
 use mathlib.Core.List.{List, [], _∷_, _++_, append-assoc, append-nil}

@@ -1,4 +1,5 @@
--- The definitions that a tick (samples, proofs/Opened), its line and a root are computed with, opened:
+-- The definitions that a tick (samples, proofs/Opened), its line and a root are computed with,
+-- opened:
 -- an `unfolding` line that names `tick-opened` opens them all.
 use Rattle.samples.proofs.Opened.{opened}
 use Rattle.report.specs.Lines.{marginText, tickText, stoppedOf, endText, refusedText}

@@ -188,7 +188,8 @@ module _ {R E H : Type 0} (next : R → List ℕ → Next R E H) (m : Machine ne
 
   -- ---- the bytes that were taken
 
-  -- the rest is what is after some place, and the bytes before that place alone give the same, and leave nothing
+  -- the rest is what is after some place, and the bytes before that place alone give the same, and
+  -- leave nothing
   pub record Front (r : R) (s : List ℕ) (a : Settled R E H) : Type 0 where
     pub place : ℕ
     pub within : place ≤ length s
@@ -299,7 +300,8 @@ module _ {R E H : Type 0} (next : R → List ℕ → Next R E H) (m : Machine ne
   unfolding advanced
   advanced-tell r s r' n t e = turn-is (length s) r s (tell r' n t) e
 
-  -- what is left of the bytes gives what all of them give, and what the machine does next is what it says
+  -- what is left of the bytes gives what all of them give, and what the machine does next is what
+  -- it says
   pub record Ahead (r : R) (s : List ℕ) (a : Advanced R E H) : Type 0 where
     pub rest : settled next r s ≡ settled next (a .state) (drop (a .used) s)
     pub then : next (a .state) (drop (a .used) s) ≡ a .next

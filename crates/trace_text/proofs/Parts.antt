@@ -1,4 +1,5 @@
--- How many lines the groups of the trace have, and the rules by which a line's number tells its group.
+-- How many lines the groups of the trace have, and the rules by which a line's number tells its
+-- group.
 use Prim.Native.Nat.{ℕ, _+_, _-_, _≤_, _<_}
 use mathlib.Core.Path.{_≡_, refl, sym, ap, _∙_}
 use mathlib.Core.List.{List, [], _++_}

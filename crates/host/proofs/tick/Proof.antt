@@ -1,4 +1,5 @@
--- `host::tick` meets its contract: it is `turned` (lent, Thin), with the test `refusal`, over `accepted`.
+-- `host::tick` meets its contract: it is `turned` (lent, Thin), with the test `refusal`, over
+-- `accepted`.
 -- Assumes nothing.
 use mathlib.Core.Path.{_≡_, refl, sym, ap, subst}
 use mathlib.Core.Bool.{true, false, not}

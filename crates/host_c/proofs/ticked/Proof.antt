@@ -1,4 +1,5 @@
--- `ticked` meets its contract: it is `turned` (lent, Thin), with the test `refusal`, over `ticked_out`.
+-- `ticked` meets its contract: it is `turned` (lent, Thin), with the test `refusal`, over
+-- `ticked_out`.
 -- Assumes nothing.
 use mathlib.Core.Path.{_≡_, refl, sym, subst}
 use mathlib.Core.Bool.{true, not}

@@ -1,4 +1,5 @@
--- Each field is what the call made for it promises; the names are those of places in the code, from the last call back.
+-- Each field is what the call made for it promises; the names are those of places in the code, from
+-- the last call back.
 use Rattle.lictor_tally.specs.Tally.{recordOf}
 use borrow.Author.Needs.{needs}
 use Rattle.lictor_tally.proofs.record.Statement.{statement}

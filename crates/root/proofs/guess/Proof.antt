@@ -1,4 +1,5 @@
--- `root::guess` meets its contract: the patterns are no NaN's, and the result has 53 binary digits at most. Assumes nothing.
+-- `root::guess` meets its contract: the patterns are no NaN's, and the result has 53 binary digits
+-- at most. Assumes nothing.
 use native.Mathlib.Omega.{arith}
 use borrow.Author.Needs.{needs}
 use Rattle.floats.proofs.Nan.{not-nan}

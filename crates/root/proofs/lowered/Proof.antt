@@ -1,4 +1,5 @@
--- `root::lowered` meets its contract: r falls, and stays above 0 since 1 is never too large. Assumes nothing.
+-- `root::lowered` meets its contract: r falls, and stays above 0 since 1 is never too large.
+-- Assumes nothing.
 use mathlib.Core.Path.{sym, _∙_}
 use Prim.Native.Nat.{_^_, _≤_, _<_}
 use native.Mathlib.Omega.{arith}

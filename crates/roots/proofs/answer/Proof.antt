@@ -1,4 +1,5 @@
--- `roots::answer` meets its contract: the lines passed are answered, and those left are still to be. Assumes nothing.
+-- `roots::answer` meets its contract: the lines passed are answered, and those left are still to
+-- be. Assumes nothing.
 use mathlib.Core.Path.{_≡_, sym, _∙_}
 use Prim.Native.Nat.{_-_}
 use native.Mathlib.Omega.{arith}
