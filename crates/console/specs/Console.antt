@@ -1,7 +1,7 @@
 -- What a program that reads a journal in parts promises: how its answer, what it read and what it
--- handed over to be written hang together. The text is `textOf` of `printer` on standard output, and
--- `besideOf` on standard error (01-scope.md, Journal, the program `fuse`). The claim `Ran` is at the
--- end of this file.
+-- handed over to be written hang together. The text is `textOf` of `printer` on standard output,
+-- and `besideOf` on standard error (01-scope.md, Journal, the program `fuse`). The claim `Ran` is
+-- at the end of this file.
 use mathlib.Core.Bool.{false, cond}
 use mathlib.Core.List.{List, [], _++_}
 use mathlib.Core.Path.{_≡_}
@@ -234,8 +234,8 @@ pub record StartsWith (t s : List ℕ) : Type 0 where
 -- Why it is over, where the bytes s came, and the text t was handed over to standard output and u
 -- to standard error. At a refusal, which no byte more would undo, and at the end of the input: all
 -- that is printed for the journal s, and the answer says how it ends. Where a read failed, or no
--- read was left: the text of its events, and none of an ending. Where a write failed: the first part
--- of each text.
+-- read was left: the text of its events, and none of an ending. Where a write failed: the first
+-- part of each text.
 abbrev pub EndsBy : Printer → Ended → List ℕ → List ℕ → List ℕ → Phase → Type 0
 EndsBy p r s t u Plays = ⊥
 EndsBy p r s t u Waits = ⊥
