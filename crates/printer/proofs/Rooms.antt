@@ -7,6 +7,7 @@ use native.Mathlib.Omega.{arith}
 use borrow.Author.Tests.{eq-eqb, ne-eqb, le-leb, lt-leb}
 use lib.ListN.{length, length-append, length-take, take}
 use Rattle.lictor_core.specs.declared.fuse.FuseRt.{FuseRt}
+use Rattle.lictor_core.specs.declared.tally.Tally.{Tally}
 use Rattle.lictor_core.specs.declared.verdict.SafetyVerdict.{SafetyVerdict}
 use Rattle.journal_refusals.specs.declared.Refusal.{Refusal}
 use Rattle.journal_refusals.specs.Table.{numberOf}
@@ -25,8 +26,9 @@ use Rattle.report.specs.Text.{traceRoom, traceUpTo}
 use Rattle.report.proofs.Fits.{tick-fits, end-fits, refused-fits}
 use Rattle.printer.specs.declared.Channel.{Channel}
 use Rattle.printer.specs.declared.Channel.the-variants.{Output}
+use Rattle.printer.specs.declared.Notes.{Notes}
 use Rattle.printer.specs.declared.Shown.{Shown}
-use Rattle.printer.specs.Printer.{Shows, lines, trace, traceCode, showsBy, Printer, tickShown, shownText, remembered, endingText, endingOn, endingBy, channelBy, eventRoom, endingRoom, shownAt, memoryAt, ShownIn, EndedIn}
+use Rattle.printer.specs.Printer.{Shows, lines, trace, traceCode, showsBy, Printer, tickShown, shownText, tickRemembered, remembered, closingText, endShown, endingText, endingOn, endingBy, channelBy, eventRoom, endingRoom, shownAt, memoryAt, ShownIn, EndedIn}
 
 -- ---- room
 
@@ -36,22 +38,35 @@ trace-fits zero v rt = omega arith
 trace-fits (suc k) v rt =
     omega (arith, trace-fits k v rt, length-append (traceUpTo k v rt) (take lineRoom (traceText k v rt)), length-take lineRoom (traceText k v rt))
 
-tick-shown-fits : (w : Shows) (v : SafetyVerdict) (rt : FuseRt) → length (tickShown w v rt) ≤ eventRoom
-tick-shown-fits lines v rt = omega (arith, tick-fits v)
-tick-shown-fits trace v rt = omega (arith, tick-fits v, trace-fits traceCount v rt, length-append (tickText v) (traceUpTo traceCount v rt))
+tick-shown-fits : (w : Shows) (m : Notes) (v : SafetyVerdict) (rt : FuseRt) → length (tickShown w m v rt) ≤ eventRoom
+tick-shown-fits lines m v rt = omega (arith, tick-fits v)
+tick-shown-fits trace m v rt = omega (arith, tick-fits v, trace-fits traceCount v rt, length-append (tickText v) (traceUpTo traceCount v rt))
 
 pub event-fits : (p : Printer) (e : Event) → length (shownText p e) ≤ eventRoom
 unfolding shownText
 event-fits p (began run) = omega arith
 event-fits p (restarted run) = omega arith
-event-fits p (ticked t) = tick-shown-fits (p .shows) (t .verdict) (t .run .rt)
+event-fits p (ticked t) = tick-shown-fits (p .shows) (p .notes) (t .verdict) (t .run .rt)
+
+-- neither of the two leaves anything open, and both have the line `end`
+closed-none : (w : Shows) (m : Notes) → closingText w m ≡ []
+closed-none lines m = refl
+closed-none trace m = refl
+
+end-shown : (w : Shows) (t : Tally) → endShown w t ≡ endText t
+end-shown lines t = refl
+end-shown trace t = refl
 
 pub ending-fits : (p : Printer) (run : Run) (e : Ending) → length (endingText p run e) ≤ endingRoom
 unfolding endingText
-ending-fits p run ended = omega (arith, end-fits (run .rt .tally))
-ending-fits p run (refused r place) = omega (arith, refused-fits (numberOf r) place)
+ending-fits p run ended = rw (closed-none (p .shows) (p .notes), end-shown (p .shows) (run .rt .tally)) (omega (arith, end-fits (run .rt .tally)))
+ending-fits p run (refused r place) = rw (closed-none (p .shows) (p .notes)) (omega (arith, refused-fits (numberOf r) place))
 
 -- ---- an event in memory
+
+pub remembers-none : (w : Shows) (m : Notes) → m ≡ tickRemembered w m
+remembers-none lines m = refl
+remembers-none trace m = refl
 
 module _ (out : List ℕ) (n : ℕ) (p : Printer) (e : Event) where
   -- where there is no room, and where the text was put
@@ -92,20 +107,20 @@ unfolding showsBy
 shows-lines code e = rw (ne-eqb code traceCode e) refl
 
 -- the line of a tick, and the trace after it
-module _ (w : Shows) (v : SafetyVerdict) (rt : FuseRt) (out : List ℕ) (n : ℕ) (h : n + eventRoom ≤ length out) (m : ℕ) (out' : List ℕ)
-    (q : (m ≡ placeWith lineRoom (length out) n (tickText v)) × (out' ≡ memoryWith lineRoom out n (tickText v))) where
-  line-there : Put out n (tickText v) m out'
-  line-there = put-with lineRoom out n (tickText v) (omega (arith, h)) m out' q
+module _ (w : Shows) (m : Notes) (v : SafetyVerdict) (rt : FuseRt) (out : List ℕ) (n : ℕ) (h : n + eventRoom ≤ length out) (k : ℕ) (out' : List ℕ)
+    (q : (k ≡ placeWith lineRoom (length out) n (tickText v)) × (out' ≡ memoryWith lineRoom out n (tickText v))) where
+  line-there : Put out n (tickText v) k out'
+  line-there = put-with lineRoom out n (tickText v) (omega (arith, h)) k out' q
 
-  pub lines-shown : w ≡ lines → Put out n (tickShown w v rt) m out'
+  pub lines-shown : w ≡ lines → Put out n (tickShown w m v rt) k out'
   lines-shown e = rw e line-there
 
   pub trace-shown : w ≡ trace → length out' ≡ length out → (r : ℕ) (out'' : List ℕ)
-      → (r ≡ placeWith traceRoom (length out') m (traceUpTo traceCount v rt)) × (out'' ≡ memoryWith traceRoom out' m (traceUpTo traceCount v rt))
-      → Put out n (tickShown w v rt) r out''
+      → (r ≡ placeWith traceRoom (length out') k (traceUpTo traceCount v rt)) × (out'' ≡ memoryWith traceRoom out' k (traceUpTo traceCount v rt))
+      → Put out n (tickShown w m v rt) r out''
   trace-shown e l r out'' z =
-      let there = put-with traceRoom out' m (traceUpTo traceCount v rt) (omega (arith, h, l, line-there .ends, tick-fits v)) r out'' z in
-      rw e (put-on out n (tickText v) m out' (traceUpTo traceCount v rt) r out'' (omega (arith, h)) line-there there)
+      let there = put-with traceRoom out' k (traceUpTo traceCount v rt) (omega (arith, h, l, line-there .ends, tick-fits v)) r out'' z in
+      rw e (put-on out n (tickText v) k out' (traceUpTo traceCount v rt) r out'' (omega (arith, h)) line-there there)
 
 -- ---- an ending by its number
 
@@ -121,11 +136,11 @@ module _ (p : Printer) (run : Run) (place : ℕ) where
   -- the two lines that it can be
   pub end-line-by : (number : ℕ) → number ≡ 0 → endText (run .rt .tally) ≡ endingBy p run number place
   unfolding endingBy
-  end-line-by number z = rw (eq-eqb number 0 z) refl
+  end-line-by number z = rw (eq-eqb number 0 z, closed-none (p .shows) (p .notes), end-shown (p .shows) (run .rt .tally)) refl
 
   pub refused-line-by : (number : ℕ) → (number ≡ 0 → ⊥) → refusedText number place ≡ endingBy p run number place
   unfolding endingBy
-  refused-line-by number z = rw (ne-eqb number 0 z) refl
+  refused-line-by number z = rw (ne-eqb number 0 z, closed-none (p .shows) (p .notes)) refl
 
 -- ---- its channel by its number
 

@@ -8,6 +8,7 @@ use Prim.Native.Nat.{ℕ, _+_, _*_}
 use lib.Dec.{eqb}
 use lib.ListN.{length}
 use Rattle.lictor_core.specs.declared.fuse.FuseRt.{FuseRt}
+use Rattle.lictor_core.specs.declared.tally.Tally.{Tally}
 use Rattle.lictor_core.specs.declared.verdict.SafetyVerdict.{SafetyVerdict}
 use Rattle.journal_records.specs.Kinds.{journalKinds}
 use Rattle.journal_refusals.specs.Table.{numberOf}
@@ -64,28 +65,44 @@ tracePrinter = showing trace atStart
 
 -- ---- an event
 
-abbrev pub tickShown : Shows → SafetyVerdict → FuseRt → List ℕ
-tickShown lines v rt = tickText v
-tickShown trace v rt = tickText v ++ traceUpTo traceCount v rt
+abbrev pub tickShown : Shows → Notes → SafetyVerdict → FuseRt → List ℕ
+tickShown lines m v rt = tickText v
+tickShown trace m v rt = tickText v ++ traceUpTo traceCount v rt
 
 -- settings and a reset print nothing
 unfoldable pub shownText : Printer → Event → List ℕ
 shownText p (began run) = []
 shownText p (restarted run) = []
-shownText p (ticked t) = tickShown (p .shows) (t .verdict) (t .run .rt)
+shownText p (ticked t) = tickShown (p .shows) (p .notes) (t .verdict) (t .run .rt)
 
--- what is remembered after an event: neither of the two remembers anything
+-- what is remembered after a tick: neither of the two remembers anything
+abbrev pub tickRemembered : Shows → Notes → Notes
+tickRemembered lines m = m
+tickRemembered trace m = m
+
 unfoldable pub remembered : Printer → Event → Notes
-remembered p e = p .notes
+remembered p (began run) = p .notes
+remembered p (restarted run) = p .notes
+remembered p (ticked t) = tickRemembered (p .shows) (p .notes)
 
 abbrev pub printerAfter : Printer → Event → Printer
 printerAfter p e = showing (p .shows) (remembered p e)
 
--- ---- the ending: `end`, or `refused` with the number and the place
+-- ---- the ending: what the events left open is closed; then `end`, or `refused` with the number
+-- and the place
+
+-- neither of the two leaves anything open
+abbrev pub closingText : Shows → Notes → List ℕ
+closingText lines m = []
+closingText trace m = []
+
+abbrev pub endShown : Shows → Tally → List ℕ
+endShown lines t = endText t
+endShown trace t = endText t
 
 unfoldable pub endingText : Printer → Run → Ending → List ℕ
-endingText p run ended = endText (run .rt .tally)
-endingText p run (refused r place) = refusedText (numberOf r) place
+endingText p run ended = closingText (p .shows) (p .notes) ++ endShown (p .shows) (run .rt .tally)
+endingText p run (refused r place) = closingText (p .shows) (p .notes) ++ refusedText (numberOf r) place
 
 -- the channel that its text goes to: standard output, for both
 abbrev pub endingOn : Shows → Ending → Channel
@@ -169,7 +186,8 @@ pub record ShownIn (p : Printer) (e : Event) (out : List ℕ) (n : ℕ) (r : Sho
 
 -- the ending of a journal by the number of its refusal, 0 where there is none
 unfoldable pub endingBy : Printer → Run → ℕ → ℕ → List ℕ
-endingBy p run number place = cond (eqb number 0) (endText (run .rt .tally)) (refusedText number place)
+endingBy p run number place =
+    closingText (p .shows) (p .notes) ++ cond (eqb number 0) (endShown (p .shows) (run .rt .tally)) (refusedText number place)
 
 -- and its channel
 unfoldable pub channelBy : Shows → ℕ → Channel

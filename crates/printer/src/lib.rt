@@ -6,7 +6,7 @@ ghost use Prim.Native.Nat.{_+_, _≤_};
 ghost use lib.ListN.{length};
 ghost use Rattle.journal.specs.Events as E;
 ghost use Rattle.text.specs.Memory.{Put};
-ghost use Rattle.printer.specs.Printer.{showsBy, printerBy, kindsTaken, atStart, tickShown, eventRoom, ShownIn, endingBy, channelBy, EndedIn};
+ghost use Rattle.printer.specs.Printer.{showsBy, printerBy, kindsTaken, atStart, tickShown, tickRemembered, eventRoom, ShownIn, endingBy, channelBy, EndedIn};
 use journal::tick::Run;
 use lictor_core::fuse::TickInput;
 use lictor_core::verdict::SafetyVerdict;
@@ -62,9 +62,9 @@ pub fn kinds_taken(shows: u8) -> [u16; 7]
 }
 
 // ---- an event, whose text is put after the first n bytes; where fewer than EVENT_ROOM bytes are
-// left after n, nothing is put and the memory stays
+// left after n, nothing is put and the notes stay
 
-// Nothing is put, and the memory stays.
+// Nothing is put, and the notes stay.
 fn unshown(notes: Notes, n: usize) -> Shown
     ensures { λ r. ⌜ r ≡ record { notes = notes; n = n } ⌝ }
 {
@@ -85,9 +85,17 @@ pub fn restarted(shows: u8, notes: Notes, run: Run, out: &mut [u8], n: usize) ->
     unshown(notes, n)
 }
 
-fn put_ticked(shows: u8, verdict: SafetyVerdict, run: Run, out: &mut [u8], n: usize) -> usize
+// The text of a tick.
+fn put_ticked(
+    shows: u8,
+    notes: Notes,
+    verdict: SafetyVerdict,
+    run: Run,
+    out: &mut [u8],
+    n: usize,
+) -> usize
     requires { ⌜ n + eventRoom ≤ length (now out) ⌝ }
-    ensures { λ r. ⌜ Put (now (out .entry)) n (tickShown (showsBy shows) verdict (run .rt)) r (now (out .exit)) ⌝ }
+    ensures { λ r. ⌜ Put (now (out .entry)) n (tickShown (showsBy shows) notes verdict (run .rt)) r (now (out .exit)) ⌝ }
 {
     let end = show_tick(verdict, out, n);
     if shows == TRACE {
@@ -95,6 +103,13 @@ fn put_ticked(shows: u8, verdict: SafetyVerdict, run: Run, out: &mut [u8], n: us
         return show_trace(verdict, rt, out, end);
     }
     end
+}
+
+// What is remembered after a tick.
+fn remember_tick(shows: u8, notes: Notes) -> Notes
+    ensures { λ r. ⌜ r ≡ tickRemembered (showsBy shows) notes ⌝ }
+{
+    notes
 }
 
 // A tick: its input and its positions as they came, the guard's bits, the verdict, the fuse after
@@ -113,15 +128,19 @@ pub fn ticked(
     ensures { λ r. ⌜ ShownIn (printerBy shows notes) (E.ticked (record { input = input; pos = now (pos .entry); guard = guard; verdict = verdict; run = run })) (now (out .entry)) n r (now (out .exit)) ⌝ }
 {
     if has_room(EVENT_ROOM, n, out.len()) {
-        let end = put_ticked(shows, verdict, run, out, n);
-        return Shown { notes, n: end };
+        let end = put_ticked(shows, notes, verdict, run, out, n);
+        let after = remember_tick(shows, notes);
+        return Shown {
+            notes: after,
+            n: end,
+        };
     }
     unshown(notes, n)
 }
 
 // ---- the ending
 
-// The channel that its text goes to; that of events goes to standard output.
+// The channel that the text of an ending goes to; that of events goes to standard output.
 pub fn ending_on(shows: u8, refused: u8) -> Channel
     ensures { λ r. ⌜ r ≡ channelBy (showsBy shows) refused ⌝ }
 {

@@ -19,7 +19,7 @@ returns c =
     let asked = traced .before .before .before in
     let shown = asked .before .before .before in
     let start = shown .before .before .before in
-    trace-shown _ _ _ _ _ (start .pre) _ _ (shown .show-tick .ensures) (shows-trace _ (asked .if1 .taken)) (shown .show-tick .kept .1 .0) _ _ (traced .show-trace .ensures)
+    trace-shown _ _ _ _ _ _ (start .pre) _ _ (shown .show-tick .ensures) (shows-trace _ (asked .if1 .taken)) (shown .show-tick .kept .1 .0) _ _ (traced .show-trace .ensures)
 
 same-length-2 : tie.Need-same-length-2
 same-length-2 c = search needs
@@ -28,7 +28,7 @@ returns-2 : tie.Need-returns-2
 returns-2 c =
     let shown = c .before .before .before in
     let start = shown .before .before .before in
-    lines-shown _ _ _ _ _ (start .pre) _ _ (shown .show-tick .ensures) (shows-lines _ (c .if1 .left))
+    lines-shown _ _ _ _ _ _ (start .pre) _ _ (shown .show-tick .ensures) (shows-lines _ (c .if1 .left))
 
 pub put-ticked-spec : {M : Type 1} → statement M
 put-ticked-spec =

@@ -12,14 +12,18 @@ has-room-requires c κs = search needs
 put-ticked-requires : tie.Need-put-ticked-requires
 put-ticked-requires c κs = let asked = c .before in leb-true _ _ (sym (asked .before .has-room .ensures) ∙ asked .if1 .taken)
 
+remember-tick-requires : tie.Need-remember-tick-requires
+remember-tick-requires c κs = search needs
+
 same-length : tie.Need-same-length
 same-length c = search needs
 
 returns : tie.Need-returns
 unfolding shownText remembered
 returns c =
-    let asked = c .before .before .before .before in
-    is-shown _ _ _ _ (sym (asked .before .has-room .ensures) ∙ asked .if1 .taken) _ _ (c .before .before .put-ticked .ensures)
+    let put = c .before .before .before in
+    let asked = put .before .before in
+    rw (c .remember-tick .ensures) (is-shown _ _ _ _ (sym (asked .before .has-room .ensures) ∙ asked .if1 .taken) _ _ (put .put-ticked .ensures))
 
 unshown-requires : tie.Need-unshown-requires
 unshown-requires c κs = search needs
@@ -32,4 +36,11 @@ returns-2 c =
 pub ticked-spec : {M : Type 1} → statement M
 ticked-spec =
     tie.close
-    (tie.spec has-room-requires put-ticked-requires same-length returns unshown-requires returns-2)
+    (tie.spec
+    has-room-requires
+    put-ticked-requires
+    remember-tick-requires
+    same-length
+    returns
+    unshown-requires
+    returns-2)
