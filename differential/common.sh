@@ -3,13 +3,14 @@
 #   option WORDS ..  takes an option that all of them have, if the first word is one, and sets `took` to the number of its words (0: it is none)
 #   build [OPTION]   builds the reference from the Rust sources, or skips where something that it needs is missing
 #   skip WHY         says what is missing and ends: with status 0, or with --require as an error
-# They set and use: name (the script's), top, out, src, fuse, trace, require.
+# They set and use: name (the script's), top, out, src, fuse, trace, pages, require.
 top=$(dirname "$here")
 name=$(basename "$0")
 out=$top/target/differential
 src=${RUST_SOURCES:-$top/../shared/docs/src}
 fuse=$top/target/bin/fuse
 trace=$top/target/bin/trace
+pages=$top/target/bin/pages
 require=
 
 option() {
@@ -18,6 +19,7 @@ option() {
     --src) src=$2 ;;
     --fuse) fuse=$2 ;;
     --trace) trace=$2 ;;
+    --pages) pages=$2 ;;
     --require) require=yes && took=1 ;;
     *) took=0 ;;
     esac

@@ -43,17 +43,17 @@ use Rattle.journal_claims.specs.JournalStops.{Bytes, NoSettings, Settled
 
 -- ---- bytes
 
-some-drop : (n : ℕ) (s : List ℕ) → Bytes s → Bytes (drop n s)
+pub some-drop : (n : ℕ) (s : List ℕ) → Bytes s → Bytes (drop n s)
 some-drop zero s h = h
 some-drop (suc n) [] h = h
 some-drop (suc n) (x ∷ s) h = some-drop n s (h .1)
 
-some-take : (n : ℕ) (s : List ℕ) → Bytes s → Bytes (take n s)
+pub some-take : (n : ℕ) (s : List ℕ) → Bytes s → Bytes (take n s)
 some-take zero s h = tt
 some-take (suc n) [] h = h
 some-take (suc n) (x ∷ s) h = (h .0, some-take n s (h .1))
 
-byte-under : (s : List ℕ) (i : ℕ) → Bytes s → byteAt s i < 256
+pub byte-under : (s : List ℕ) (i : ℕ) → Bytes s → byteAt s i < 256
 byte-under [] i h = omega arith
 byte-under (x ∷ s) zero h = h .0
 byte-under (x ∷ s) (suc i) h = byte-under s i (h .1)

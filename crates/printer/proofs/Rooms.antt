@@ -1,10 +1,12 @@
 -- The text of an event and that of an ending have room; and what their texts in memory are.
 use Prim.Native.Nat.{ℕ, zero, suc, _+_, _*_, _≤_, _<_}
-use mathlib.Core.Bool.{Bool, true, false}
+use mathlib.Core.Bool.{Bool, true, false, cond}
 use mathlib.Core.Path.{_≡_, refl, sym, ap, _∙_}
-use mathlib.Core.List.{List, [], _++_}
+use mathlib.Core.List.{List, [], _++_, append-nil}
 use native.Mathlib.Omega.{arith}
+use native.Mathlib.Decide.{decLe}
 use borrow.Author.Tests.{eq-eqb, ne-eqb, le-leb, lt-leb}
+use lib.Dec.{eqb, leb}
 use lib.ListN.{length, length-append, length-take, take}
 use Rattle.lictor_core.specs.declared.fuse.FuseRt.{FuseRt}
 use Rattle.lictor_core.specs.declared.tally.Tally.{Tally}
@@ -24,11 +26,13 @@ use Rattle.trace_text.specs.Trace.{traceCount, traceText}
 use Rattle.report.specs.Lines.{tickText, endText, refusedText}
 use Rattle.report.specs.Text.{traceRoom, traceUpTo}
 use Rattle.report.proofs.Fits.{tick-fits, end-fits, refused-fits}
+use Rattle.page_text.specs.Rows.{tickRow, pageRow, asLine, RowShown, PageShown}
+use Rattle.page_text.proofs.Rows.{tick-row-fits, page-row-fits}
 use Rattle.printer.specs.declared.Channel.{Channel}
 use Rattle.printer.specs.declared.Channel.the-variants.{Output}
 use Rattle.printer.specs.declared.Notes.{Notes}
 use Rattle.printer.specs.declared.Shown.{Shown}
-use Rattle.printer.specs.Printer.{Shows, lines, trace, traceCode, showsBy, Printer, tickShown, shownText, tickRemembered, remembered, closingText, endShown, endingText, endingOn, endingBy, channelBy, eventRoom, endingRoom, shownAt, memoryAt, ShownIn, EndedIn}
+use Rattle.printer.specs.Printer.{Shows, lines, trace, pages, traceCode, pagesCode, showsBy, Printer, pageRows, nextPage, fills, afterTick, tickOnPage, pageClosed, tickShown, shownText, remembered, closingText, endShown, endingText, endingOn, endingBy, channelBy, eventRoom, endingRoom, shownAt, memoryAt, ShownIn, EndedIn}
 
 -- ---- room
 
@@ -38,9 +42,16 @@ trace-fits zero v rt = omega arith
 trace-fits (suc k) v rt =
     omega (arith, trace-fits k v rt, length-append (traceUpTo k v rt) (take lineRoom (traceText k v rt)), length-take lineRoom (traceText k v rt))
 
+-- the line of a page, where there is one
+page-maybe-fits : (b : Bool) (n : ℕ) → length (cond b (asLine (pageRow n)) []) ≤ lineRoom
+page-maybe-fits true n = page-row-fits n
+page-maybe-fits false n = omega arith
+
 tick-shown-fits : (w : Shows) (m : Notes) (v : SafetyVerdict) (rt : FuseRt) → length (tickShown w m v rt) ≤ eventRoom
 tick-shown-fits lines m v rt = omega (arith, tick-fits v)
 tick-shown-fits trace m v rt = omega (arith, tick-fits v, trace-fits traceCount v rt, length-append (tickText v) (traceUpTo traceCount v rt))
+tick-shown-fits pages m v rt =
+    omega (arith, tick-row-fits v, page-maybe-fits (fills m) (m .page), length-append (asLine (tickRow v)) (cond (fills m) (asLine (pageRow (m .page))) []))
 
 pub event-fits : (p : Printer) (e : Event) → length (shownText p e) ≤ eventRoom
 unfolding shownText
@@ -48,25 +59,31 @@ event-fits p (began run) = omega arith
 event-fits p (restarted run) = omega arith
 event-fits p (ticked t) = tick-shown-fits (p .shows) (p .notes) (t .verdict) (t .run .rt)
 
--- neither of the two leaves anything open, and both have the line `end`
-closed-none : (w : Shows) (m : Notes) → closingText w m ≡ []
-closed-none lines m = refl
-closed-none trace m = refl
+page-closed-fits : (b : Bool) (n : ℕ) → length (cond b [] (asLine (pageRow n))) ≤ lineRoom
+page-closed-fits true n = omega arith
+page-closed-fits false n = page-row-fits n
 
-end-shown : (w : Shows) (t : Tally) → endShown w t ≡ endText t
-end-shown lines t = refl
-end-shown trace t = refl
+pub closing-fits : (w : Shows) (m : Notes) → length (closingText w m) ≤ lineRoom
+closing-fits lines m = omega arith
+closing-fits trace m = omega arith
+closing-fits pages m = page-closed-fits (eqb (m .rows) 0) (m .page)
+
+end-shown-fits : (w : Shows) (t : Tally) → length (endShown w t) ≤ lineRoom
+end-shown-fits lines t = end-fits t
+end-shown-fits trace t = end-fits t
+end-shown-fits pages t = omega arith
 
 pub ending-fits : (p : Printer) (run : Run) (e : Ending) → length (endingText p run e) ≤ endingRoom
 unfolding endingText
-ending-fits p run ended = rw (closed-none (p .shows) (p .notes), end-shown (p .shows) (run .rt .tally)) (omega (arith, end-fits (run .rt .tally)))
-ending-fits p run (refused r place) = rw (closed-none (p .shows) (p .notes)) (omega (arith, refused-fits (numberOf r) place))
+ending-fits p run ended =
+    let t = run .rt .tally in
+    let c = closingText (p .shows) (p .notes) in
+    omega (arith, closing-fits (p .shows) (p .notes), end-shown-fits (p .shows) t, length-append c (endShown (p .shows) t))
+ending-fits p run (refused r place) =
+    let c = closingText (p .shows) (p .notes) in
+    omega (arith, closing-fits (p .shows) (p .notes), refused-fits (numberOf r) place, length-append c (refusedText (numberOf r) place))
 
 -- ---- an event in memory
-
-pub remembers-none : (w : Shows) (m : Notes) → m ≡ tickRemembered w m
-remembers-none lines m = refl
-remembers-none trace m = refl
 
 module _ (out : List ℕ) (n : ℕ) (p : Printer) (e : Event) where
   -- where there is no room, and where the text was put
@@ -97,14 +114,72 @@ module _ (out : List ℕ) (n : ℕ) (p : Printer) (e : Event) where
       let y = le-leb (n + eventRoom) (length out) h in
       (ap (λ (x : Shown). x .notes) (rw y at (q .answer)), put-with eventRoom out n (shownText p e) h (r .n) out' (ap (λ (x : Shown). x .n) (q .answer), q .memory))
 
--- what is shown, by its number
+-- ---- what is shown, by its number
+
 pub shows-trace : (code : ℕ) → code ≡ traceCode → showsBy code ≡ trace
 unfolding showsBy
 shows-trace code e = rw (eq-eqb code traceCode e) refl
 
-pub shows-lines : (code : ℕ) → (code ≡ traceCode → ⊥) → showsBy code ≡ lines
+pub shows-pages : (code : ℕ) → code ≡ pagesCode → showsBy code ≡ pages
 unfolding showsBy
-shows-lines code e = rw (ne-eqb code traceCode e) refl
+shows-pages code e = rw (ne-eqb code traceCode (λ z. omega (arith, z, e)), eq-eqb code pagesCode e) refl
+
+pub shows-lines : (code : ℕ) → (code ≡ traceCode → ⊥) → (code ≡ pagesCode → ⊥) → showsBy code ≡ lines
+unfolding showsBy
+shows-lines code e f = rw (ne-eqb code traceCode e, ne-eqb code pagesCode f) refl
+
+-- what holds of the two that have no pages
+pub unless-pages : (code : ℕ) → (code ≡ pagesCode → ⊥) → (P : Shows → Type 0) → P lines → P trace → P (showsBy code)
+unfolding showsBy
+unless-pages code f P l t = rw (ne-eqb code pagesCode f) (go (eqb code traceCode))
+  where
+    go : (b : Bool) → P (cond b trace lines)
+    go true = t
+    go false = l
+
+-- ---- a page, row by row
+
+pub fills-by : (m : Notes) → leb 49 (m .rows) ≡ fills m
+fills-by m = go (decLe 49 (m .rows))
+  where
+    go : Dec (49 ≤ m .rows) → leb 49 (m .rows) ≡ fills m
+    go (yes h) = le-leb 49 (m .rows) h ∙ sym (le-leb pageRows (m .rows + 1) (omega arith))
+    go (no h) = lt-leb 49 (m .rows) (omega arith) ∙ sym (lt-leb pageRows (m .rows + 1) (omega arith))
+
+pub after-full : (m : Notes) (k : ℕ) → fills m ≡ true → k ≡ nextPage (m .page) → record { rows = 0; page = k } ≡ afterTick m
+after-full m k b e = rw (b, e) refl
+
+pub after-more : (m : Notes) → fills m ≡ false → record { rows = m .rows + 1; page = m .page } ≡ afterTick m
+after-more m b = rw b refl
+
+pub closed-none : (m : Notes) (out : List ℕ) → m .rows ≡ 0 → Put out 0 (pageClosed m) 0 out
+closed-none m out e = rw (eq-eqb (m .rows) 0 e) (put-none out 0)
+
+pub closed-page : (m : Notes) (out : List ℕ) → (m .rows ≡ 0 → ⊥) → endingRoom ≤ length out → (r : ℕ) (out' : List ℕ) → PageShown (m .page) out 0 r out' → Put out 0 (pageClosed m) r out'
+closed-page m out e h r out' p = rw (ne-eqb (m .rows) 0 e) (put-with lineRoom out 0 (asLine (pageRow (m .page))) (omega (arith, h)) r out' (p .ends, p .memory))
+
+-- ---- a line in memory
+
+module _ (l : Line) (s : List ℕ) (e : l ≡ lineOf s) (f : length s ≤ lineRoom) where
+  pub line-put : (out : List ℕ) (n : ℕ) → n + lineRoom ≤ length out → (r : ℕ) (out' : List ℕ)
+      → (r ≡ placePut (length out) n (take (l .n) (l .text))) × (out' ≡ memoryPut out n (take (l .n) (l .text))) → Put out n s r out'
+  line-put out n h r out' q =
+      let shows : take (l .n) (l .text) ≡ s = ap (λ (x : Line). take (x .n) (x .text)) e ∙ line-text s f in
+      put-there out n s (omega (arith, h, f)) r out' (rw shows at q)
+
+-- the row of a tick, and the line of the page that it fills
+module _ (m : Notes) (v : SafetyVerdict) (out : List ℕ) (n : ℕ) (h : n + eventRoom ≤ length out) (k : ℕ) (out₁ : List ℕ) (q : RowShown v out n k out₁) where
+  row-there : Put out n (asLine (tickRow v)) k out₁
+  row-there = put-with lineRoom out n (asLine (tickRow v)) (omega (arith, h)) k out₁ (q .ends, q .memory)
+
+  pub row-alone : fills m ≡ false → Put out n (tickOnPage m v) k out₁
+  row-alone b = rw (b, append-nil (asLine (tickRow v))) row-there
+
+  pub row-closes : fills m ≡ true → length out₁ ≡ length out → (r : ℕ) (out₂ : List ℕ) → PageShown (m .page) out₁ k r out₂ → Put out n (tickOnPage m v) r out₂
+  row-closes b z r out₂ w =
+      let line = asLine (pageRow (m .page)) in
+      let there = put-with lineRoom out₁ k line (omega (arith, h, z, row-there .ends, tick-row-fits v)) r out₂ (w .ends, w .memory) in
+      rw b (put-on out n (asLine (tickRow v)) k out₁ line r out₂ (omega (arith, h)) row-there there)
 
 -- the line of a tick, and the trace after it
 module _ (w : Shows) (m : Notes) (v : SafetyVerdict) (rt : FuseRt) (out : List ℕ) (n : ℕ) (h : n + eventRoom ≤ length out) (k : ℕ) (out' : List ℕ)
@@ -133,14 +208,14 @@ module _ (p : Printer) (run : Run) (place : ℕ) where
   unfolding endingBy endingText
   refused-by r = rw (ne-eqb (numberOf r) 0 (λ z. omega (arith, z, numbers r .0))) refl
 
-  -- the two lines that it can be
-  pub end-line-by : (number : ℕ) → number ≡ 0 → endText (run .rt .tally) ≡ endingBy p run number place
+  -- the two texts that it can be
+  pub end-by : (number : ℕ) → number ≡ 0 → closingText (p .shows) (p .notes) ++ endShown (p .shows) (run .rt .tally) ≡ endingBy p run number place
   unfolding endingBy
-  end-line-by number z = rw (eq-eqb number 0 z, closed-none (p .shows) (p .notes), end-shown (p .shows) (run .rt .tally)) refl
+  end-by number z = rw (eq-eqb number 0 z) refl
 
-  pub refused-line-by : (number : ℕ) → (number ≡ 0 → ⊥) → refusedText number place ≡ endingBy p run number place
+  pub refusal-by : (number : ℕ) → (number ≡ 0 → ⊥) → closingText (p .shows) (p .notes) ++ refusedText number place ≡ endingBy p run number place
   unfolding endingBy
-  refused-line-by number z = rw (ne-eqb number 0 z, closed-none (p .shows) (p .notes)) refl
+  refusal-by number z = rw (ne-eqb number 0 z) refl
 
 -- ---- its channel by its number
 
@@ -148,30 +223,45 @@ pub ended-on : (w : Shows) → channelBy w 0 ≡ endingOn w ended
 unfolding channelBy
 ended-on lines = refl
 ended-on trace = refl
+ended-on pages = refl
 
 pub refused-on : (w : Shows) (r : Refusal) (place : ℕ) → channelBy w (numberOf r) ≡ endingOn w (refused r place)
 unfolding channelBy
 refused-on lines r place = refl
 refused-on trace r place = refl
+refused-on pages r place = refl
 
 -- which is standard output, whatever is shown
 pub on-output : (w : Shows) (number : ℕ) → Output ≡ channelBy w number
 unfolding channelBy
 on-output lines number = refl
 on-output trace number = refl
+on-output pages number = refl
 
 -- ---- an ending in memory
 
--- a line at the front of memory, which is the text of an ending; without room nothing is there
-pub ending-put : (out : List ℕ) (l : Line) (s t : List ℕ) → endingRoom ≤ length out → l ≡ lineOf s → length s ≤ lineRoom → s ≡ t → (r : ℕ) (out' : List ℕ)
-    → (r ≡ placePut (length out) 0 (take (l .n) (l .text))) × (out' ≡ memoryPut out 0 (take (l .n) (l .text))) → EndedIn t out r out'
-ending-put out l s t h e f z r out' q =
-    let shows : take (l .n) (l .text) ≡ s = ap (λ (x : Line). take (x .n) (x .text)) e ∙ line-text s f in
-    let there = put-there out 0 s (omega (arith, h, f)) r out' (rw shows at q) in
-    let m = with-room endingRoom out 0 s (le-leb (0 + endingRoom) (length out) (omega (arith, h))) r out' there in
-    let done : EndedIn s out r out' = record { bytes = m .0; memory = m .1 } in
-    rw z at done
+-- pages have no `end`
+pub no-end : (p : Printer) (t : Tally) → p .shows ≡ pages → closingText (p .shows) (p .notes) ≡ closingText (p .shows) (p .notes) ++ endShown (p .shows) t
+no-end p t e = rw e (sym (append-nil (pageClosed (p .notes))))
 
+-- what closes a part page, and a line after it
+module _ (c out : List ℕ) (f : length c ≤ lineRoom) (h : endingRoom ≤ length out) (k : ℕ) (out₁ : List ℕ) (q : Put out 0 c k out₁) where
+  pub closed-alone : (t : List ℕ) → c ≡ t → EndedIn t out k out₁
+  closed-alone t z =
+      let m = with-room endingRoom out 0 c (le-leb (0 + endingRoom) (length out) (omega (arith, h))) k out₁ q in
+      let done : EndedIn c out k out₁ = record { bytes = m .0; memory = m .1 } in
+      rw z at done
+
+  pub closed-line : (l : Line) (s t : List ℕ) → l ≡ lineOf s → length s ≤ lineRoom → length out₁ ≡ length out → c ++ s ≡ t → (r : ℕ) (out₂ : List ℕ)
+      → (r ≡ placePut (length out₁) k (take (l .n) (l .text))) × (out₂ ≡ memoryPut out₁ k (take (l .n) (l .text))) → EndedIn t out r out₂
+  closed-line l s t e g z w r out₂ p =
+      let there = line-put l s e g out₁ k (omega (arith, h, z, q .ends, f)) r out₂ p in
+      let both = put-on out 0 c k out₁ s r out₂ (omega arith) q there in
+      let m = with-room endingRoom out 0 (c ++ s) (le-leb (0 + endingRoom) (length out) (omega (arith, h))) r out₂ both in
+      let done : EndedIn (c ++ s) out r out₂ = record { bytes = m .0; memory = m .1 } in
+      rw w at done
+
+-- without room nothing is there
 pub ending-not-put : (out t : List ℕ) → length out < endingRoom → EndedIn t out 0 out
 ending-not-put out t h = let m = no-room endingRoom out 0 t (lt-leb (0 + endingRoom) (length out) (omega (arith, h))) in record { bytes = m .0; memory = m .1 }
 

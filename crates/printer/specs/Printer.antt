@@ -1,11 +1,12 @@
--- What a program prints for a journal (01-scope.md, Journal, the program `fuse`): a text for each
--- event and one for its ending. A printer may remember something from event to event. The text of
--- events goes to standard output; that of an ending may go beside it, to standard error.
-use mathlib.Core.Bool.{cond}
+-- What a program prints for a journal (01-scope.md, Journal, the program `fuse`; for pages
+-- 02-change-requests.md, Ask 1): a text for each event and one for its ending. A printer may
+-- remember something from event to event. The text of events goes to standard output; that of an
+-- ending may go beside it, to standard error.
+use mathlib.Core.Bool.{Bool, cond}
 use mathlib.Core.List.{List, [], _∷_, _++_}
 use mathlib.Core.Path.{_≡_}
-use Prim.Native.Nat.{ℕ, _+_, _*_}
-use lib.Dec.{eqb}
+use Prim.Native.Nat.{ℕ, _+_, _*_, min}
+use lib.Dec.{eqb, leb}
 use lib.ListN.{length}
 use Rattle.lictor_core.specs.declared.fuse.FuseRt.{FuseRt}
 use Rattle.lictor_core.specs.declared.tally.Tally.{Tally}
@@ -20,6 +21,7 @@ use Rattle.text.specs.Memory.{hasRoom, placeWith, memoryWith}
 use Rattle.trace_text.specs.Trace.{traceCount}
 use Rattle.report.specs.Lines.{tickText, endText, refusedText}
 use Rattle.report.specs.Text.{traceRoom, traceUpTo}
+use Rattle.page_text.specs.Rows.{tickRow, pageRow, asLine}
 use Rattle.printer.specs.declared.Channel.{Channel}
 use Rattle.printer.specs.declared.Channel.the-variants.{Output, Errors}
 use Rattle.printer.specs.declared.Notes.{Notes}
@@ -28,17 +30,21 @@ use Rattle.printer.specs.declared.Shown.{Shown}
 -- ---- a printer
 
 -- what is shown: of a tick its line; or its line and every field of the verdict, the run state and
--- the tally
+-- the tally; or its row on a page
 pub data Shows : Type 0 where
   lines : Shows
   trace : Shows
+  pages : Shows
 
 -- by number, in the code
 abbrev pub traceCode : ℕ
 traceCode = 1
 
+abbrev pub pagesCode : ℕ
+pagesCode = 2
+
 unfoldable pub showsBy : ℕ → Shows
-showsBy code = cond (eqb code traceCode) trace lines
+showsBy code = cond (eqb code traceCode) trace (cond (eqb code pagesCode) pages lines)
 
 -- a printer: what it shows, and what it remembers from event to event
 pub record Printer : Type 0 where
@@ -52,22 +58,54 @@ showing w m = record { shows = w; notes = m }
 abbrev pub printerBy : ℕ → Notes → Printer
 printerBy code m = showing (showsBy code) m
 
--- before the first event nothing is remembered
+-- before the first event: no row, on page 1
 abbrev pub atStart : Notes
-atStart = record {}
+atStart = record { rows = 0; page = 1 }
 
--- the printers of `fuse` and `trace`
+-- the printers of `fuse`, `trace` and `pages`
 abbrev pub fusePrinter : Printer
 fusePrinter = showing lines atStart
 
 abbrev pub tracePrinter : Printer
 tracePrinter = showing trace atStart
 
+abbrev pub pagesPrinter : Printer
+pagesPrinter = showing pages atStart
+
+-- ---- a page, row by row
+
+-- the rows of a whole page, and where the number of pages stops
+abbrev pub pageRows : ℕ
+pageRows = 50
+
+abbrev pub lastPage : ℕ
+lastPage = 9999999999
+
+abbrev pub nextPage : ℕ → ℕ
+nextPage n = min (n + 1) lastPage
+
+-- whether one more row fills the page
+abbrev pub fills : Notes → Bool
+fills m = leb pageRows (m .rows + 1)
+
+-- one more row
+abbrev pub afterTick : Notes → Notes
+afterTick m = cond (fills m) (record { rows = 0; page = nextPage (m .page) }) (record { rows = m .rows + 1; page = m .page })
+
+-- the row of a tick, and after the last of a page the line with its number
+abbrev pub tickOnPage : Notes → SafetyVerdict → List ℕ
+tickOnPage m v = asLine (tickRow v) ++ cond (fills m) (asLine (pageRow (m .page))) []
+
+-- the line with its number of a page that has rows
+abbrev pub pageClosed : Notes → List ℕ
+pageClosed m = cond (eqb (m .rows) 0) [] (asLine (pageRow (m .page)))
+
 -- ---- an event
 
 abbrev pub tickShown : Shows → Notes → SafetyVerdict → FuseRt → List ℕ
 tickShown lines m v rt = tickText v
 tickShown trace m v rt = tickText v ++ traceUpTo traceCount v rt
+tickShown pages m v rt = tickOnPage m v
 
 -- settings and a reset print nothing
 unfoldable pub shownText : Printer → Event → List ℕ
@@ -75,10 +113,11 @@ shownText p (began run) = []
 shownText p (restarted run) = []
 shownText p (ticked t) = tickShown (p .shows) (p .notes) (t .verdict) (t .run .rt)
 
--- what is remembered after a tick: neither of the two remembers anything
+-- what is remembered after a tick: only pages remember something
 abbrev pub tickRemembered : Shows → Notes → Notes
 tickRemembered lines m = m
 tickRemembered trace m = m
+tickRemembered pages m = afterTick m
 
 unfoldable pub remembered : Printer → Event → Notes
 remembered p (began run) = p .notes
@@ -88,26 +127,28 @@ remembered p (ticked t) = tickRemembered (p .shows) (p .notes)
 abbrev pub printerAfter : Printer → Event → Printer
 printerAfter p e = showing (p .shows) (remembered p e)
 
--- ---- the ending: what the events left open is closed; then `end`, or `refused` with the number
--- and the place
+-- ---- the ending: a part page is closed; then `end`, which pages do not have, or `refused` with
+-- the number and the place
 
--- neither of the two leaves anything open
 abbrev pub closingText : Shows → Notes → List ℕ
 closingText lines m = []
 closingText trace m = []
+closingText pages m = pageClosed m
 
 abbrev pub endShown : Shows → Tally → List ℕ
 endShown lines t = endText t
 endShown trace t = endText t
+endShown pages t = []
 
 unfoldable pub endingText : Printer → Run → Ending → List ℕ
 endingText p run ended = closingText (p .shows) (p .notes) ++ endShown (p .shows) (run .rt .tally)
 endingText p run (refused r place) = closingText (p .shows) (p .notes) ++ refusedText (numberOf r) place
 
--- the channel that its text goes to: standard output, for both
+-- the channel that its text goes to: standard output, for all
 abbrev pub endingOn : Shows → Ending → Channel
 endingOn lines e = Output
 endingOn trace e = Output
+endingOn pages e = Output
 
 -- ---- a whole journal
 
@@ -139,7 +180,7 @@ textFrom = printedOn Output
 unfoldable pub besideFrom : Printer → List Event → Run → Ending → List ℕ
 besideFrom = printedOn Errors
 
--- the kinds of records that its program takes: those of the paper, for both
+-- the kinds of records that its program takes: those of the paper, for all
 unfoldable pub kindsTaken : Shows → List ℕ
 kindsTaken w = journalKinds
 
@@ -193,6 +234,7 @@ endingBy p run number place =
 unfoldable pub channelBy : Shows → ℕ → Channel
 channelBy lines number = Output
 channelBy trace number = Output
+channelBy pages number = Output
 
 -- that text at the front of memory: how many bytes it has, and memory then; without room for an
 -- ending nothing is put

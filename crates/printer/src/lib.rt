@@ -1,12 +1,14 @@
 // What a program prints for a journal, put into lent memory. A printer is a value: what it shows,
 // and what it remembers from event to event. An event comes in its parts, by a function for each
 // kind, since no enum holds arrays.
+mod pages; // ticks on pages
+
 ghost use mathlib.Core.Path.{_≡_};
 ghost use Prim.Native.Nat.{_+_, _≤_};
 ghost use lib.ListN.{length};
 ghost use Rattle.journal.specs.Events as E;
 ghost use Rattle.text.specs.Memory.{Put};
-ghost use Rattle.printer.specs.Printer.{showsBy, printerBy, kindsTaken, atStart, tickShown, tickRemembered, eventRoom, ShownIn, endingBy, channelBy, EndedIn};
+ghost use Rattle.printer.specs.Printer.{showsBy, printerBy, kindsTaken, atStart, tickShown, tickRemembered, eventRoom, ShownIn, closingText, endingBy, channelBy, endingRoom, EndedIn};
 use journal::tick::Run;
 use lictor_core::fuse::TickInput;
 use lictor_core::verdict::SafetyVerdict;
@@ -26,14 +28,21 @@ pub const LINES: u8 = 0;
 // Its line, and then every field of the verdict, the run state and the tally.
 pub const TRACE: u8 = 1;
 
+// Pages: rows of ticks, and after each page a line with its number.
+pub const PAGES: u8 = 2;
+
 // Where text goes: to standard output, or beside it to standard error.
 pub enum Channel {
     Output,
     Errors,
 }
 
-// What a printer remembers from event to event: these two, nothing.
-pub struct Notes {}
+// What a printer remembers from event to event. It is of pages; the others leave it as it is.
+pub struct Notes {
+    // the rows on the page so far, and the page's number
+    pub rows: u8,
+    pub page: u64,
+}
 
 // What it remembers after an event, and where the event's text ends.
 pub struct Shown {
@@ -51,7 +60,7 @@ pub const ENDING_ROOM: usize = 2 * LINE;
 pub fn start() -> Notes
     ensures { λ r. ⌜ r ≡ atStart ⌝ }
 {
-    Notes {}
+    Notes { rows: 0, page: 1 }
 }
 
 // The kinds of records that the program of this printer takes.
@@ -97,6 +106,9 @@ fn put_ticked(
     requires { ⌜ n + eventRoom ≤ length (now out) ⌝ }
     ensures { λ r. ⌜ Put (now (out .entry)) n (tickShown (showsBy shows) notes verdict (run .rt)) r (now (out .exit)) ⌝ }
 {
+    if shows == PAGES {
+        return pages::put_tick(notes, verdict, out, n);
+    }
     let end = show_tick(verdict, out, n);
     if shows == TRACE {
         let rt = run.rt;
@@ -109,6 +121,9 @@ fn put_ticked(
 fn remember_tick(shows: u8, notes: Notes) -> Notes
     ensures { λ r. ⌜ r ≡ tickRemembered (showsBy shows) notes ⌝ }
 {
+    if shows == PAGES {
+        return pages::after_tick(notes);
+    }
     notes
 }
 
@@ -140,6 +155,17 @@ pub fn ticked(
 
 // ---- the ending
 
+// Closes what is open: of pages, a part page.
+fn put_closing(shows: u8, notes: Notes, out: &mut [u8]) -> usize
+    requires { ⌜ endingRoom ≤ length (now out) ⌝ }
+    ensures { λ r. ⌜ Put (now (out .entry)) 0 (closingText (showsBy shows) notes) r (now (out .exit)) ⌝ }
+{
+    if shows == PAGES {
+        return pages::put_closing(notes, out);
+    }
+    0
+}
+
 // The channel that the text of an ending goes to; that of events goes to standard output.
 pub fn ending_on(shows: u8, refused: u8) -> Channel
     ensures { λ r. ⌜ r ≡ channelBy (showsBy shows) refused ⌝ }
@@ -156,10 +182,14 @@ pub fn ended(shows: u8, notes: Notes, run: Run, refused: u8, place: u64, out: &m
     if out.len() < ENDING_ROOM {
         return 0;
     }
+    let closed = put_closing(shows, notes, out);
     if refused != 0 {
-        return put_line(out, 0, report::refused_line(refused, place));
+        return put_line(out, closed, report::refused_line(refused, place));
+    }
+    if shows == PAGES {
+        return closed;
     }
     let rt = run.rt;
     let tally = rt.tally;
-    put_line(out, 0, report::end_line(tally))
+    put_line(out, closed, report::end_line(tally))
 }

@@ -4,3 +4,5 @@ pub mod Digits
 pub mod Signs
 pub mod Lists
 pub mod Puts
+pub mod Columns
+pub mod Words

@@ -5,7 +5,7 @@ use mathlib.Core.List.{List, [], _∷_, _++_, append-nil, append-assoc}
 use native.Mathlib.Omega.{arith}
 use native.Mathlib.Decide.{decLe}
 use borrow.Author.Tests.{lt-ltb}
-use lib.ListN.{length, take, replicate, length-append}
+use lib.ListN.{length, take, replicate, length-append, length-take, length-replicate}
 use lib.Seq.{take-all, take-append-le, set-append-seam, take-append-seam}
 use Rattle.text.specs.declared.Line.{Line}
 use Rattle.text.specs.Line.{lineOf, putOf, pushOf}
@@ -61,3 +61,11 @@ unfolding lineOf
 line-text s h =
     let m : min (length s) 256 ≡ length s = omega arith in
     rw (m, take-all 256 s h) (take-append-seam s (replicate (256 - length s) 0))
+
+-- the first n bytes of a line's array, as they are lent
+pub held-within : (l : Line) (s : List ℕ) → l ≡ lineOf s → l .n ≤ length (l .text)
+unfolding lineOf
+held-within l s e = rw (e, length-append (take 256 s) (replicate (256 - length s) 0), length-take 256 s, length-replicate) (omega arith)
+
+pub held-text : (l : Line) (s : List ℕ) → length s ≤ 256 → l ≡ lineOf s → take (l .n) (l .text) ≡ s
+held-text l s h e = rw e (line-text s h)

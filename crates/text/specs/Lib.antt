@@ -4,3 +4,5 @@ pub mod Line
 pub mod Number
 pub mod Commas
 pub mod Memory
+pub mod Column
+pub mod Words

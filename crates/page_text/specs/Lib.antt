@@ -1,0 +1,4 @@
+-- Definitions that the contracts of this crate, and of those above it, cite, and the statements of
+-- its theorems.
+pub mod Names
+pub mod Rows
