@@ -13,12 +13,12 @@ use Rattle.journal_frames.specs.Frames.{isKnown, bodyLen, frameOf}
 use Rattle.journal_frames.proofs.Frames.{FrameAt, unknown, cut, whole, frame-at}
 use Rattle.journal_records.specs.Little.{byteAt}
 use Rattle.journal_records.specs.Kinds.{valueKind}
-use Rattle.lictor_core.specs.FirstThat.{firstThat}
+use Rattle.lictor_core.specs.FirstThat.{firstThat, refuse_when_}
 use Rattle.journal_refusals.specs.declared.Seen.{Seen}
 use Rattle.journal_refusals.specs.declared.Refusal.the-variants.{UnknownKind, CutBody, BadCode, ListFull}
 use Rattle.journal_refusals.specs.declared.Judged.the-variants.{Accepted, Refused}
 use Rattle.journal_refusals.specs.Causes.{capacities, countOf, unknownKind, bodyCut, codeNotListed, listFull}
-use Rattle.journal_refusals.specs.Table.{framingRows, orderRows, contentRows, wholeRows, refusalTable, judgedOf, wholeOf, framedAs}
+use Rattle.journal_refusals.specs.Table.{Row, firstRow, framingRows, orderRows, contentRows, wholeRows, refusalTable, judgedOf, wholeOf, framedAs}
 use Rattle.journal_refusals.proofs.Exactly.{causeOf, no-cause}
 
 module _ (kinds : List ℕ) (seen : Seen) (k : ℕ) (u : List ℕ) where
@@ -26,11 +26,31 @@ module _ (kinds : List ℕ) (seen : Seen) (k : ℕ) (u : List ℕ) where
   abbrev body : List ℕ
   body = take (bodyLen kinds k) u
 
+  -- a row whose cause is there is the table's answer; one whose cause is not is passed over
+  answers : (w : Row) (ws : List Row) → w .cause seen k body ≡ true → firstRow (w ∷ ws) seen k body ≡ Refused (w .answer)
+  unfolding firstThat
+  answers w ws e = rw e refl
+
+  passes : (w : Row) (ws : List Row) → w .cause seen k body ≡ false → firstRow (w ∷ ws) seen k body ≡ firstRow ws seen k body
+  unfolding firstThat
+  passes w ws e = rw e refl
+
+  -- the first two rows
+  abbrev unlisted : Row
+  unlisted = refuse UnknownKind when unknownKind kinds
+
+  abbrev cut-off : Row
+  cut-off = refuse CutBody when bodyCut kinds
+
   framed-by : {x : Frame} → FrameAt kinds k u x → judgedOf kinds seen k body ≡ framedAs seen u x
-  unfolding judgedOf refusalTable framingRows wholeOf firstThat unknownKind bodyCut
-  framed-by (unknown e) = rw e refl
-  framed-by (cut e h) = rw (e, lt-ltb (length body) (bodyLen kinds k) (omega (arith, length-take (bodyLen kinds k) u))) refl
-  framed-by (whole e h) = rw (e, le-ltb (length body) (bodyLen kinds k) (omega (arith, length-take (bodyLen kinds k) u))) refl
+  unfolding judgedOf refusalTable framingRows wholeOf unknownKind bodyCut
+  framed-by (unknown e) = answers unlisted (cut-off ∷ wholeRows) (rw e refl)
+  framed-by (cut e h) =
+      passes unlisted (cut-off ∷ wholeRows) (rw e refl)
+      ∙ answers cut-off wholeRows (lt-ltb (length body) (bodyLen kinds k) (omega (arith, length-take (bodyLen kinds k) u)))
+  framed-by (whole e h) =
+      passes unlisted (cut-off ∷ wholeRows) (rw e refl)
+      ∙ passes cut-off wholeRows (le-ltb (length body) (bodyLen kinds k) (omega (arith, length-take (bodyLen kinds k) u)))
 
   -- the table, by the frame
   pub judged-framed : judgedOf kinds seen k body ≡ framedAs seen u (frameOf kinds (k ∷ u))
