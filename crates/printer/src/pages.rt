@@ -29,7 +29,7 @@ fn fills_page(notes: Notes) -> bool
 }
 
 // What is remembered after a tick.
-pub fn after_tick(notes: Notes) -> Notes
+pub(crate) fn after_tick(notes: Notes) -> Notes
     ensures { λ r. ⌜ r ≡ afterTick notes ⌝ }
 {
     if fills_page(notes) {
@@ -45,7 +45,7 @@ pub fn after_tick(notes: Notes) -> Notes
 }
 
 // Puts the row of a tick, and where it fills the page the page's line.
-pub fn put_tick(notes: Notes, verdict: SafetyVerdict, out: &mut [u8], n: usize) -> usize
+pub(crate) fn put_tick(notes: Notes, verdict: SafetyVerdict, out: &mut [u8], n: usize) -> usize
     requires { ⌜ n + eventRoom ≤ length (now out) ⌝ }
     ensures { λ r. ⌜ Put (now (out .entry)) n (tickOnPage notes verdict) r (now (out .exit)) ⌝ }
 {
@@ -57,7 +57,7 @@ pub fn put_tick(notes: Notes, verdict: SafetyVerdict, out: &mut [u8], n: usize) 
 }
 
 // Puts the line of a page that has rows, at the front.
-pub fn put_closing(notes: Notes, out: &mut [u8]) -> usize
+pub(crate) fn put_closing(notes: Notes, out: &mut [u8]) -> usize
     requires { ⌜ endingRoom ≤ length (now out) ⌝ }
     ensures { λ r. ⌜ Put (now (out .entry)) 0 (pageClosed notes) r (now (out .exit)) ⌝ }
 {
