@@ -88,7 +88,7 @@ fn none_came(zero: bool) -> Supply
 pub fn read_more(buf: &mut [u8], have: usize, reads: Reads) -> Got
     ensures { λ r. ⌜ Came (take have (now (buf .entry))) reads r (now (buf .exit)) ⌝ }
 {
-    let a = least(have, buf.len());
+    let front = least(have, buf.len());
     if reads.made >= MOST_READS {
         let spent = Reads {
             made: reads.made,
@@ -96,21 +96,21 @@ pub fn read_more(buf: &mut [u8], have: usize, reads: Reads) -> Got
             last: Supply::Spent,
         };
         return Got {
-            have: a,
+            have: front,
             reads: spent,
         };
     }
-    let got = libc::read(STDIN_FILENO, &mut buf[a..]);
-    let n = io::count(got, &buf[a..]);
+    let got = libc::read(STDIN_FILENO, &mut buf[front..]);
+    let came = io::count(got, &buf[front..]);
     let made = reads.made + 1;
-    let bytes = std::num::wrapping_add_u64(reads.bytes, n as u64);
-    if n != 0 {
+    let bytes = std::num::wrapping_add_u64(reads.bytes, came as u64);
+    if came != 0 {
         let more = Reads {
             made,
             bytes,
             last: Supply::More,
         };
-        let total = a + n;
+        let total = front + came;
         return Got {
             have: total,
             reads: more,
@@ -119,7 +119,7 @@ pub fn read_more(buf: &mut [u8], have: usize, reads: Reads) -> Got
     let last = none_came(got == 0);
     let none = Reads { made, bytes, last };
     Got {
-        have: a,
+        have: front,
         reads: none,
     }
 }

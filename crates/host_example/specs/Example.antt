@@ -4,15 +4,15 @@ use mathlib.Core.List.{List}
 use lib.Ieee.{Float}
 use Rattle.lictor_core.specs.declared.envelope.Settings.{Settings}
 use Rattle.lictor_core.specs.declared.fuse.FuseRt.{FuseRt}
-use Rattle.lictor_core.specs.declared.fuse.TickInput.{TickInput}
 use Rattle.lictor_core.specs.declared.outcome.Outcome.{Outcome}
 use Rattle.lictor_fuse.specs.declared.Ticked.{Ticked}
 use Rattle.lictor_fuse.specs.Tick.{tickOf}
+use Rattle.host_example.specs.declared.Inputs.{Inputs}
 
 -- each starts from the run state that the one before left; settings, outcome and lists are the same
-unfoldable pub threeOf : Settings → FuseRt → (a b c : TickInput) → Outcome
+unfoldable pub threeOf : Settings → FuseRt → Inputs → Outcome
     → (pos vel aux ext chunk : List Float) → Ticked
-threeOf s rt a b c out pos vel aux ext chunk =
-    let x = tickOf s rt a out pos vel aux ext chunk in
-    let y = tickOf s (x .rt) b out pos vel aux ext chunk in
-    tickOf s (y .rt) c out pos vel aux ext chunk
+threeOf s rt inputs out pos vel aux ext chunk =
+    let x = tickOf s rt (inputs .first) out pos vel aux ext chunk in
+    let y = tickOf s (x .rt) (inputs .second) out pos vel aux ext chunk in
+    tickOf s (y .rt) (inputs .third) out pos vel aux ext chunk

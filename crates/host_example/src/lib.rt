@@ -35,14 +35,19 @@ pub fn once(
     }
 }
 
+// What comes to three ticks in a row.
+pub struct Inputs {
+    pub first: TickInput,
+    pub second: TickInput,
+    pub third: TickInput,
+}
+
 // Three ticks in a row, each on the run state that the one before left.
 // Which pattern a NaN has is the program's choice.
 pub fn three(
     rt: FuseRt,
     s: Settings,
-    a: TickInput,
-    b: TickInput,
-    c: TickInput,
+    inputs: Inputs,
     out: Outcome,
     pos: &[f64],
     vel: &[f64],
@@ -50,11 +55,9 @@ pub fn three(
     ext: &[f64],
     chunk: &[f64],
 ) -> Ticked
-    ensures { λ r. ⌜ r ≡ threeOf s rt a b c out (now (pos .entry)) (now (vel .entry)) (now (aux .entry)) (now (ext .entry)) (now (chunk .entry)) ⌝ }
+    ensures { λ r. ⌜ r ≡ threeOf s rt inputs out (now (pos .entry)) (now (vel .entry)) (now (aux .entry)) (now (ext .entry)) (now (chunk .entry)) ⌝ }
 {
-    let x = once(s, rt, a, out, pos, vel, aux, ext, chunk);
-    let y = x.rt;
-    let z = once(s, y, b, out, pos, vel, aux, ext, chunk);
-    let w = z.rt;
-    once(s, w, c, out, pos, vel, aux, ext, chunk)
+    let one = once(s, rt, inputs.first, out, pos, vel, aux, ext, chunk);
+    let two = once(s, one.rt, inputs.second, out, pos, vel, aux, ext, chunk);
+    once(s, two.rt, inputs.third, out, pos, vel, aux, ext, chunk)
 }

@@ -5,7 +5,7 @@ pub mod episode; // the run state at the start of an episode
 mod fault_tick; // the same of a fault tick
 
 ghost use mathlib.Core.Path.{_≡_};
-ghost use Rattle.lictor_fuse.specs.Tick.{isAccepted, noVerdict, acceptedTick, givenOf, refusedTick, tickBy, tickOf};
+ghost use Rattle.lictor_fuse.specs.Tick.{isAccepted, noVerdict, acceptedTick, givenOf, refusedTick, tickOf};
 use crate::decide::Decided;
 use crate::decide::decide;
 use lictor_core::envelope::Settings;
@@ -113,26 +113,6 @@ fn accepted_tick(
     given(d)
 }
 
-fn tick_by(
-    c: SettingsCheck,
-    s: Settings,
-    rt: FuseRt,
-    inp: TickInput,
-    out: Outcome,
-    pos: &[f64],
-    vel: &[f64],
-    aux: &[f64],
-    ext: &[f64],
-    chunk: &[f64],
-) -> Ticked
-    ensures { λ r. ⌜ r ≡ tickBy c s rt inp out (now (pos .entry)) (now (vel .entry)) (now (aux .entry)) (now (ext .entry)) (now (chunk .entry)) ⌝ }
-{
-    if is_accepted(c) {
-        return accepted_tick(s, rt, inp, out, pos, vel, aux, ext, chunk);
-    }
-    refused_tick(c, rt)
-}
-
 // One call: settings that fail the check answer that, and nothing changes;
 // else one tick under them.
 // All NaNs are one value in this promise: which pattern a NaN has is left open,
@@ -151,5 +131,8 @@ pub fn tick(
     ensures { λ r. ⌜ r ≡ tickOf s rt inp out (now (pos .entry)) (now (vel .entry)) (now (aux .entry)) (now (ext .entry)) (now (chunk .entry)) ⌝ }
 {
     let c = check(s);
-    tick_by(c, s, rt, inp, out, pos, vel, aux, ext, chunk)
+    if is_accepted(c) {
+        return accepted_tick(s, rt, inp, out, pos, vel, aux, ext, chunk);
+    }
+    refused_tick(c, rt)
 }

@@ -29,14 +29,14 @@ pub fn empty() -> Line
 pub fn push(mut l: Line, b: &[u8]) -> Line
     ensures { λ r. ⌜ r ≡ pushOf l (now (b .entry)) ⌝ }
 {
-    let mut i: usize = 0;
-    while i < b.len() {
+    let mut taken: usize = 0;
+    while taken < b.len() {
         let n = l.n;
         if n < LINE {
-            l.text[n] = b[i];
+            l.text[n] = b[taken];
             l.n = n + 1;
         }
-        i += 1;
+        taken += 1;
     }
     l
 }

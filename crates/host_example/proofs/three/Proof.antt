@@ -14,7 +14,7 @@ once-requires-3 c κs = search needs
 
 returns : tie.Need-returns
 unfolding threeOf
-returns c = rw (c .once3 .ensures, c .before .before .once2 .ensures, c .before .before .before .before .once .ensures)
+returns c = rw (c .once3 .ensures, c .before .once2 .ensures, c .before .before .once .ensures)
 
 pub three-spec : {M : Type 1} → statement M
 three-spec = tie.close (tie.spec once-requires once-requires-2 once-requires-3 returns)
