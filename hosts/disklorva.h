@@ -126,8 +126,9 @@ typedef struct {
 /* The state machine's. Counts stop at their largest number, and none wraps but handoff_seq (docs/COUNTERS.md). */
 typedef struct {
     uint64_t window;          /* the hit window: bit 0 is the last clean tick, 1 a hit */
-    uint8_t state;            /* code */
+    uint64_t last_nonce[8];   /* by slot, the last nonce that was consumed; 0 after a reset */
     double hold[8];           /* the point that is held, unit: where the arm was when it stopped, within the box; 0 before */
+    uint8_t state;            /* code */
     uint16_t clean_run;       /* quiet ticks in a row */
     uint8_t clamp_streak;     /* clamped ticks with a chunk, since the last clearing or Resume */
     uint16_t clamps;          /* clamped ticks since the reset */
@@ -139,15 +140,14 @@ typedef struct {
     uint8_t rearms;           /* rearms since the reset, automatic and by Resume */
     uint32_t handoff_seq;     /* the current handoff number, which an acknowledgement must name */
     uint8_t handoff_pending;  /* flag: a handoff began, and neither an answer nor the timeout has ended it */
-    uint64_t last_nonce[8];   /* by slot, the last nonce that was consumed; 0 after a reset */
 } disklorva_control;
 
 typedef struct {
     double pos[8];         /* the position taken last, unit */
     double prev_pos[8];    /* the one that was taken before the last clean tick's */
     double vel[8];         /* the velocity of the last clean tick, unit / s */
-    uint8_t have_prev_pos; /* flag: a clean tick came since the reset */
     double last_cmd[8];    /* the last verdict's action */
+    uint8_t have_prev_pos; /* flag: a clean tick came since the reset */
 } disklorva_motion;
 
 typedef struct {
@@ -278,7 +278,7 @@ double disklorva_sqrt(double x);
 DISKLORVA_SIZE(disklorva_settings, 224);
 DISKLORVA_SIZE(disklorva_input, 48);
 DISKLORVA_SIZE(disklorva_outcome, 264);
-DISKLORVA_SIZE(disklorva_run_state, 784);
+DISKLORVA_SIZE(disklorva_run_state, 776);
 DISKLORVA_SIZE(disklorva_verdict, 248);
 DISKLORVA_SIZE(disklorva_answer, 256);
 #undef DISKLORVA_SIZE

@@ -85,8 +85,9 @@ static void outcome(const char *name) {
 
 static void control(const char *name) {
     FIELD(disklorva_control, window);
-    FIELD(disklorva_control, state);
+    FIELD(disklorva_control, last_nonce);
     FIELD(disklorva_control, hold);
+    FIELD(disklorva_control, state);
     FIELD(disklorva_control, clean_run);
     FIELD(disklorva_control, clamp_streak);
     FIELD(disklorva_control, clamps);
@@ -98,7 +99,6 @@ static void control(const char *name) {
     FIELD(disklorva_control, rearms);
     FIELD(disklorva_control, handoff_seq);
     FIELD(disklorva_control, handoff_pending);
-    FIELD(disklorva_control, last_nonce);
     printf("%s size %zu\n", name, sizeof(disklorva_control));
 }
 
@@ -106,8 +106,8 @@ static void motion(const char *name) {
     FIELD(disklorva_motion, pos);
     FIELD(disklorva_motion, prev_pos);
     FIELD(disklorva_motion, vel);
-    FIELD(disklorva_motion, have_prev_pos);
     FIELD(disklorva_motion, last_cmd);
+    FIELD(disklorva_motion, have_prev_pos);
     printf("%s size %zu\n", name, sizeof(disklorva_motion));
 }
 

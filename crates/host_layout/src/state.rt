@@ -19,11 +19,14 @@ use lictor_core::state::Time;
 use lictor_core::state::state_code;
 use lictor_core::verdict::TRIP_BITS;
 
+// The rows are before the small fields, as in lictor_core: with a gap in front of a row a copy of it
+// is slow.
 #[repr(C)]
 pub struct Control {
     pub window: u64,
-    pub state: u8,
+    pub last_nonce: [u64; MAX_OPERATORS],
     pub hold: [f64; MAX_POS],
+    pub state: u8,
     pub clean_run: u16,
     pub clamp_streak: u8,
     pub clamps: u16,
@@ -35,7 +38,6 @@ pub struct Control {
     pub rearms: u8,
     pub handoff_seq: u32,
     pub handoff_pending: u8,
-    pub last_nonce: [u64; MAX_OPERATORS],
 }
 
 #[repr(C)]
@@ -43,8 +45,8 @@ pub struct Motion {
     pub pos: [f64; MAX_POS],
     pub prev_pos: [f64; MAX_POS],
     pub vel: [f64; MAX_POS],
-    pub have_prev_pos: u8,
     pub last_cmd: [f64; MAX_D],
+    pub have_prev_pos: u8,
 }
 
 #[repr(C)]

@@ -2,14 +2,14 @@
 ghost use mathlib.Core.Path.{_≡_};
 ghost use Prim.Native.Nat.{_≤_};
 ghost use Rattle.lictor_core.specs.Sizes.{maxPos};
-ghost use Rattle.lictor_table.specs.Helpers.{latchedOf, latchHold};
+ghost use Rattle.lictor_table.specs.Helpers.{latchedOf};
 use fmath::clamp;
 use lictor_core::chunk::MAX_POS;
-use lictor_core::envelope::FuseConfig;
-use lictor_core::fuse::Control;
-use lictor_core::num::least;
 
-fn latched(
+// `hold` with its first n components those of the position, each clamped to its box. Its two callers
+// give it rows alone: a run state among its parameters would be written to memory on every tick
+// (docs/PERFORMANCE.md).
+pub(crate) fn latched(
     pos: [f64; MAX_POS],
     lo: [f64; MAX_POS],
     hi: [f64; MAX_POS],
@@ -28,17 +28,4 @@ fn latched(
         at += 1;
     }
     out
-}
-
-pub fn latch_hold(cfg: FuseConfig, rt: Control, pos: [f64; MAX_POS]) -> Control
-    ensures { λ r. ⌜ r ≡ latchHold cfg pos rt ⌝ }
-{
-    let mut after = rt;
-    let n = least(cfg.pos_dim, MAX_POS);
-    let lo = cfg.box_lo;
-    let hi = cfg.box_hi;
-    let old = rt.hold;
-    let hold = latched(pos, lo, hi, old, n);
-    after.hold = hold;
-    after
 }

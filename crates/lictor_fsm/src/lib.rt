@@ -9,7 +9,7 @@ mod acks; // which acknowledgement is accepted, and what it changes
 mod counts; // counts that go up on a test
 mod escalated; // rows 4 to 8
 mod held; // rows 9 to 13
-mod hold; // latch_hold
+mod hold; // the latched hold
 mod running; // rows 17 to 23 and the stay rows
 
 ghost use mathlib.Core.Path.{_≡_};
@@ -23,12 +23,13 @@ use crate::counts::count_clean;
 use crate::counts::count_stopped;
 use crate::escalated::escalated;
 use crate::held::held;
-use crate::hold::latch_hold;
+use crate::hold::latched;
 use crate::running::running;
 use lictor_core::ack::MaybeAck;
 use lictor_core::chunk::MAX_POS;
 use lictor_core::envelope::FuseConfig;
 use lictor_core::fuse::Control;
+use lictor_core::num::least;
 use lictor_core::num::sat_u16;
 use lictor_core::reason::ReasonCode;
 use lictor_core::state::FuseState;
@@ -176,7 +177,13 @@ fn by_from(
 fn fault(cfg: FuseConfig, rt: Control, pos: [f64; MAX_POS], extra: u32, reason: ReasonCode) -> Turn
     ensures { λ r. ⌜ r ≡ to Fault extra reason (latchHold cfg pos rt) ⌝ }
 {
-    let after = latch_hold(cfg, rt, pos);
+    let mut after = rt;
+    let lo = cfg.box_lo;
+    let hi = cfg.box_hi;
+    let old = rt.hold;
+    let live = least(cfg.pos_dim, MAX_POS);
+    let hold = latched(pos, lo, hi, old, live);
+    after.hold = hold;
     Turn {
         rt: after,
         state: FuseState::Fault,
@@ -262,7 +269,13 @@ fn confirmed(stopped: bool, ticks: u8, need: u8) -> bool
 fn standstill_row(cfg: FuseConfig, rt: Control, pos: [f64; MAX_POS]) -> Turn
     ensures { λ r. ⌜ r ≡ standstillRow cfg rt pos ⌝ }
 {
-    let mut after = latch_hold(cfg, rt, pos);
+    let mut after = rt;
+    let lo = cfg.box_lo;
+    let hi = cfg.box_hi;
+    let old = rt.hold;
+    let live = least(cfg.pos_dim, MAX_POS);
+    let hold = latched(pos, lo, hi, old, live);
+    after.hold = hold;
     after.held_ticks = 0;
     after.held_clean = 0;
     Turn {

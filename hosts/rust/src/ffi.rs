@@ -125,8 +125,9 @@ record! {
 record! {
     Control {
         window: u64,
-        state: u8,
+        last_nonce: [u64; 8],
         hold: [f64; 8],
+        state: u8,
         clean_run: u16,
         clamp_streak: u8,
         clamps: u16,
@@ -138,7 +139,6 @@ record! {
         rearms: u8,
         handoff_seq: u32,
         handoff_pending: u8,
-        last_nonce: [u64; 8],
     }
 }
 
@@ -147,8 +147,8 @@ record! {
         pos: [f64; 8],
         prev_pos: [f64; 8],
         vel: [f64; 8],
-        have_prev_pos: u8,
         last_cmd: [f64; 8],
+        have_prev_pos: u8,
     }
 }
 
