@@ -13,6 +13,9 @@ trace=$top/target/bin/trace
 pages=$top/target/bin/pages
 require=
 
+# The rules that the fuse has by request and the Rust has not, as options; the reference follows them (rust/rules).
+has=' --rule max-ignores-nan'
+
 option() {
     took=2
     case $1 in

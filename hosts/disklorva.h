@@ -195,8 +195,8 @@ typedef struct {
     disklorva_mark first_stop_tick;          /* the first tick that ended in a stop state (4 to 8) */
     disklorva_mark handoff_tick;             /* the first tick that began Escalated */
     uint32_t violations_reached_env;         /* ticks in Observe that Enforce would have answered with another row */
-    double max_s;                            /* the largest s; -infinity before the first tick */
-    double max_z[12];                        /* the largest z of each feature that is in calib_mask and valid */
+    double max_s;                            /* the largest s that is no NaN; -infinity where none came */
+    double max_z[12];                        /* the same of z of each feature that is in calib_mask and valid */
     uint8_t terminal_state;                  /* code: the state that the last tick ended in; Idle before the first */
 } disklorva_tally;
 

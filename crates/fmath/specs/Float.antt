@@ -3,7 +3,7 @@ use Prim.Native.Nat.{ℕ}
 use mathlib.Core.Bool.{Bool, true, cond, _&&_}
 use mathlib.Core.List.{List, [], _∷_}
 use lib.ListN.{take}
-use lib.Ieee.{Float, binary64, add, mul, lt}
+use lib.Ieee.{Float, binary64, add, mul, lt, isNan}
 use lib.Ieee.Scale.{finite}
 use Rattle.fmath.specs.Root.{rootOf, plusZero}
 
@@ -11,9 +11,11 @@ use Rattle.fmath.specs.Root.{rootOf, plusZero}
 unfoldable pub minOf : Float → Float → Float
 minOf a b = cond (lt a b) a b
 
--- fmath.rs, max: a where a > b, and otherwise b, so that a NaN as b wins and one as a loses
+-- the larger of two, which ignores a NaN (request 2): a where b is a NaN or less, and otherwise b,
+-- so that of two NaNs it is a NaN, and of equal ones the second; fmath.rs, max, has b where it is a
+-- NaN
 unfoldable pub maxOf : Float → Float → Float
-maxOf a b = cond (lt b a) a b
+maxOf a b = cond (isNan b) a (cond (lt b a) a b)
 
 -- fmath.rs, clamp
 unfoldable pub clampOf : Float → Float → Float → Float

@@ -1,2 +1,5 @@
 pub mod Float
 pub mod Root
+pub mod Rank
+pub mod Larger
+pub mod Most

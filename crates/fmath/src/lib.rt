@@ -81,11 +81,15 @@ pub fn min(a: f64, b: f64) -> f64
     if a < b { a } else { b }
 }
 
-// a if it is greater, and b otherwise: of equal zeros, and where one of the two is a NaN, b.
+// a if it is greater, and b otherwise, of equal zeros too; a NaN is ignored, and of two NaNs the
+// answer is one.
 // Which pattern a NaN has is the program's choice.
 pub fn max(a: f64, b: f64) -> f64
     ensures { λ r. ⌜ r ≡ maxOf a b ⌝ }
 {
+    if b != b {
+        return a;
+    }
     if a > b { a } else { b }
 }
 

@@ -1,3 +1,4 @@
 -- Laws that belong to no one function.
 pub mod Literals
 pub mod Several
+pub mod Factor

@@ -46,12 +46,16 @@ scaledAction cfg vel k = scaledRow vel k (cfg .«pos_dim») (min (cfg .dim) maxD
 unfoldable pub eps : Float
 eps = round binary64 false 1 (10 ^ 9)
 
--- max(0, 1 - a_max * dt / (norm + 1e-9)), rounded at each operation; the norm is over the
--- components that both the action and the velocity have
+-- 1 - a_max * dt / (norm + 1e-9), rounded at each operation: the share of the velocity that is left
+-- after a tick; the norm is over the components that both the action and the velocity have
+unfoldable pub shareLeft : FuseConfig → List Float → Float
+shareLeft cfg vel =
+    sub binary64 oneFloat
+    (div binary64 (mul binary64 (cfg .«a_max») (cfg .dt)) (add binary64 (normOf vel (min (min (cfg .dim) maxD) (cfg .«pos_dim»))) eps))
+
+-- the larger of 0 and that share; 0 where the share is a NaN
 unfoldable pub brakeFactor : FuseConfig → List Float → Float
-brakeFactor cfg vel =
-    maxOf zeroFloat
-    (sub binary64 oneFloat (div binary64 (mul binary64 (cfg .«a_max») (cfg .dt)) (add binary64 (normOf vel (min (min (cfg .dim) maxD) (cfg .«pos_dim»))) eps)))
+brakeFactor cfg vel = maxOf zeroFloat (shareLeft cfg vel)
 
 -- brake_action: EePosition, JointPosition and Other stay at the position; JointVelocity ramps the
 -- velocity down; EeDelta too, as a step of dt

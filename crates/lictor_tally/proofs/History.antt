@@ -5,10 +5,13 @@ use mathlib.Core.Bool.{Bool, true, false, cond, _&&_}
 use mathlib.Core.List.{List, [], _∷_, _++_}
 use Prim.Native.Nat.{ℕ, zero, suc, _+_, _-_, _^_, _≤_, _<_, min}
 use native.Mathlib.Omega.{arith}
-use lib.ListN.{length, getD, replicate, getD-replicate}
-use lib.Ieee.{Float, inf, nan}
+use lib.ListN.{length, getD, replicate}
+use lib.Ieee.{Float, inf}
 use Rattle.fmath.specs.Float.{maxOf}
+use Rattle.fmath.specs.Most.{mostOf}
+use Rattle.fmath.proofs.Most.{most-largest}
 use Rattle.lictor_core.specs.Initial.{emptyTally}
+use Rattle.lictor_core.specs.Sizes.{features, tripBits}
 use Rattle.lictor_core.specs.declared.reason.ReasonCode.{ReasonCode}
 use Rattle.lictor_core.specs.declared.state.FuseState.{FuseState}
 use Rattle.lictor_core.specs.declared.state.FuseState.the-variants as S
@@ -18,7 +21,7 @@ use Rattle.lictor_core.specs.declared.tally.ReasonMark.{ReasonMark}
 use Rattle.lictor_core.specs.declared.tally.ReasonMark.the-variants.{NoReason, For}
 use Rattle.lictor_core.specs.declared.tally.Tally.{Tally}
 use Rattle.lictor_tally.specs.Tally.{count, countBit, countBits, first, firstReason, mostAt, mostLive, recordOf, recordChunk, withChunks}
-use Rattle.lictor_tally.specs.History.{Item, recorded, tallyFrom, tallyOf, Count, ticksCount, nominalCount, watchingCount, clampedCount, brakingCount, heldCount, escalatedCount, faultCount, terminatedCount, substitutedCount, violationsCount, chunksSeenCount, chunksRejectedCount, clampsCount, holdsCount, rearmsCount, escalationsCount, tripsCount, firedCount, valueOf, counts, number, overStates, hasTrips, stops, handsOver, sOf, live, zOf, firstIn, firstReasonOf, mostOf, lastIn, OfHistory}
+use Rattle.lictor_tally.specs.History.{Item, recorded, tallyFrom, tallyOf, Count, ticksCount, nominalCount, watchingCount, clampedCount, brakingCount, heldCount, escalatedCount, faultCount, terminatedCount, substitutedCount, violationsCount, chunksSeenCount, chunksRejectedCount, clampsCount, holdsCount, rearmsCount, escalationsCount, tripsCount, firedCount, valueOf, counts, number, overStates, hasTrips, stops, handsOver, Maximum, ofS, ofZ, maximumIn, takes, scoreOf, firstIn, firstReasonOf, lastIn, OfHistory}
 use Rattle.lictor_tally.proofs.Places.{length-each}
 use Rattle.lictor_tally.proofs.CountsLaws.{count-fits, bits-at, most-at}
 
@@ -170,10 +173,11 @@ last-from t (x ∷ h) = last-from (recorded t x) h
 
 -- ---- from an empty tally
 
-all-zero : (n b : ℕ) → _≡_ {A = ℕ} (getD (replicate n 0) b 0) 0
-all-zero zero b = refl
-all-zero (suc n) zero = refl
-all-zero (suc n) (suc b) = all-zero n b
+-- a list that has one value everywhere, and past its end too
+all-same : {X : Type 0} (n b : ℕ) (x : X) → getD (replicate n x) b x ≡ x
+all-same zero b x = refl
+all-same (suc n) zero x = refl
+all-same (suc n) (suc b) x = all-same n b x
 
 none-yet : (k : Count) → valueOf k emptyTally ≡ 0
 unfolding emptyTally
@@ -194,8 +198,8 @@ none-yet clampsCount = refl
 none-yet holdsCount = refl
 none-yet rearmsCount = refl
 none-yet escalationsCount = refl
-none-yet (tripsCount b) = all-zero 16 b
-none-yet (firedCount j) = all-zero 12 j
+none-yet (tripsCount b) = all-same tripBits b 0
+none-yet (firedCount j) = all-same features j 0
 
 pub count-all : (h : List Item) (k : Count) → valueOf k (tallyOf h) ≡ min (number (counts k) h) (2 ^ 32 - 1)
 count-all h k =
@@ -240,16 +244,19 @@ reason-first : (n : ReasonMark) → orReason Never NoReason n ≡ n
 reason-first NoReason = refl
 reason-first (For w) = refl
 
-channel : (j : ℕ) → j < 12 → (t : Tally) (x : Item) → Sized t → getD (recorded t x .«max_z») j nan ≡ cond (live j x) (maxOf (getD (t .«max_z») j nan) (zOf j x)) (getD (t .«max_z») j nan)
-unfolding ticked recordOf mostAt
-channel j b t x z = let g : j < length (t .«max_z») = omega (arith, z .maxima) in rw (as-ticked t x) (most-at (x .events .«live_z») (x .verdict .scores .z) (t .«max_z») j g)
+-- each maximum is the larger of what it was and the score, where it takes the tick in
+larger : (m : Maximum) (t : Tally) (x : Item) → Sized t → maximumIn m (recorded t x) ≡ cond (takes m x) (maxOf (maximumIn m t) (scoreOf m x)) (maximumIn m t)
+unfolding ticked recordOf
+larger ofS t x z = rw (as-ticked t x)
+larger (ofZ j) t x z = rw (as-ticked t x) (most-at (x .events .«live_z») (x .verdict .scores .z) (t .«max_z») features j (inf true) (z .maxima))
 
-lowest : (j : ℕ) → j < 12 → getD (emptyTally .«max_z») j nan ≡ inf true
+lowest : (m : Maximum) → maximumIn m emptyTally ≡ inf true
 unfolding emptyTally
-lowest j b = getD-replicate 12 j (inf true) nan b
+lowest ofS = refl
+lowest (ofZ j) = all-same features j (inf true)
 
-max-z : (h : List Item) (j : ℕ) → j < 12 → getD (tallyOf h .«max_z») j nan ≡ mostOf (live j) (zOf j) (inf true) h
-max-z h j b = rw (lowest j b) at (most-from (λ t. getD (t .«max_z») j nan) (live j) (zOf j) (channel j b) emptyTally h empty-sized)
+maximum-of : (h : List Item) (m : Maximum) → maximumIn m (tallyOf h) ≡ mostOf (takes m) (scoreOf m) (inf true) h
+maximum-of h m = rw (lowest m) at (most-from (maximumIn m) (takes m) (scoreOf m) (larger m) emptyTally h empty-sized)
 
 -- ---- the claim
 
@@ -264,7 +271,7 @@ history h = record {
   firstTripReason = reason-from emptyTally h ∙ reason-first (firstReasonOf h);
   firstStop = mark-from (λ t. t .«first_stop_tick») stops (λ t x. rw (as-ticked t x)) emptyTally h;
   firstHandoff = mark-from (λ t. t .«handoff_tick») handsOver (λ t x. rw (as-ticked t x)) emptyTally h;
-  maxS = most-from (λ t. t .«max_s») (counts ticksCount) sOf (λ t x z. rw (as-ticked t x)) emptyTally h empty-sized;
-  maxZ = max-z h;
+  most = maximum-of h;
+  largest = λ m. rw (maximum-of h m) (most-largest (takes m) (scoreOf m) h);
   last = last-from emptyTally h;
 }

@@ -1,11 +1,14 @@
 -- Lists whose elements each go by the rule of their place: what an element becomes, and how a loop
 -- gets there, one place a turn.
-use mathlib.Core.Path.{_≡_, refl, ap}
+use mathlib.Core.Path.{_≡_, refl, sym, ap, _∙_}
+use mathlib.Core.Bool.{Bool, true, false, cond}
 use mathlib.Core.List.{List, [], _∷_}
-use Prim.Native.Nat.{ℕ, zero, suc, _+_, _<_}
+use Prim.Native.Nat.{ℕ, zero, suc, _+_, _≤_, _<_}
 use native.Mathlib.Numerals.{add-one}
 use native.Mathlib.Omega.{arith}
-use lib.ListN.{length, getD, set}
+use lib.Dec.{ltb}
+use lib.ListN.{length, getD, set, List·getD-eq-default}
+use borrow.Author.Tests.{ltb-true, ltb-false}
 use Rattle.lictor_tally.specs.Counts.{eachFrom}
 
 module _ {X : Type 0} (f : ℕ → X → X) where
@@ -20,6 +23,19 @@ module _ {X : Type 0} (f : ℕ → X → X) where
   each-at i [] k d h = absurd (omega arith)
   each-at i (x ∷ l) zero d h = let e : i + 0 ≡ i = omega arith in rw e
   each-at i (x ∷ l) (suc k) d h = let e : i + suc k ≡ i + 1 + k = omega arith in let g : k < length l = omega arith in rw e (each-at (i + 1) l k d g)
+
+  -- of a list of n, whatever the place: past the end nothing moves
+  pub each-within : (l : List X) (n k : ℕ) (d : X) → length l ≡ n → getD (eachFrom 0 f l) k d ≡ cond (ltb k n) (f k (getD l k d)) (getD l k d)
+  each-within l n k d e = by-place (ltb k n) refl where
+    by-place : (q : Bool) → ltb k n ≡ q → getD (eachFrom 0 f l) k d ≡ cond q (f k (getD l k d)) (getD l k d)
+    by-place true h =
+        let i : 0 + k ≡ k = omega arith in
+        let g : k < length l = omega (arith, ltb-true) in
+        rw i at (each-at 0 l k d g)
+    by-place false h =
+        let g : length l ≤ k = omega (arith, ltb-false) in
+        let m : length (eachFrom 0 f l) ≤ k = omega (arith, length-each 0 l) in
+        List·getD-eq-default (eachFrom 0 f l) d m ∙ sym (List·getD-eq-default l d g)
 
   -- the first k places by the rule, counted from i, the others as they were
   unfoldable pub eachTo : ℕ → ℕ → List X → List X

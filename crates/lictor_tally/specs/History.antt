@@ -7,7 +7,7 @@ use Prim.Native.Nat.{ℕ, _+_, _-_, _^_, _<_, min}
 use lib.Dec.{eqb, ltb}
 use lib.ListN.{length, getD}
 use lib.Ieee.{Float, inf, nan}
-use Rattle.fmath.specs.Float.{maxOf}
+use Rattle.fmath.specs.Most.{mostOf, Largest}
 use Rattle.lictor_core.specs.Codes.{isState, isStop}
 use Rattle.lictor_core.specs.Initial.{emptyTally}
 use Rattle.lictor_core.specs.Sizes.{features, tripBits}
@@ -112,15 +112,28 @@ stops x = isStop (x .verdict .state)
 abbrev pub handsOver : Item → Bool
 handsOver x = x .events .«entered_escalated»
 
-abbrev pub sOf : Item → Float
-sOf x = x .verdict .scores .s
+-- a maximum: that of s, and one for each channel
+pub data Maximum : Type 0 where
+  ofS : Maximum
+  ofZ : ℕ → Maximum
 
--- of channel j: the tick has a real score, and that score
-abbrev pub live : ℕ → Item → Bool
-live j x = bitOf (x .events .«live_z») j
+-- the field that holds it; where there is no such channel, minus infinity
+abbrev pub maximumIn : Maximum → Tally → Float
+maximumIn ofS t = t .«max_s»
+maximumIn (ofZ j) t = getD (t .«max_z») j (inf true)
 
-abbrev pub zOf : ℕ → Item → Float
-zOf j x = getD (x .verdict .scores .z) j nan
+-- the ticks that it takes in: all, and of a channel those in which it is live
+abbrev pub takes : Maximum → Item → Bool
+takes ofS x = true
+takes (ofZ j) x = ltb j features && bitOf (x .events .«live_z») j
+
+-- what it takes of a verdict
+abbrev pub scoreIn : Maximum → SafetyVerdict → Float
+scoreIn ofS v = v .scores .s
+scoreIn (ofZ j) v = getD (v .scores .z) j nan
+
+abbrev pub scoreOf : Maximum → Item → Float
+scoreOf m x = scoreIn m (x .verdict)
 
 -- the t of the first tick with a property, and the reason of the first that trips
 abbrev pub firstIn : (Item → Bool) → List Item → Mark
@@ -130,11 +143,6 @@ firstIn p (x ∷ h) = cond (p x) (At (x .verdict .t)) (firstIn p h)
 abbrev pub firstReasonOf : List Item → ReasonMark
 firstReasonOf [] = NoReason
 firstReasonOf (x ∷ h) = cond (hasTrips x) (For (x .verdict .reason)) (firstReasonOf h)
-
--- the larger, by fmath's max, of m and a score of each tick with a property, in the ticks' order
-abbrev pub mostOf : (Item → Bool) → (Item → Float) → Float → List Item → Float
-mostOf p score m [] = m
-mostOf p score m (x ∷ h) = mostOf p score (cond (p x) (maxOf m (score x)) m) h
 
 -- the state in which the last tick ended, s where there was none
 abbrev pub lastIn : FuseState → List Item → FuseState
@@ -157,6 +165,8 @@ pub record OfHistory (h : List Item) : Type 0 where
   pub firstTripReason : tallyOf h .«first_trip_reason» ≡ firstReasonOf h
   pub firstStop : tallyOf h .«first_stop_tick» ≡ firstIn stops h
   pub firstHandoff : tallyOf h .«handoff_tick» ≡ firstIn handsOver h
-  pub maxS : tallyOf h .«max_s» ≡ mostOf (counts ticksCount) sOf (inf true) h
-  pub maxZ : (j : ℕ) → j < features → getD (tallyOf h .«max_z») j nan ≡ mostOf (live j) (zOf j) (inf true) h
+  -- a maximum is the larger of all that it takes in, one after the other, and so it is the largest
+  -- of them that is no NaN, or minus infinity
+  pub most : (m : Maximum) → maximumIn m (tallyOf h) ≡ mostOf (takes m) (scoreOf m) (inf true) h
+  pub largest : (m : Maximum) → Largest (takes m) (scoreOf m) h (maximumIn m (tallyOf h))
   pub last : tallyOf h .«terminal_state» ≡ lastIn S.Idle h

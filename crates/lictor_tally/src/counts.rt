@@ -138,11 +138,14 @@ pub fn first_reason(happens: bool, m: Mark, w: ReasonCode, old: ReasonMark) -> R
 
 // ---- maxima
 
+// A channel that is not live has a NaN in the place of its score, which the larger of two ignores:
+// without a branch, so that the twelve are compared in pairs.
 fn most_at(live: u32, j: usize, x: f64, m: f64) -> f64
     requires { ⌜ j < 32 ⌝ }
     ensures { λ r. ⌜ r ≡ cond (bitOf live j) (maxOf m x) m ⌝ }
 {
-    if bit_of(live, j) { fmath::max(m, x) } else { m }
+    let score = if bit_of(live, j) { x } else { fmath::nan() };
+    fmath::max(m, score)
 }
 
 // Which pattern a NaN has is the program's choice.

@@ -8,7 +8,7 @@ use Rattle.lictor_core.specs.Masks.{anyOf}
 use Rattle.lictor_core.specs.Rows.{rowTo, takenRow}
 use Rattle.lictor_core.specs.FirstThat.{firstThat}
 use Rattle.lictor_settings.specs.Settings.{badCode, badSize, badFloat, anyBelow, crossedOf, badBox, settingsTable, checkOf, configOf}
-use Rattle.lictor_detect.specs.Brake.{component, boxedComponent, boxedRow, scaledComponent, scaledRow, boxedAction, scaledAction, eps, brakeFactor, brakeAction, holdAction}
+use Rattle.lictor_detect.specs.Brake.{component, boxedComponent, boxedRow, scaledComponent, scaledRow, boxedAction, scaledAction, eps, shareLeft, brakeFactor, brakeAction, holdAction}
 use Rattle.lictor_detect.specs.Window.{hitBit, pushHit, hitsOf, tripOf}
 use Rattle.lictor_guard.specs.Delivery.{deliveredOf, sizesBad, placeBad, headBad, deliveryBad}
 use Rattle.lictor_guard.specs.Guard.{nonFinite, lengthsOf, shapeBad, clockBad, schemaBad, bitIf, guardOf}
@@ -38,7 +38,7 @@ unfolding
     anyOf
     rowTo
     badCode badSize badFloat anyBelow crossedOf badBox settingsTable firstThat checkOf configOf
-    component boxedComponent boxedRow scaledComponent scaledRow boxedAction scaledAction eps brakeFactor
+    component boxedComponent boxedRow scaledComponent scaledRow boxedAction scaledAction eps shareLeft brakeFactor
     brakeAction holdAction
     hitBit pushHit hitsOf tripOf
     deliveredOf sizesBad placeBad headBad deliveryBad

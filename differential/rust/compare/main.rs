@@ -34,7 +34,7 @@ use std::{
 use coverage::Coverage;
 use generate::profiles::{named, Often, Profile, PROFILES};
 use oracle::{answer::Program, journal::Unobserved, records::describe};
-use rules::RULES;
+use rules::{Rule, RULES};
 use subject::{Difference, Field, Subject};
 
 struct Options {
@@ -214,6 +214,10 @@ impl Run {
             let found = if i == 0 {
                 let found = subject.compare(journal, &mut self.coverage)?;
                 self.applied.iter_mut().zip(RULES).for_each(|(n, (rule, ..))| *n += u64::from(rules::applied(rule)));
+                let nan = rules::on(Rule::MaxIgnoresNan) && self.coverage.met_nan();
+                if rules::applied(Rule::MaxIgnoresNan) != nan && found.is_none() {
+                    return Err(io::Error::other(format!("{name}: the rule of max applied where no NaN was met, or did not")));
+                }
                 found
             } else {
                 subject.compare(journal, &mut Unobserved)?
@@ -270,6 +274,11 @@ impl Run {
                 );
             }
         }
+        let nan = self.coverage.nan_ticks;
+        println!(
+            "NaNs that max met: as s in {} ticks, as the z of a live channel in {}, as the brake factor in {}",
+            nan.s, nan.live_z, nan.factor
+        );
         for (i, name) in self.given.left_out.iter().enumerate() {
             let lines: u64 = self.given.subjects.iter().map(|subject| subject.left_out[i].lines.get()).sum();
             if lines == 0 {

@@ -26,11 +26,24 @@ struct Memory {
     settings: bool,
     ignored: Vec<(u8, u64)>,
     resumed_with_clamps: bool,
+    /// a tick of the episode had a NaN as s
+    nan_s: bool,
+    /// a tick of the journal had a NaN in one of the three places
+    nan: bool,
+}
+
+/// In how many ticks each maximum met a NaN.
+#[derive(Clone, Copy, Default)]
+pub struct NanTicks {
+    pub s: u64,
+    pub live_z: u64,
+    pub factor: u64,
 }
 
 pub struct Coverage {
     pub ticks: u64,
     pub journals: u64,
+    pub nan_ticks: NanTicks,
     rows: Counts<Row>,
     states: Grid,
     reasons: Grid,
@@ -71,6 +84,7 @@ impl Coverage {
         Self {
             ticks: 0,
             journals: 0,
+            nan_ticks: NanTicks::default(),
             rows: Counts::new("rows of fsm.rs")
                 .never(Row::R17bClamped, "clamping off never enters Clamped")
                 .never(Row::R19Watching, "entering Watching passes row 19, and nothing counts in Watching"),
@@ -134,6 +148,11 @@ impl Coverage {
     pub fn begin(&mut self) {
         self.journals += 1;
         self.now = Memory::default();
+    }
+
+    /// Whether a tick of this journal had a NaN as s, as the z of a live channel or as the brake factor's share.
+    pub fn met_nan(&self) -> bool {
+        self.now.nan
     }
 
     /// Whether each point was reached, in a fixed order.
@@ -272,7 +291,7 @@ impl Coverage {
         guard.hit_if(Guard::ChunkOkStays, k.after.chunk_ok_this_tick);
         guard.hit_if(Guard::PendingStays, k.after.handoff_pending);
         guard.hit_if(Guard::WindowStays, k.after.window.bits != 0);
-        self.odd.hit_if(Odd::MaxSByFault, k.before.max_s.is_nan());
+        self.odd.hit_if(Odd::MaxSByFault, self.now.nan_s);
         self.ends.hit_if(End::LastT, k.after.last_t == u32::MAX);
     }
 
@@ -366,8 +385,12 @@ impl Coverage {
             ActionSource::Brake if matches!(s.kind, 1 | 3) => {
                 let vel = &k.after.vel[..usize::from(s.pos_dim)];
                 let norm = fmath::norm(vel, usize::from(s.pos_dim.min(s.dim)));
-                let factor = fmath::max(0.0, 1.0 - s.a_max * s.dt / (norm + 1e-9));
-                odd.hit_if(Odd::FactorNan, factor.is_nan());
+                let share = 1.0 - s.a_max * s.dt / (norm + 1e-9);
+                let factor = if share > 0.0 { share } else { 0.0 };
+                odd.hit_if(Odd::FactorNan, share.is_nan());
+                self.nan_ticks.factor += u64::from(share.is_nan());
+                self.now.nan |= share.is_nan();
+                odd.hit_if(Odd::FactorNanMoving, share.is_nan() && vel.iter().all(|x| x.is_finite()));
                 odd.hit_if(Odd::FactorZero, factor == 0.0 && norm > 0.0);
                 odd.hit_if(Odd::FactorAbove1, factor > 1.0);
                 odd.hit_if(Odd::FactorInf, factor.is_infinite());
@@ -398,12 +421,18 @@ impl Coverage {
         odd.hit_if(Odd::TauMinusInf, s.tau == f64::NEG_INFINITY);
         odd.hit_if(Odd::WarnNegative, s.warn_margin < 0.0);
         let (before, after) = (k.before.max_s, k.after.tally.max_s);
-        odd.hit_if(Odd::MaxSNan, after.is_nan());
-        odd.hit_if(Odd::MaxSForgets, before.is_nan() && !after.is_nan());
+        odd.hit_if(Odd::SNanAfter, o.s.is_nan() && before.is_finite());
+        odd.hit_if(Odd::MaxSAfterNan, self.now.nan_s && after.is_finite() && after > before);
         odd.hit_if(Odd::MaxSZero, before.to_bits() == 0 && is_neg_zero(after));
-        odd.hit_if(Odd::MaxZNan, k.after.tally.max_z.iter().any(|z| z.is_nan()));
         let live = s.calib_mask & v.scores.valid;
+        let live_nan = (0..12).any(|j| live & 1 << j != 0 && o.z[j].is_nan());
+        odd.hit_if(Odd::ZLiveNan, live_nan);
         odd.hit_if(Odd::ZDead, (0..12).any(|j| live & 1 << j == 0 && o.z[j] != 0.0));
+        odd.hit_if(Odd::ZDeadNan, (0..12).any(|j| live & 1 << j == 0 && o.z[j].is_nan()));
+        self.nan_ticks.s += u64::from(o.s.is_nan());
+        self.nan_ticks.live_z += u64::from(live_nan);
+        self.now.nan_s |= o.s.is_nan();
+        self.now.nan |= o.s.is_nan() || live_nan;
     }
 
     fn window(&mut self, k: &Ticked) {
@@ -672,7 +701,8 @@ impl Observer for Coverage {
 
     fn reset(&mut self, waiting: bool) {
         self.shapes.hit_if(Shape::ThrownAway, waiting);
-        self.now = Memory { ticks: self.now.ticks, resets: self.now.resets + 1, settings: true, ..Memory::default() };
+        let Memory { ticks, resets, nan, .. } = self.now;
+        self.now = Memory { ticks, resets: resets + 1, settings: true, nan, ..Memory::default() };
     }
 
     fn ticked(&mut self, k: &Ticked) {

@@ -43,6 +43,15 @@ pub fn not_finite(rng: &Rng) -> f64 {
     }
 }
 
+/// A NaN of any sign and payload.
+pub fn any_nan(rng: &Rng) -> f64 {
+    match rng.below(3) {
+        0 => f64::NAN,
+        1 => f64::from_bits(0x7ff0_0000_0000_0001),
+        _ => f64::from_bits(rng.bits() | 0x7ff0_0000_0000_0001),
+    }
+}
+
 /// Any odd float.
 pub fn odd(rng: &Rng) -> f64 {
     if rng.chance(350) {

@@ -41,7 +41,7 @@ const fn once(name: &'static str, what: &'static str, make: fn(&Rng) -> Vec<Vec<
     Profile { name, what, often: Often::Once, make }
 }
 
-pub const PROFILES: [Profile; 32] = [
+pub const PROFILES: [Profile; 33] = [
     each("mixed", "a bit of everything under small limits", |rng| {
         let s = small(rng);
         run(s, rng, &CALM, 300)
@@ -111,6 +111,9 @@ pub const PROFILES: [Profile; 32] = [
         run(s, rng, &mix, 200)
     }),
     each("scores", "the tally's maxima: NaN, infinities and zeros of both signs", scores),
+    each("warm-up", "NaN scores until a detector is ready, and brake factors of a NaN", |rng| {
+        [warm_up(rng), overflowing(rng)].concat()
+    }),
     each("margins", "margins about halves and the ends of the printed range", |rng| {
         let mut draft = Draft::new(Settings { clear: 0, ..roomy() });
         draft.reset();
@@ -208,6 +211,46 @@ fn scores(rng: &Rng) -> Vec<Vec<u8>> {
         draft.send(&plan, rng);
     }
     vec![draft.bytes]
+}
+
+/// After each reset the scores are NaN for a while, then numbers, with a NaN now and then.
+fn warm_up(rng: &Rng) -> Vec<Vec<u8>> {
+    let mut s = small(rng);
+    s.calib_mask = rng.pick(&[0xfff, 1, rng.bits() as u32]);
+    let mut draft = Draft::new(s);
+    let mut left = 0;
+    for tick in 0..150 {
+        if tick == 0 && rng.chance(900) || rng.chance(30) {
+            draft.reset();
+            left = rng.below(20);
+        }
+        let nan = if left > 0 { rng.pick(&[900, 1000]) } else { 50 };
+        left = left.saturating_sub(1);
+        let mut plan = walk::next(&draft, rng, &CALM);
+        let score = || if rng.chance(nan) { floats::any_nan(rng) } else { floats::plain(rng, 4.0) };
+        plan.outcome.valid = rng.pick(&[0xfff, rng.bits() as u32]);
+        plan.outcome.z = std::array::from_fn(|_| score());
+        plan.outcome.s = score();
+        draft.send(&plan, rng);
+    }
+    vec![draft.bytes]
+}
+
+/// Brake factors whose share is a NaN: an infinite a_max x dt over an infinite norm, or a norm that is a NaN.
+fn overflowing(rng: &Rng) -> Vec<Vec<u8>> {
+    let mut s = braking(rng);
+    s.a_max = rng.pick(&[1e308, -1e308, 2.0]);
+    s.dt = rng.pick(&[100.0, 1e10, 0.05]);
+    s.inv_dt = rng.pick(&[0.0, -0.0, 20.0, 1e300]);
+    while_braking(s, rng, 60, |plan, _, rng| {
+        let places = plan.pos.len();
+        let far: Vec<f64> = (0..places).map(|_| rng.pick(&[1e308, -1e308, 1e200, 0.0, 1.0])).collect();
+        if rng.chance(500) {
+            plan.velocity(far);
+        } else {
+            plan.pos = far;
+        }
+    })
 }
 
 /// Velocity kinds that never stand still, so that each tick shows a brake action.

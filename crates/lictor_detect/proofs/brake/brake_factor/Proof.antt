@@ -1,5 +1,5 @@
 use Rattle.lictor_detect.proofs.Literals.{zero-is, one-is, eps-is}
-use Rattle.lictor_detect.specs.Brake.{brakeFactor}
+use Rattle.lictor_detect.specs.Brake.{shareLeft, brakeFactor}
 use borrow.Author.Needs.{needs}
 use Rattle.lictor_detect.proofs.brake.brake_factor.Statement.{statement}
 use Rattle.lictor_detect.proofs.brake.brake_factor.Tie as tie
@@ -20,8 +20,11 @@ max-requires : tie.Need-max-requires
 max-requires c κs = search needs
 
 returns : tie.Need-returns
-unfolding brakeFactor
-returns c = cc (zero-is, one-is, eps-is)
+unfolding brakeFactor shareLeft
+returns c =
+    let n = c .before .before in
+    let d = n .before .before in
+    rw (c .max .ensures, n .norm .ensures, d .least2 .ensures, d .before .least .ensures, zero-is, one-is, eps-is)
 
 pub brake-factor-spec : {M : Type 1} → statement M
 brake-factor-spec =
