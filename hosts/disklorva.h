@@ -7,10 +7,10 @@
  *
  * Every pattern of bytes in a struct has a meaning, so a call asks for nothing but memory. Each pointer is aligned for its type, valid and not null:
  *   rt       points to a run state that nothing else reads or writes during the call;
- *   settings, input, outcome
+ *   settings, input, outcome, earlier, later
  *            are only read, and nothing writes them during the call. The same memory may serve many calls;
  *   lists    a pointer to n doubles that are only read, and that nothing writes during the call. It is not null, also where n is 0. Lists may overlap.
- * What is only read may be anywhere, but not in the run state.
+ * What is only read may be anywhere, but not in a run state that the same call is lent.
  * No function keeps a pointer, allocates, writes elsewhere, blocks or fails; each returns on every input. Two run states may be used by two threads.
  *
  * A flag is 0 for no and 1 for yes. Any other number is taken as the safe choice: feasible and has_ack are then no, every other flag is yes.
@@ -121,7 +121,7 @@ typedef struct {
     double clamped[8];     /* the same row as the clamp leaves it, equal to policy where it leaves all; passed on as it is, in Clamped at ticks without a trip too */
 } disklorva_outcome;
 
-/* ---- the run state: read it, and change nothing in it */
+/* ---- the run state: read it, and change nothing in it but the tally where a stretch ends (disklorva_join) */
 
 /* The state machine's. Counts stop at their largest number, and none wraps but handoff_seq (docs/COUNTERS.md). */
 typedef struct {
@@ -170,7 +170,7 @@ typedef struct {
     uint8_t reason; /* code */
 } disklorva_reason_mark;
 
-/* Counts since the reset; each stops at 4294967295. */
+/* Counts since the reset, or since the cut of a stretch (disklorva_join); each stops at 4294967295. */
 typedef struct {
     uint32_t ticks;                          /* all ticks; the next eight are by the state that a tick ended in */
     uint32_t nominal;                        /* in Armed (or Idle) */
@@ -261,6 +261,18 @@ disklorva_answer disklorva_tick(disklorva_run_state *rt, const disklorva_setting
                                 const disklorva_outcome *outcome, const double *pos, size_t pos_n, const double *vel, size_t vel_n,
                                 const double *aux, size_t aux_n, const double *ext, size_t ext_n, const double *chunk, size_t chunk_n);
 
+/* The tally of an episode that was counted in two stretches: for whoever receives it cut after some tick. `earlier` is the first stretch's tally and `later`
+ * the second's, and the order matters. The second stretch begins from the run state at the cut, with an empty tally and nothing else changed:
+ *     disklorva_tally earlier = rt.tally;
+ *     rt.tally = disklorva_new().tally;      empty: counts 0, no marks, maxima -infinity, Idle
+ *     .. the ticks of the second stretch, under the same settings and with no reset ..
+ *     disklorva_tally whole = disklorva_join(&earlier, &rt.tally);
+ * Then `whole` is the tally that one run would have left, in every field, and every verdict is the one that it would have given. Counts add and stop at
+ * 4294967295; a first mark is the earlier's where that has it, whatever its t; the first trip's reason is of the tally that gave its tick; a maximum is the
+ * larger; the last state is the later's, unless that has no ticks. Any two tallies are taken, by the same rules: a state that is no code is Fault, a reason
+ * that is none EpisodeEnd. Both are only read, and may be one. */
+disklorva_tally disklorva_join(const disklorva_tally *earlier, const disklorva_tally *later);
+
 /* The square root that the tick uses: the double nearest the exact root. */
 double disklorva_sqrt(double x);
 
@@ -278,6 +290,7 @@ double disklorva_sqrt(double x);
 DISKLORVA_SIZE(disklorva_settings, 224);
 DISKLORVA_SIZE(disklorva_input, 48);
 DISKLORVA_SIZE(disklorva_outcome, 264);
+DISKLORVA_SIZE(disklorva_tally, 320);
 DISKLORVA_SIZE(disklorva_run_state, 776);
 DISKLORVA_SIZE(disklorva_verdict, 248);
 DISKLORVA_SIZE(disklorva_answer, 256);

@@ -187,26 +187,6 @@ static void trace_tally(const disklorva_tally *t) {
 
 /* ---- the journal */
 
-/* All bytes of a file; the caller frees them. */
-static uint8_t *read_all(FILE *in, size_t *n) {
-    size_t room = 1 << 16;
-    uint8_t *bytes = malloc(room);
-    *n = 0;
-    while (bytes) {
-        *n += fread(bytes + *n, 1, room - *n, in);
-        if (*n < room) {
-            return bytes;
-        }
-        room *= 2;
-        uint8_t *more = realloc(bytes, room);
-        if (!more) {
-            free(bytes);
-        }
-        bytes = more;
-    }
-    return NULL;
-}
-
 static void run(host *h, const uint8_t *bytes, size_t n, int trace) {
     for (size_t at = 0, used; at < n; at += used) {
         int ticked;
@@ -249,7 +229,7 @@ int main(int argc, char **argv) {
     }
     FILE *in = name ? fopen(name, "rb") : stdin;
     size_t n;
-    uint8_t *bytes = in ? read_all(in, &n) : NULL;
+    uint8_t *bytes = in ? journal_bytes(in, &n) : NULL;
     if (!bytes || ferror(in)) {
         perror(name ? name : "standard input");
         return 2;

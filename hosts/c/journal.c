@@ -1,7 +1,27 @@
 #include "journal.h"
 #include "recorder.h"
 
+#include <stdlib.h>
 #include <string.h>
+
+uint8_t *journal_bytes(FILE *in, size_t *n) {
+    size_t room = 1 << 16;
+    uint8_t *bytes = malloc(room);
+    *n = 0;
+    while (bytes) {
+        *n += fread(bytes + *n, 1, room - *n, in);
+        if (*n < room) {
+            return bytes;
+        }
+        room *= 2;
+        uint8_t *more = realloc(bytes, room);
+        if (!more) {
+            free(bytes);
+        }
+        bytes = more;
+    }
+    return NULL;
+}
 
 /* ---- little-endian numbers */
 

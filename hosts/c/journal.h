@@ -22,6 +22,9 @@ typedef struct {
     int record_failed; /* a record was not written */
 } host;
 
+/* All bytes of a file, or NULL where there is no memory; the caller frees them. */
+uint8_t *journal_bytes(FILE *in, size_t *n);
+
 /* Takes the record that starts at bytes, of which n are left. Gives 0, or the number of a refusal; *used is the record's length, *ticked says whether
  * *verdict was made. */
 int host_record(host *h, const uint8_t *bytes, size_t n, size_t *used, int *ticked, disklorva_verdict *verdict);

@@ -11,3 +11,4 @@ pub mod Maxima
 pub mod Limit
 pub mod Witness
 pub mod Counters
+pub mod Cut

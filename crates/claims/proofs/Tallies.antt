@@ -32,7 +32,7 @@ unfolding givenOf recorded eventsOf cleanTick closeClean faultTick closeFault cl
 takes-in r c = by-guard (λ b (d : Decided). d .rt .tally ≡ recorded (r .tally) (itemBy b r c (d .rt) (d .verdict))) r c (λ h. refl) (λ h. refl)
 
 -- so a list of calls leaves the tally of its history
-tally-after : (r : FuseRt) (cs : List Call) → leftBy r cs .tally ≡ tallyFrom (r .tally) (historyFrom r cs)
+pub tally-after : (r : FuseRt) (cs : List Call) → leftBy r cs .tally ≡ tallyFrom (r .tally) (historyFrom r cs)
 tally-after r [] = refl
 tally-after r (c ∷ cs) =
     by-step itemOf (λ r′ (s : Step FuseRt Item). leftBy r′ cs .tally ≡ tallyFrom (r .tally) (andThen s (λ (r″ : FuseRt). historyFrom r″ cs))) r c

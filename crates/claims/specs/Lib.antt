@@ -9,3 +9,4 @@ pub mod Maxima
 pub mod Limit
 pub mod Witness
 pub mod Counters
+pub mod Cut

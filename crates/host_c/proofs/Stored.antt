@@ -1,7 +1,9 @@
 -- A host that lends what it was given has the fuse's own run of states, though it never sees one:
 -- such a run state means what it was made of (`stored-back`, host_layout, proofs/Stored).
 --     reset-on-stored, tick-on-stored      a call on such a run state gives what the fuse's reset
--- or tick gives, as numbers Assumes nothing.
+-- or tick gives, as numbers
+--     join-on-stored       two tallies that the fuse gave, joined as numbers, are the fuse's join
+-- Assumes nothing.
 use mathlib.Core.Path.{_≡_, refl, sym, _∙_, ap, subst}
 use mathlib.Core.Bool.{Bool, true, false, cond}
 use mathlib.Core.List.{List}
@@ -12,13 +14,15 @@ use Rattle.lictor_core.specs.declared.envelope.Settings.{Settings}
 use Rattle.lictor_core.specs.declared.fuse.FuseRt.{FuseRt}
 use Rattle.lictor_core.specs.declared.fuse.TickInput.{TickInput}
 use Rattle.lictor_core.specs.declared.outcome.Outcome.{Outcome}
+use Rattle.lictor_core.specs.declared.tally.Tally.{Tally}
 use Rattle.lictor_fuse.specs.declared.Ticked.{Ticked}
 use Rattle.lictor_fuse.specs.Tick.{isAccepted, acceptedTick, refusedTick, givenOf, noVerdict, tickOf}
-use Rattle.host_layout.specs.State.{stateIn, stateOut}
+use Rattle.lictor_tally.specs.Join.{joinOf}
+use Rattle.host_layout.specs.State.{stateIn, stateOut, tallyOut}
 use Rattle.host_layout.specs.Verdict.{verdictOut}
 use Rattle.host.proofs.Refused.{by-test}
-use Rattle.host_layout.proofs.Stored.{stored-back}
-use Rattle.host_c.specs.Call.{tickedOut, keptOf, callOf, resetRun}
+use Rattle.host_layout.proofs.Stored.{stored-back, tally-back}
+use Rattle.host_c.specs.Call.{tickedOut, keptOf, callOf, resetRun, joinedTally}
 
 pub reset-on-stored : (r : FuseRt) → resetRun (stateOut r) ≡ stateOut (resetOf r)
 unfolding resetRun
@@ -39,3 +43,7 @@ pub tick-on-stored : (s : Settings) (r : FuseRt) (inp : TickInput) (out : Outcom
     → callOf (stateOut r) (tickOf s (stateIn (stateOut r)) inp out pos vel aux ext chunk) ≡ tickedOut (tickOf s r inp out pos vel aux ext chunk)
 tick-on-stored s r inp out pos vel aux ext chunk =
     ap (λ (z : FuseRt). callOf (stateOut r) (tickOf s z inp out pos vel aux ext chunk)) (stored-back r) ∙ by-check s r inp out pos vel aux ext chunk (isAccepted (checkOf s)) refl
+
+pub join-on-stored : (earlier later : Tally) → joinedTally (tallyOut earlier) (tallyOut later) ≡ tallyOut (joinOf earlier later)
+unfolding joinedTally
+join-on-stored earlier later = λ j. tallyOut (joinOf (tally-back earlier j) (tally-back later j))

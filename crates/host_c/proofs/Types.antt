@@ -2,6 +2,7 @@
 -- step and the answer lie, and how settings are refused.
 --     libRun, libSettings, libInput, libOutcome        what a tick gets
 --     settingsCopied, inputCopied, outcomeCopied       the last three can be copied
+--     libTally, tallyCopied                            a tally, which can be copied
 --     libResult, libAnswer                             the result of `ticked_out`, the answer of
 -- `ticked`
 --     libChecked, turning                              the result of `refusal`, and what a walk
@@ -19,6 +20,8 @@ use Rattle.host_layout.specs.Input.{settingsIn}
 use Rattle.host_c.specs.Call.{refusalOut, answerOf}
 use Rattle.host_layout.proofs.state.RunState as St
 use Rattle.host_layout.proofs.state.RunState.Laws as St′
+use Rattle.host_layout.proofs.state.Tally as Ta
+use Rattle.host_layout.proofs.state.Tally.Laws as Ta′
 use Rattle.host_layout.proofs.input.Settings as Se
 use Rattle.host_layout.proofs.input.Settings.Laws as Se′
 use Rattle.host_layout.proofs.input.Input as In
@@ -54,6 +57,12 @@ inputCopied = copied In.the-type In′.the-laws In′.the-plain In′.the-copy
 
 abbrev pub outcomeCopied : Copied libOutcome
 outcomeCopied = copied Oc.the-type Oc′.the-laws Oc′.the-plain Oc′.the-copy
+
+abbrev pub libTally : Data
+libTally = struct Ta.the-type Ta′.the-laws Ta′.the-plain
+
+abbrev pub tallyCopied : Copied libTally
+tallyCopied = copied Ta.the-type Ta′.the-laws Ta′.the-plain Ta′.the-copy
 
 abbrev pub libResult : Data
 libResult = struct Ca.the-type Ca′.the-laws Ca′.the-plain

@@ -1,6 +1,6 @@
 -- One call of the library.
--- It joins numbers in the layout of C to the one tick of 01-scope.md (lictor_fuse, specs/Tick,
--- tickOf) and to fuse.rs's reset.
+-- It ties numbers in the layout of C to the one tick of 01-scope.md (lictor_fuse, specs/Tick,
+-- tickOf), to fuse.rs's reset and to the join of two tallies (lictor_tally, specs/Join, joinOf).
 use mathlib.Core.Bool.{cond}
 use mathlib.Core.List.{List}
 use Prim.Native.Nat.{ℕ}
@@ -11,6 +11,7 @@ use Rattle.lictor_settings.specs.Settings.{checkNumber}
 use Rattle.lictor_settings.specs.declared.SettingsCheck.{SettingsCheck}
 use Rattle.lictor_fuse.specs.declared.Ticked.{Ticked}
 use Rattle.lictor_fuse.specs.Tick.{noVerdict, tickOf}
+use Rattle.lictor_tally.specs.Join.{joinOf}
 use Rattle.host_c.specs.declared.Answer.{Answer}
 use Rattle.host_c.specs.declared.Called.{Called}
 use Rattle.host_c.specs.declared.Checked.{Checked}
@@ -18,8 +19,9 @@ use Rattle.host_layout.specs.declared.input.Input.{Input}
 use Rattle.host_layout.specs.declared.input.Outcome.{Outcome}
 use Rattle.host_layout.specs.declared.input.Settings.{Settings}
 use Rattle.host_layout.specs.declared.state.RunState.{RunState}
+use Rattle.host_layout.specs.declared.state.Tally.{Tally}
 use Rattle.host_layout.specs.Input.{settingsIn, inputIn, outcomeIn}
-use Rattle.host_layout.specs.State.{stateIn, stateOut}
+use Rattle.host_layout.specs.State.{stateIn, stateOut, tallyIn, tallyOut}
 use Rattle.host_layout.specs.Verdict.{verdictOut}
 
 -- what the test of the settings gives: its number, and the answer of a refused call, which has no
@@ -55,3 +57,7 @@ answerOf c = record { number = c .number; verdict = c .verdict }
 -- the run state at the start of an episode
 unfoldable pub resetRun : RunState → RunState
 resetRun rt = stateOut (resetOf (stateIn rt))
+
+-- two lent tallies joined (request 3): of what the numbers mean, as numbers
+unfoldable pub joinedTally : Tally → Tally → Tally
+joinedTally earlier later = tallyOut (joinOf (tallyIn earlier) (tallyIn later))

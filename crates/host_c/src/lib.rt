@@ -9,7 +9,7 @@ ghost use Rattle.fmath.specs.Root.{rootOf};
 ghost use Rattle.lictor_core.specs.Initial.{newOf};
 ghost use Rattle.lictor_settings.specs.Settings.{checkOf, checkNumber};
 ghost use Rattle.lictor_fuse.specs.Tick.{acceptedTick, givenOf, isAccepted, noVerdict};
-ghost use Rattle.host_c.specs.Call.{refusalOut, tickedOut, calledOf, answerOf, resetRun};
+ghost use Rattle.host_c.specs.Call.{refusalOut, tickedOut, calledOf, answerOf, resetRun, joinedTally};
 ghost use Rattle.host_layout.specs.Input.{settingsIn, inputIn, outcomeIn};
 ghost use Rattle.host_layout.specs.State.{stateIn, stateOut};
 ghost use Rattle.host_layout.specs.Verdict.{verdictOut};
@@ -20,8 +20,11 @@ use host_layout::input::input_in;
 use host_layout::input::outcome_in;
 use host_layout::input::settings_in;
 use host_layout::state::RunState;
+use host_layout::state::Tally;
 use host_layout::state::state_in;
 use host_layout::state::state_out;
+use host_layout::state::tally_in;
+use host_layout::state::tally_out;
 use host_layout::verdict::Verdict;
 use host_layout::verdict::verdict_out;
 use lictor_fuse::decide::Decided;
@@ -30,6 +33,7 @@ use lictor_fuse::no_verdict;
 use lictor_settings::check;
 use lictor_settings::check_number;
 use lictor_settings::config;
+use lictor_tally::join;
 
 // What a call answers: 0 and the verdict, or the number of a refusal of the settings.
 #[repr(C)]
@@ -138,6 +142,16 @@ fn ticked(
     }
 }
 
+// The tallies of two stretches joined, from numbers to numbers.
+fn joined(earlier: Tally, later: Tally) -> Tally
+    ensures { λ r. ⌜ r ≡ joinedTally earlier later ⌝ }
+{
+    let first = tally_in(earlier);
+    let second = tally_in(later);
+    let whole = join(first, second);
+    tally_out(whole)
+}
+
 // ---- what is exported
 
 // A run state for which no episode has begun.
@@ -180,6 +194,16 @@ pub extern "C" fn disklorva_tick(
         × (isAccepted (checkOf (settingsIn (now (s .entry)))) ≡ false → (r .number ≡ checkNumber (checkOf (settingsIn (now (s .entry))))) × (r .verdict ≡ verdictOut noVerdict) × (now (rt .exit) ≡ now (rt .entry))) ⌝ }
 {
     ticked(rt, *s, *inp, *out, pos, vel, aux, ext, chunk)
+}
+
+// The tally of an episode that was counted in two stretches, cut after some tick. Every field is
+// promised; the bytes between the fields, and which pattern a NaN has, are the program's choice.
+// Both tallies are only read.
+#[no_mangle]
+pub extern "C" fn disklorva_join(earlier: &Tally, later: &Tally) -> Tally
+    ensures { λ r. ⌜ r ≡ joinedTally (now (earlier .entry)) (now (later .entry)) ⌝ }
+{
+    joined(*earlier, *later)
 }
 
 // The square root that the tick uses, the double nearest the exact root, to be measured or compared

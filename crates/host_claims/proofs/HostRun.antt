@@ -16,7 +16,7 @@ use Rattle.host_c.specs.Call.{tickedOut, resetRun}
 use Rattle.host_c.proofs.Stored.{tick-on-stored}
 use Rattle.host_claims.specs.HostRun.{HostCall, meant, answered, answeredFrom, answersFrom, HostRun, HostStopsUnder}
 
-stored-run : (r : FuseRt) (hs : List HostCall) → answeredFrom (stateOut r) hs ≡ map tickedOut (answersFrom r (map meant hs))
+pub stored-run : (r : FuseRt) (hs : List HostCall) → answeredFrom (stateOut r) hs ≡ map tickedOut (answersFrom r (map meant hs))
 unfolding tickedOut
 stored-run r [] = refl
 stored-run r (h ∷ hs) =

@@ -1,1 +1,2 @@
+pub mod HostCut
 pub mod HostRun

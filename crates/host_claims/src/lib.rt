@@ -1,5 +1,6 @@
-// A host's list of calls is the fuse's own, and demand 3 holds of it:
-// the statements (specs/HostRun.antt), and the theorems (proofs/HostRun.antt).
+// A host's list of calls is the fuse's own, and demand 3 holds of it; cut in two stretches, its
+// tallies are joined to that of the uncut list. The statements are specs/HostRun.antt and
+// specs/HostCut.antt, and the theorems are in proofs/ under the same names.
 // The definitions are those that `host_c` and `lictor_fuse` promise,
 // so the only code here is what ties the sizes of the settings to their types.
 ghost use mathlib.Core.Path.{_≡_};

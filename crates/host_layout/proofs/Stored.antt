@@ -1,5 +1,6 @@
--- A run state of the fuse that is lent as numbers means itself.
+-- A run state of the fuse that is lent as numbers means itself, and so does a tally.
 --     stored-back      what `stateOut` gives means what it was made of
+--     tally-back       the same of `tallyOut`
 -- Assumes nothing.
 use mathlib.Core.Path.{_≡_, refl, ap}
 use mathlib.Core.Bool.{Bool, true, false}
@@ -120,7 +121,7 @@ clock-back c = λ j. record {
   «chunk_ok_this_tick» = flag-back (c .«chunk_ok_this_tick») j;
 }
 
-tally-back : (c : Tally) → tallyIn (tallyOut c) ≡ c
+pub tally-back : (c : Tally) → tallyIn (tallyOut c) ≡ c
 unfolding tallyIn tallyOut
 tally-back c = λ j. record {
   ticks = c .ticks;

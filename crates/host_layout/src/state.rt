@@ -265,7 +265,8 @@ fn clock_in(given: Clock) -> lictor_core::fuse::Clock
     }
 }
 
-fn tally_in(given: Tally) -> lictor_core::tally::Tally
+// Which pattern a NaN has is the program's choice.
+pub fn tally_in(given: Tally) -> lictor_core::tally::Tally
     ensures { λ r. ⌜ r ≡ tallyIn given ⌝ }
 {
     let trips_by_bit = given.trips_by_bit;
@@ -369,7 +370,8 @@ fn clock_out(clock: lictor_core::fuse::Clock) -> Clock
     }
 }
 
-fn tally_out(tally: lictor_core::tally::Tally) -> Tally
+// Which pattern a NaN has is the program's choice.
+pub fn tally_out(tally: lictor_core::tally::Tally) -> Tally
     ensures { λ r. ⌜ r ≡ tallyOut tally ⌝ }
 {
     let trips_by_bit = tally.trips_by_bit;

@@ -3,6 +3,7 @@ pub mod Data
 pub mod Handed
 pub mod Lending
 pub mod Lent
+pub mod Pair
 pub mod Passed
 pub mod Read
 pub mod Reading

@@ -34,10 +34,10 @@ chunked t true r = refl
 chunked t false r = refl
 
 -- a tick as one record of all fields
-unfoldable ticked : Tally → Item → Tally
+unfoldable pub ticked : Tally → Item → Tally
 ticked t x = recordOf (withChunks (count (x .chunk) (t .«chunks_seen»)) (count (x .chunk && x .rejected) (t .«chunks_rejected»)) t) (x .verdict) (x .events)
 
-as-ticked : (t : Tally) (x : Item) → recorded t x ≡ ticked t x
+pub as-ticked : (t : Tally) (x : Item) → recorded t x ≡ ticked t x
 unfolding recorded ticked
 as-ticked t x = rw (chunked t (x .chunk) (x .rejected))
 

@@ -3,3 +3,4 @@ pub mod Laws
 pub mod History
 pub mod Places
 pub mod CountsLaws
+pub mod Stretches

@@ -71,3 +71,21 @@ module _ {X : Type 0} (f : ℕ → X → X) where
   unfolding eachFrom
   each-same i [] h = refl
   each-same i (x ∷ l) h = rw (h i x, each-same (i + 1) l h)
+
+  -- one rule after another
+  pub each-twice : (g : ℕ → X → X) (i : ℕ) (l : List X) → eachFrom i g (eachFrom i f l) ≡ eachFrom i (λ k x. g k (f k x)) l
+  unfolding eachFrom
+  each-twice g i [] = refl
+  each-twice g i (x ∷ l) = rw (each-twice g (i + 1) l)
+
+  -- two rules that agree on the elements of a list, counted from i and from 0
+  each-agree : (g : ℕ → X → X) (i : ℕ) (l : List X) (d : X) → ((k : ℕ) → k < length l → f (i + k) (getD l k d) ≡ g (i + k) (getD l k d))
+      → eachFrom i f l ≡ eachFrom i g l
+  unfolding eachFrom
+  each-agree g i [] d h = refl
+  each-agree g i (x ∷ l) d h =
+      let e : i + 0 ≡ i = omega arith in
+      rw (rw e at (h 0 (omega arith)), each-agree g (i + 1) l d (λ k b. let q : i + suc k ≡ i + 1 + k = omega arith in rw q at (h (suc k) (omega arith))))
+
+  pub each-alike : (g : ℕ → X → X) (l : List X) (d : X) → ((k : ℕ) → k < length l → f k (getD l k d) ≡ g k (getD l k d)) → eachFrom 0 f l ≡ eachFrom 0 g l
+  each-alike g l d h = each-agree g 0 l d (λ k b. let e : 0 + k ≡ k = omega arith in rw e (h k b))

@@ -2,3 +2,5 @@
 pub mod Tally
 pub mod History
 pub mod Counts
+pub mod Join
+pub mod Stretches

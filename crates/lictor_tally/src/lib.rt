@@ -1,9 +1,12 @@
-// The counts of an episode (tally.rs): an empty tally, and what a chunk and a tick make of one. The
-// types are in lictor_core, the rules of the fields in lictor_tally::counts.
+// The counts of an episode (tally.rs): an empty tally, what a chunk and a tick make of one, and the
+// join of two (request 3). The types are in lictor_core, the rules of the fields in the modules
+// counts and joins.
 mod counts; // the rules of the fields
+mod joins; // the rules by which two tallies are joined
 
 ghost use mathlib.Core.Path.{_≡_};
 ghost use Rattle.lictor_core.specs.Initial.{emptyTally};
+ghost use Rattle.lictor_tally.specs.Join.{joinOf};
 ghost use Rattle.lictor_tally.specs.Tally.{recordOf, recordChunk};
 use crate::counts::count_fired;
 use crate::counts::count_if;
@@ -14,6 +17,15 @@ use crate::counts::first_at;
 use crate::counts::first_reason;
 use crate::counts::first_stop;
 use crate::counts::most_live;
+use crate::joins::handoff_mark;
+use crate::joins::larger_z;
+use crate::joins::last_state;
+use crate::joins::stop_mark;
+use crate::joins::sum;
+use crate::joins::sum_fired;
+use crate::joins::sum_trips;
+use crate::joins::trip_mark;
+use crate::joins::trip_reason;
 use lictor_core::num::sat_u32;
 use lictor_core::scores::NFEAT;
 use lictor_core::state::FuseState;
@@ -132,4 +144,47 @@ pub fn record_chunk(tally: Tally, rejected: bool) -> Tally
     q.chunks_seen = sat_u32(tally.chunks_seen);
     q.chunks_rejected = count_if(rejected, tally.chunks_rejected);
     q
+}
+
+// ---- two stretches of one episode (request 3)
+
+// The tally of both, of any two tallies. The Rust has no such function.
+// Which pattern a NaN has is the program's choice.
+pub fn join(earlier: Tally, later: Tally) -> Tally
+    ensures { λ r. ⌜ r ≡ joinOf earlier later ⌝ }
+{
+    let trips = earlier.trips_by_bit;
+    let later_trips = later.trips_by_bit;
+    let fired = earlier.fired_by_feat;
+    let later_fired = later.fired_by_feat;
+    let most = earlier.max_z;
+    let later_most = later.max_z;
+    Tally {
+        ticks: sum(earlier.ticks, later.ticks),
+        nominal: sum(earlier.nominal, later.nominal),
+        watching: sum(earlier.watching, later.watching),
+        clamped: sum(earlier.clamped, later.clamped),
+        braking: sum(earlier.braking, later.braking),
+        held: sum(earlier.held, later.held),
+        escalated: sum(earlier.escalated, later.escalated),
+        fault: sum(earlier.fault, later.fault),
+        terminated: sum(earlier.terminated, later.terminated),
+        substituted: sum(earlier.substituted, later.substituted),
+        chunks_seen: sum(earlier.chunks_seen, later.chunks_seen),
+        chunks_rejected: sum(earlier.chunks_rejected, later.chunks_rejected),
+        clamps: sum(earlier.clamps, later.clamps),
+        holds: sum(earlier.holds, later.holds),
+        rearms: sum(earlier.rearms, later.rearms),
+        escalations: sum(earlier.escalations, later.escalations),
+        trips_by_bit: sum_trips(trips, later_trips),
+        fired_by_feat: sum_fired(fired, later_fired),
+        first_trip_tick: trip_mark(earlier, later),
+        first_trip_reason: trip_reason(earlier, later),
+        first_stop_tick: stop_mark(earlier, later),
+        handoff_tick: handoff_mark(earlier, later),
+        violations_reached_env: sum(earlier.violations_reached_env, later.violations_reached_env),
+        max_s: fmath::max(earlier.max_s, later.max_s),
+        max_z: larger_z(most, later_most),
+        terminal_state: last_state(earlier, later),
+    }
 }

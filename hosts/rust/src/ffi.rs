@@ -179,6 +179,7 @@ record! {
 }
 
 record! {
+    /// The counts since the reset, or since the last `Fuse::take_tally`.
     Tally {
         ticks: u32,
         nominal: u32,
@@ -300,6 +301,9 @@ extern "C" {
         chunk: *const f64,
         chunk_n: usize,
     ) -> Answer;
+
+    /// Both are only read, and may be one: each pointer is aligned and not null, and nothing writes what it points to during the call.
+    pub fn disklorva_join(earlier: *const Tally, later: *const Tally) -> Tally;
 
     pub fn disklorva_sqrt(x: f64) -> f64;
 }

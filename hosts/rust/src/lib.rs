@@ -4,7 +4,7 @@
 pub mod ffi;
 pub mod recorder;
 
-pub use ffi::{Ack, Answer, Chunk, Input, Outcome, RunState, Settings, Verdict};
+pub use ffi::{Ack, Answer, Chunk, Input, Outcome, RunState, Settings, Tally, Verdict};
 
 /// The settings are refused: 1 a code that is not listed, 2 a size, 3 a float that is not finite, 4 a lower side of the box above its upper side.
 #[derive(Clone, Copy, Debug, PartialEq, Eq)]
@@ -107,6 +107,11 @@ impl Fuse {
         answer.verdict
     }
 
+    /// Ends a stretch of the episode: gives its tally, and goes on with an empty one. No verdict is another for it; `join` gives the tally of both stretches.
+    pub fn take_tally(&mut self) -> Tally {
+        std::mem::replace(&mut self.state.tally, new().tally)
+    }
+
     pub fn settings(&self) -> &Settings {
         &self.settings
     }
@@ -172,6 +177,14 @@ pub fn tick_from(
 ) -> Answer {
     *next = *state;
     tick_lent(next, settings, input, outcome, lists)
+}
+
+/// The tally of an episode that was counted in two stretches, the earlier first. Where the second began from the run state at the cut with an empty tally
+/// (`Fuse::take_tally`), it is the tally that one run would have left, in every field. Any two tallies are taken.
+#[inline]
+pub fn join(earlier: &Tally, later: &Tally) -> Tally {
+    // SAFETY: references are valid and aligned, and nothing writes them while they are borrowed.
+    unsafe { ffi::disklorva_join(earlier, later) }
 }
 
 /// The square root that the tick uses: the double nearest the exact root.

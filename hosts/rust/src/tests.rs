@@ -296,6 +296,51 @@ fn tick_has_what_was_given() {
     assert_eq!((v.state, v.reason, v.trips, v.action_src), (7, 17, 128, 3));
 }
 
+/// A fuse whose tally is taken goes on as one that is left alone, and the joined tally is the other's.
+#[test]
+fn a_cut_changes_nothing() {
+    for cut in 0..=12 {
+        let (mut whole, mut parts) = (Fuse::new(settings()).unwrap(), Fuse::new(settings()).unwrap());
+        whole.reset();
+        parts.reset();
+        let mut earlier = new().tally;
+        for t in 0..12 {
+            if t == cut {
+                earlier = parts.take_tally();
+                assert_eq!(fields(&parts.state().tally), fields(&new().tally));
+            }
+            let s = if t % 3 == 0 { f64::NAN } else { f64::from(t) };
+            let outcome = Outcome { feasible: u8::from(t < 4), trips: u32::from(t == 2), s, ..Outcome::default() };
+            let head = Chunk { seq: t, t_emit: t, horizon: 1, dim: 1, exec_steps: 1 };
+            let pos = if t == 10 { f64::NAN } else { 0.5 };
+            let tick = Tick { t, pos: &[pos], chunk: Some((head, &[0.25])), outcome, ..Tick::default() };
+            assert_eq!(fields(&whole.tick(&tick)), fields(&parts.tick(&tick)));
+        }
+        if cut == 12 {
+            earlier = parts.take_tally();
+        }
+        assert_eq!(fields(&join(&earlier, &parts.state().tally)), fields(&whole.state().tally));
+        assert_eq!(whole.state().tally.fault, 2);
+    }
+}
+
+/// Any bytes are tallies: what is joined of them has listed codes alone. Both are only read, and may be one.
+#[test]
+fn any_tallies_are_joined() {
+    let mut numbers = Numbers(4);
+    for _ in 0..20000 {
+        let (a, b) = (numbers.any::<Tally>(), numbers.any::<Tally>());
+        let whole = join(&a, &b);
+        assert!(whole.terminal_state <= 8 && whole.first_trip_reason.reason <= 27);
+        let (trip, stop, handoff) = (whole.first_trip_tick, whole.first_stop_tick, whole.handoff_tick);
+        assert!(trip.set.max(stop.set).max(handoff.set).max(whole.first_trip_reason.set) <= 1);
+        assert_eq!(fields(&join(&a, &a)), fields(&join(&a, &{ a })));
+    }
+    // SAFETY: nobody writes these pages, and they stay.
+    let (a, b) = unsafe { (&*read_only(numbers.any::<Tally>()), &*read_only(numbers.any::<Tally>())) };
+    assert_eq!(fields(&join(a, b)), fields(&join(&{ *a }, &{ *b })));
+}
+
 #[test]
 fn refusals_say_their_cause() {
     let refused = Fuse::new(Settings { dim: 9, ..settings() }).expect_err("a dim of 9 is refused");
