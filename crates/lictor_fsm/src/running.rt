@@ -117,25 +117,25 @@ fn clamp_row(rt: Control, boundary: bool, soft: u32) -> Turn
     }
 }
 
+// The clamp cause. Causes have the numbers 3 to 8 in the order of their bits, so that the count of
+// zeros below the lowest bit tells which it is, without a test of each bit.
 fn clamp_reason(soft: u32) -> ReasonCode
     ensures { λ r. ⌜ r ≡ clampReason soft ⌝ }
 {
-    if any(soft, verdict::WORKSPACE) {
-        return ReasonCode::ClampWorkspace;
+    let bits = soft & verdict::TIER0_SOFT;
+    if bits == 0 {
+        return ReasonCode::ClampContact;
     }
-    if any(soft, verdict::SPEED) {
-        return ReasonCode::ClampSpeed;
+    match 3 + u32::trailing_zeros(bits) {
+        3 => ReasonCode::ClampWorkspace,
+        4 => ReasonCode::ClampSpeed,
+        5 => ReasonCode::ClampAccel,
+        6 => ReasonCode::ClampJerk,
+        7 => ReasonCode::ClampReach,
+        8 => ReasonCode::ClampContact,
+        // Six bits leave no other number: 9 would be that of a seventh.
+        _ => ReasonCode::BrakeInfeasible,
     }
-    if any(soft, verdict::ACCEL) {
-        return ReasonCode::ClampAccel;
-    }
-    if any(soft, verdict::JERK) {
-        return ReasonCode::ClampJerk;
-    }
-    if any(soft, verdict::REACH) {
-        return ReasonCode::ClampReach;
-    }
-    ReasonCode::ClampContact
 }
 
 // ---- nothing brakes or clamps

@@ -5,3 +5,4 @@ pub mod Helpers
 pub mod Table
 pub mod Rows
 pub mod Consumed
+pub mod ClampCause
