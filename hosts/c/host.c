@@ -22,7 +22,7 @@ static uint64_t bits(double x) {
     return b;
 }
 
-/* The margin in whole millimetres, an exact half away from zero, worked out in whole numbers. */
+/* The margin in whole millimetres, an exact half to the even one, worked out in whole numbers. */
 static void print_margin(double x) {
     uint64_t b = bits(x), mantissa = b & 0xfffffffffffff;
     int exponent = (int)(b >> 52 & 0x7ff);
@@ -40,8 +40,9 @@ static void print_margin(double x) {
         return;
     }
     if (shift < 64) {
-        uint64_t n = mantissa * 1000;
-        millimetres = (n >> shift) + (n >> (shift - 1) & 1);
+        uint64_t n = mantissa * 1000, half = (uint64_t)1 << (shift - 1), rest = n & (2 * half - 1);
+        millimetres = n >> shift;
+        millimetres += rest > half || (rest == half && millimetres % 2 == 1);
     }
     if (millimetres > 999999) {
         printf("%s", far);

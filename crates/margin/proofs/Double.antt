@@ -1,6 +1,6 @@
 -- The margin of a double by its three fields, the sign, the exponent and the digits, as they are in
 -- its bits.
-use Prim.Native.Nat.{ℕ, zero, suc, _+_, _-_, _*_, _/_, _%_, _^_, _≤_, _<_}
+use Prim.Native.Nat.{ℕ, zero, suc, _+_, _-_, _*_, _/_, _%_, _^_, _≤_, _<_, compare}
 use mathlib.Core.Path.{_≡_, refl, sym, ap, ap₂, subst, _∙_}
 use mathlib.Core.Bool.{Bool, true, false, not, cond}
 use native.Mathlib.Omega.{arith}
@@ -12,19 +12,30 @@ use lib.Dec.{T, leb, eqb, lit≤}
 use lib.Ieee.{Float, nan, inf, fin, up, down, binary64, ofBits, ofFields, odd, isNan}
 use lib.Ieee.Exact.{HasValue, odd-sign}
 use lib.Ieee.Fits.{down-pos}
+use lib.Ieee.Nearest.{nearest-ge, closest-same}
 use Rattle.margin.specs.Margin.{nearestWhole, farOf, millisOf, marginOf}
-use Rattle.margin.proofs.Nearest.{goes-down, nearest-same, at-least-quotient}
+use Rattle.margin.proofs.Nearest.{goes-down}
 
 -- a thousand times a number below 2 ^ 53 is less than half of 2 ^ 64
 pub none-left : (m k : ℕ) → m < 2 ^ 53 → 63 < k → 0 ≡ nearestWhole (m * 1000) (2 ^ k)
 none-left m k h p =
     let q : 2 ^ 64 ≤ 2 ^ k = pow-mono {i = 64} {j = k} (omega arith) in
     let l : m * 1000 < 2 ^ k = omega arith in
-    sym (goes-down (m * 1000) (2 ^ k) (pow-pos k) (rw (mod-eq-of-lt l) (omega arith)) ∙ div-eq-of-lt l)
+    let r : m * 1000 % 2 ^ k ≡ m * 1000 = mod-eq-of-lt l in
+    sym (goes-down (m * 1000) (2 ^ k) (pow-pos k) (rw r (omega arith)) (λ half. absurd (omega arith)) ∙ div-eq-of-lt l)
 
 -- a shifted one is the power
 pub one-shifted : (k : ℕ) → k ≤ 63 → (1 * 2 ^ k) % 18446744073709551616 ≡ 2 ^ k
 one-shifted k p = let q : 2 ^ k ≤ 2 ^ 63 = pow-mono {i = k} {j = 63} p in omega arith
+
+-- equal fractions have the same nearest whole number, and it is not below the quotient
+nearest-same : (n d a c : ℕ) → 0 < d → 0 < c → n * c ≡ a * d → nearestWhole n d ≡ nearestWhole a c
+unfolding nearestWhole
+nearest-same = closest-same
+
+at-least-quotient : (num den : ℕ) → num / den ≤ nearestWhole num den
+unfolding nearestWhole
+at-least-quotient num den = nearest-ge (num / den) (compare (num % den * 2) den)
 
 -- a value has the margin of any fraction that it equals
 margin-value : (v : Float) (s : Bool) (a c : ℕ) → 0 < c → HasValue v s a c → marginOf v ≡ millisOf s (nearestWhole (a * 1000) c)
@@ -88,7 +99,7 @@ margin-mid b p q =
 far-by : (s : Bool) (n d : ℕ) → 0 < d → 1024 * d ≤ n → millisOf s (nearestWhole (n * 1000) d) ≡ farOf s
 far-by s n d D h =
     let q : 1024000 ≤ n * 1000 / d = le-div-iff-mul-le {k = d} D .1 (omega arith) in
-    rw (lt-ltb 999999 (nearestWhole (n * 1000) d) (omega (arith, at-least-quotient (n * 1000) d D))) refl
+    rw (lt-ltb 999999 (nearestWhole (n * 1000) d) (omega (arith, at-least-quotient (n * 1000) d))) refl
 
 far-mid : (b : ℕ) → 1033 ≤ exponent b → exponent b < 2047 → marginOf (ofBits binary64 b) ≡ farOf (sign b)
 far-mid b p q =

@@ -34,13 +34,21 @@ fn millis_of(minus: bool, n: u64) -> Margin
     }
 }
 
+// Nearer to n, nearer to the number above it, or just between them: then to the even one.
 fn nearest_whole(num: u64, den: u64) -> u64
     requires { ⌜ (num < 2 ^ 63) × (0 < den) ⌝ }
     ensures { λ r. ⌜ r ≡ nearestWhole num den ⌝ }
 {
     let n = num / den;
-    let rest = num % den;
-    if den - rest <= rest { n + 1 } else { n }
+    let below = num % den;
+    let above = den - below;
+    if below < above {
+        return n;
+    }
+    if above < below {
+        return n + 1;
+    }
+    if n % 2 == 0 { n } else { n + 1 }
 }
 
 // m / 2^k metres in millimetres.

@@ -7,7 +7,7 @@ use native.Mathlib.Omega.{arith}
 use lib.ListN.{take}
 use Rattle.starred.proofs.Opened.{tick-opened}
 use Rattle.starred.proofs.SoftTrips.{soft-trips, clamps-on}
-use Rattle.starred.specs.Starred.{AsWanted, starred, rowLimits, rowAck, rowTickAt, rowTick, armed, braking, held, escalated, terminated, clampedFor, bit, ending, endingNonce, clamping, acceptance, usualLimits, wideLimits, quickHandoff, quickEnd}
+use Rattle.starred.specs.Starred.{AsWanted, starred, rowLimits, rowAck, rowTickAt, rowTick, armed, braking, held, escalated, terminated, clampedFor, bit, ending, endingNonce, clamping, acceptance, printed, usualLimits, wideLimits, quickHandoff, quickEnd}
 
 before-tenth : AsWanted (take 9 starred)
 unfolding
@@ -22,7 +22,7 @@ tenth = ap (λ (x : List ℕ). x ∷ []) (clamps-on 65535 5 5 5 65534 (clampedFo
 after-tenth : AsWanted (drop 10 starred)
 unfolding
     tick-opened rowLimits rowAck rowTickAt rowTick armed braking held escalated terminated
-    ending usualLimits quickEnd starred
+    ending printed usualLimits quickEnd starred
 after-tenth = refl
 
 pub given : AsWanted starred

@@ -1,4 +1,5 @@
--- The starred cases (01-scope.md, What a contract says, and the cases): rows of one table.
+-- The starred cases (01-scope.md, What a contract says, and the cases; the margins as in
+-- 02-change-requests.md, Ask 5, with those next to a half and the ends): rows of one table.
 -- A row has what the definitions give and what they should give, as numbers.
 -- Cases of a tick go through `tickOf`, the definition that `tick` promises, from run states that
 -- ticks after a reset leave. What the cases say of every run state is in specs/ForAll.
@@ -117,6 +118,10 @@ clamping r = stateCode (r .verdict .«prev_state») ∷ stateCode (r .verdict .s
 unfoldable pub acceptance : VerifiedAck → List ℕ
 acceptance a = bit (acceptedBy (resetOf newOf .control .«handoff_seq») (resetOf newOf .control .«last_nonce») a) ∷ []
 
+-- what is printed of the margin with these bits
+unfoldable pub printed : ℕ → List ℕ
+printed b = marginText (marginOf (ofBits binary64 b))
+
 -- ---- the table
 
 pub record Case : Type 0 where
@@ -169,9 +174,27 @@ starred =
     ∷ ending (rowTick usualLimits armed 0 0 NoAck 896) is (1 ∷ 7 ∷ 896 ∷ 17 ∷ [])
     -- the root of 2.25, by its bits
     ∷ (toBits binary64 (rootOf (ofBits binary64 0x4002_0000_0000_0000)) ∷ []) is (0x3ff8_0000_0000_0000 ∷ [])
-    -- an exact half of a millimetre, above zero and below
-    ∷ marginText (marginOf (ofBits binary64 0x3fb0_0000_0000_0000)) is ascii "63"
-    ∷ marginText (marginOf (ofBits binary64 0xbfb0_0000_0000_0000)) is ascii "-63"
+    -- 0.0625 and -0.0625: an exact half of a millimetre goes to the even one, here towards zero
+    ∷ printed 0x3fb0_0000_0000_0000 is ascii "62"
+    ∷ printed 0xbfb0_0000_0000_0000 is ascii "-62"
+    -- 0.1875 and -0.1875: here away from zero
+    ∷ printed 0x3fc8_0000_0000_0000 is ascii "188"
+    ∷ printed 0xbfc8_0000_0000_0000 is ascii "-188"
+    -- the doubles next to 0.0625, below and above it, and their negatives
+    ∷ printed 0x3faf_ffff_ffff_ffff is ascii "62"
+    ∷ printed 0x3fb0_0000_0000_0001 is ascii "63"
+    ∷ printed 0xbfaf_ffff_ffff_ffff is ascii "-62"
+    ∷ printed 0xbfb0_0000_0000_0001 is ascii "-63"
+    -- those next to 0.1875
+    ∷ printed 0x3fc7_ffff_ffff_ffff is ascii "187"
+    ∷ printed 0x3fc8_0000_0000_0001 is ascii "188"
+    ∷ printed 0xbfc7_ffff_ffff_ffff is ascii "-187"
+    ∷ printed 0xbfc8_0000_0000_0001 is ascii "-188"
+    -- the last double that prints a number and the next one, above zero and below
+    ∷ printed 0x408f_3ffe_f9db_22d0 is ascii "999999"
+    ∷ printed 0x408f_3ffe_f9db_22d1 is ascii "+far"
+    ∷ printed 0xc08f_3ffe_f9db_22d0 is ascii "-999999"
+    ∷ printed 0xc08f_3ffe_f9db_22d1 is ascii "-far"
     ∷ []
 
 -- ---- the claim

@@ -263,8 +263,8 @@ fn numbers() -> Vec<Case> {
     example.tick(Tick { t: 0, idx: 0, missed: 0, schema: 0, velocity: 0 });
     vec![
         case("root of 2.25", "1.5", fmath::sqrt(2.25).to_string()),
-        case("margin 0.0625", "63", margin(0.0625)),
-        case("margin -0.0625", "-63", margin(-0.0625)),
+        case("margin 0.0625", "62", margin(0.0625)),
+        case("margin -0.0625", "-62", margin(-0.0625)),
         case("the example journal", "tick 0 0 7 18 256 3 none\nend 1 1\n", text(&example.bytes)),
     ]
 }

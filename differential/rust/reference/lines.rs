@@ -50,7 +50,7 @@ pub fn margin(out: &mut Vec<u8>, x: f64) {
     }
 }
 
-/// The rounded size of a margin that is no NaN, an exact half going up; none where that is above 999999.
+/// The rounded size of a margin that is no NaN, an exact half to the even one; none where that is above 999999.
 fn millimetres(x: f64) -> Option<u64> {
     let bits = x.to_bits();
     let exponent = (bits >> 52) & 0x7ff;
@@ -60,8 +60,14 @@ fn millimetres(x: f64) -> Option<u64> {
         1..1075 => (fraction | 1 << 52, 1075 - exponent),
         _ => return None, // at least 2^52, or infinite
     };
-    let mm = if k > 64 { 0 } else { ((u128::from(m) * 1000 + (1 << (k - 1))) >> k) as u64 };
+    let mm = if k > 64 { 0 } else { to_even(u128::from(m) * 1000, k) };
     (mm <= 999_999).then_some(mm)
+}
+
+/// n / 2^k rounded: one less than a half is added, and one more where the whole part is odd.
+fn to_even(n: u128, k: u64) -> u64 {
+    let odd = (n >> k) & 1;
+    ((n + (1 << (k - 1)) - 1 + odd) >> k) as u64
 }
 
 /// Every verdict field, the run state and the tally, one `name=value` a line. `filled` stands for the chunk buffers.

@@ -10,6 +10,7 @@
 
 use disklorva::recorder::Recorder;
 use disklorva::{ffi, Ack, Chunk, Fuse, Outcome, Settings, Tick, Verdict};
+use std::cmp::Ordering;
 use std::fmt::Write as _;
 use std::fs::File;
 use std::io::{self, Read, Write as _};
@@ -269,7 +270,7 @@ fn listed<T>(code: u8, last: u8, it: T) -> Result<T, Stop> {
 
 // ---- lines
 
-/// The margin in whole millimetres, an exact half away from zero, worked out in whole numbers.
+/// The margin in whole millimetres, an exact half to the even one, worked out in whole numbers.
 fn margin(x: f64) -> String {
     let (sign, far) = if x.is_sign_negative() { ("-", "-far") } else { ("", "+far") };
     let (exponent, fraction) = (x.to_bits() >> 52 & 0x7ff, x.to_bits() & 0xfffffffffffff);
@@ -278,13 +279,23 @@ fn margin(x: f64) -> String {
     let millimetres = match shift {
         _ if x.is_nan() => return "none".into(),
         ..=32 => return far.into(), // from 2^20 metres on, and the infinities
-        33..=63 => (mantissa * 1000 >> shift) + (mantissa * 1000 >> (shift - 1) & 1),
+        33..=63 => nearest(mantissa * 1000, 1 << shift),
         _ => 0,
     };
     match millimetres {
         0 => "0".into(),
         1..=999999 => format!("{sign}{millimetres}"),
         _ => far.into(),
+    }
+}
+
+/// n / d to the nearest whole number, an exact half to the even one.
+fn nearest(n: u64, d: u64) -> u64 {
+    let (whole, rest) = (n / d, n % d);
+    match rest.cmp(&(d - rest)) {
+        Ordering::Less => whole,
+        Ordering::Equal => whole + whole % 2,
+        Ordering::Greater => whole + 1,
     }
 }
 
