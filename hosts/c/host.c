@@ -58,8 +58,7 @@ static void print_tick(const disklorva_verdict *v) {
 }
 
 static void print_end(const disklorva_tally *t) {
-    uint64_t stopped = (uint64_t)t->braking + t->held + t->escalated + t->fault + t->terminated;
-    printf("end %" PRIu32 " %" PRIu64 "\n", t->ticks, stopped);
+    printf("end %" PRIu32 " %" PRIu32 "\n", t->ticks, t->stop_actions);
 }
 
 /* ---- the trace */

@@ -60,7 +60,7 @@ module _ (s : Settings) (z : Sized s) where
       let l : StopLaw (configOf s) (start .state) bits ack start t = rw e at (stop-law (configOf s) start pos inp) in
       rw (state-agrees (configOf s) start pos inp) (arm-law s z bits ack start (t .rt) (t .extra) (t .reason) (start .state) (t .state) took shown u l)
 
-true-of : (b : Bool) → T b → b ≡ true
+pub true-of : (b : Bool) → T b → b ≡ true
 true-of true h = refl
 true-of false h = absurd h
 

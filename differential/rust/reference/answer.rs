@@ -30,7 +30,8 @@ impl<'a> Answer<'a> {
             return false;
         }
         if self.rest.is_empty() {
-            end_line(out, self.journal.end(observer));
+            self.journal.end(observer);
+            end_line(out, self.journal.rt.tally.ticks, self.journal.stopped);
             self.over = true;
             return true;
         }

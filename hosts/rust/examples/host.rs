@@ -304,8 +304,7 @@ fn tick_line(v: &Verdict) -> String {
 }
 
 fn end_line(t: &ffi::Tally) -> String {
-    let stopped: u64 = [t.braking, t.held, t.escalated, t.fault, t.terminated].map(u64::from).iter().sum();
-    format!("end {} {stopped}\n", t.ticks)
+    format!("end {} {}\n", t.ticks, t.stop_actions)
 }
 
 // ---- the trace: NAME=VALUE lines, by the type of the value
