@@ -14,7 +14,7 @@ pages=$top/target/bin/pages
 require=
 
 # The rules that the fuse has by request and the Rust has not, as options; the reference follows them (rust/rules).
-has=' --rule max-ignores-nan'
+has=' --rule max-ignores-nan --rule reset-keeps-nonces'
 
 option() {
     took=2

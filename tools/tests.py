@@ -187,6 +187,24 @@ def explain_acknowledgements():
         has(explain(made(text.replace("ACK10\n", "")))[1], "not consumed: " + words, "acknowledgements: 1 came, 0 consumed")
 
 
+def explain_replayed():
+    """Nonces are kept over a reset, and by the tool too: examples/replay."""
+    text = explain((TOP / "examples/replay.journal").read_bytes())[1]
+    lines_as_fuse(text, (TOP / "examples/replay.expected").read_text().splitlines())
+    spent = "which was spent before the reset"
+    told = re.findall(r"slot (\d), nonce (\d+), handoff \d: (consumed|not consumed: .*)", text)
+    last = "18446744073709551615"
+    wanted = [
+        ("7", "1", "the state was Idle"), ("8", "1", "a slot is 0 to 7"), ("7", "1", None), ("2", "5", "the state was Braking"), ("3", last, None),
+        ("7", "1", f"the nonce must be above 1, {spent}"), ("3", last, f"the nonce must be above {last}, {spent}"),
+        ("3", "0", f"the nonce must be above {last}, {spent}"), ("8", "2", "a slot is 0 to 7"), ("2", "5", None), ("7", "2", None),
+        ("7", "2", f"the nonce must be above 2, {spent}"), ("7", "3", None),
+    ]  # fmt: skip
+    expect(len(told) == len(wanted), f"{len(told)} acknowledgements")
+    for (slot, nonce, end), (of, given, why) in zip(told, wanted):
+        expect((slot, nonce) == (of, given) and end.startswith(f"not consumed: {why}" if why else "consumed"), f"{slot} {nonce}: {end}")
+
+
 def explain_refusals():
     for number, text, words in REFUSALS:
         journal = made(text)

@@ -1,7 +1,7 @@
 /* Writes a host's calls as a journal, which the program `fuse` replays to the same verdicts.
  *
  * The settings come first, once the library has accepted them; then each reset and each tick.
- * New settings need a new file.
+ * New settings need a new file, and a file a new run state (disklorva_new): a replay begins with no nonce spent.
  * Each function answers 0, or -1 where writing failed.
  * A file whose writing failed is cut within a record, and all before it is good. */
 #ifndef RECORDER_H

@@ -214,9 +214,16 @@ impl Run {
             let found = if i == 0 {
                 let found = subject.compare(journal, &mut self.coverage)?;
                 self.applied.iter_mut().zip(RULES).for_each(|(n, (rule, ..))| *n += u64::from(rules::applied(rule)));
-                let nan = rules::on(Rule::MaxIgnoresNan) && self.coverage.met_nan();
-                if rules::applied(Rule::MaxIgnoresNan) != nan && found.is_none() {
-                    return Err(io::Error::other(format!("{name}: the rule of max applied where no NaN was met, or did not")));
+                let met = [
+                    (Rule::MaxIgnoresNan, self.coverage.met_nan()),
+                    (Rule::ResetKeepsNonces, self.coverage.carried_nonces()),
+                ];
+                for (rule, met) in met {
+                    if rules::applied(rule) != (rules::on(rule) && met) && found.is_none() {
+                        let what =
+                            format!("{name}: {rule:?} applied where it has no case, or did not where it has one");
+                        return Err(io::Error::other(what));
+                    }
                 }
                 found
             } else {
@@ -279,6 +286,15 @@ impl Run {
             "NaNs that max met: as s in {} ticks, as the z of a live channel in {}, as the brake factor in {}",
             nan.s, nan.live_z, nan.factor
         );
+        let acks = self.coverage.ack_ticks();
+        println!(
+            "acknowledgements: {} consumed, {} of them a second time; spent before a reset, and new again without the rule: \
+             {}, of which {} would be consumed",
+            acks.consumed, acks.twice, acks.stopped, acks.unconsumed
+        );
+        if rules::on(Rule::ResetKeepsNonces) && acks.twice > 0 {
+            return Err(io::Error::other("an acknowledgement was consumed twice"));
+        }
         for (i, name) in self.given.left_out.iter().enumerate() {
             let lines: u64 = self.given.subjects.iter().map(|subject| subject.left_out[i].lines.get()).sum();
             if lines == 0 {

@@ -13,9 +13,12 @@ use oracle::{
 
 mod counts;
 mod points;
+mod spent;
 
 use counts::{product, Counts, Grid, Group, Named, Point};
 use points::*;
+pub use spent::AckTicks;
+use spent::Spent;
 
 /// A fact that later ticks of an episode need.
 #[derive(Default)]
@@ -58,6 +61,7 @@ pub struct Coverage {
     pairs: Grid,
     acks: Grid,
     ack_more: Counts<AckMore>,
+    spent: Spent,
     ends: Counts<End>,
     limits: Counts<Limit>,
     odd: Counts<Odd>,
@@ -107,6 +111,7 @@ impl Coverage {
                     row < 3 && class == AckClass::NonceBelow as usize
                 }),
             ack_more: Counts::new("acknowledgements against other lines"),
+            spent: Spent::new(),
             ends: Counts::new("counters at their ends"),
             limits: Counts::new("limits and masks"),
             odd: Counts::new("odd floats"),
@@ -118,7 +123,7 @@ impl Coverage {
         }
     }
 
-    fn groups(&self) -> [&Group; 21] {
+    fn groups(&self) -> [&Group; 23] {
         [
             &self.rows.group,
             &self.states.group,
@@ -134,6 +139,8 @@ impl Coverage {
             &self.pairs.group,
             &self.acks.group,
             &self.ack_more.group,
+            &self.spent.by_state.group,
+            &self.spent.more.group,
             &self.ends.group,
             &self.limits.group,
             &self.odd.group,
@@ -148,6 +155,16 @@ impl Coverage {
     pub fn begin(&mut self) {
         self.journals += 1;
         self.now = Memory::default();
+        self.spent.begin();
+    }
+
+    pub fn ack_ticks(&self) -> AckTicks {
+        self.spent.ticks
+    }
+
+    /// Whether a reset of this journal came when a nonce was spent.
+    pub fn carried_nonces(&self) -> bool {
+        self.spent.carried()
     }
 
     /// Whether a tick of this journal had a NaN as s, as the z of a live channel or as the brake factor's share.
@@ -316,6 +333,7 @@ impl Coverage {
         } else {
             self.by_state(k, kept);
             self.ack(k);
+            self.spent.acknowledged(k);
         }
     }
 
@@ -517,7 +535,7 @@ impl Coverage {
         limits.hit_if(Limit::ChunkNotOk, due && blocked);
         let budget = v.reason == ReasonCode::EscalateRearmBudget;
         limits.hit_if(Limit::MaxRearms0, budget && s.max_rearms == 0);
-        limits.hit_if(Limit::Budget, budget && s.max_rearms > 0 && k.after.last_nonce != [0; 8]);
+        limits.hit_if(Limit::Budget, budget && s.max_rearms > 0 && self.spent.since_reset());
         limits.hit_if(Limit::AckOnlyBudget, budget && s.rearm == 1);
         limits.hit_if(Limit::H0, s.hold == 0 && v.state == FuseState::Escalated);
         if v.reason == ReasonCode::RearmedAuto {
@@ -701,6 +719,7 @@ impl Observer for Coverage {
 
     fn reset(&mut self, waiting: bool) {
         self.shapes.hit_if(Shape::ThrownAway, waiting);
+        self.spent.reset();
         let Memory { ticks, resets, nan, .. } = self.now;
         self.now = Memory { ticks, resets: resets + 1, settings: true, nan, ..Memory::default() };
     }
@@ -708,6 +727,7 @@ impl Observer for Coverage {
     fn ticked(&mut self, k: &Ticked) {
         self.ticks += 1;
         self.now.ticks += 1;
+        self.spent.ticked(k);
         let (s, v) = (k.settings, k.verdict);
         let mode = usize::from(s.mode);
         self.row(k);

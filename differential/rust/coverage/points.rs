@@ -87,6 +87,14 @@ points!(AckMore {
     HandoffAbove255 "handoff number above 255",
 });
 
+points!(Replay {
+    ResetsBetween "spent, and two or more resets since", OtherDecision "spent, with another decision",
+    OtherSlot "the same nonce from another slot: consumed", LastNonce "a slot whose last nonce was spent before the reset",
+    KeptArmed "reset with a stored nonce, in Armed", KeptWatching "in Watching", KeptClamped "in Clamped",
+    KeptBraking "in Braking", KeptHeld "in Held", KeptEscalated "in Escalated", KeptFault "in Fault",
+    KeptTerminated "in Terminated",
+});
+
 points!(End {
     CleanRun "clean_run stays at 65535", Clamps "clamps stay at 65535", ClampsOver "clamps above limit 65534",
     Rearms "rearms stay at 255", Streak "clamp_streak 255", Stopped "stopped_ticks 254",

@@ -1,7 +1,7 @@
 //! Writes a host's calls as a journal, which the program `fuse` replays to the same verdicts.
 //!
 //! Settings that were accepted come first, then each reset and each tick.
-//! New settings need a new journal.
+//! New settings need a new journal, and a journal a new run state: a replay begins with no nonce spent.
 //! Where writing fails the journal is cut within a record, and all before it is good.
 
 use crate::{Input, Lists, Outcome, Settings, Tick};
