@@ -36,7 +36,7 @@ use Rattle.claims.specs.Tallies.{howMany, endedIn, historyFrom, verdicts
 use Rattle.claims.specs.StopActions.{InMode, stopStates, verdictOn, TickStops, StopActionsOf, StopActionsTold}
 use Rattle.claims.proofs.ClockEnd.{row-one}
 use Rattle.claims.proofs.Tick.{by-call, by-guard, decided, cleanTurn, faultTurn, guard-faults}
-use Rattle.claims.proofs.Demand3.{true-of}
+use Rattle.claims.proofs.Tick.{holds-true}
 use Rattle.claims.proofs.Maxima.{and-false}
 use Rattle.claims.proofs.Tallies.{same-number, tally-told}
 
@@ -73,7 +73,7 @@ module _ (r : FuseRt) (c : Call) where
   unfolding faultInput
   in-fault h =
       row-one (configOf (c .settings)) (r .control) (faultMotion (configOf (c .settings)) (r .motion) (c .pos) .pos)
-      (faultInput (configOf (c .settings)) (c .input) (guardBits r c)) (guard-faults r c ∙ true-of (not (eqb (guardBits r c) 0)) h) .0
+      (faultInput (configOf (c .settings)) (c .input) (guardBits r c)) (guard-faults r c ∙ holds-true (not (eqb (guardBits r c) 0)) h) .0
 
   guard-stops : T (not (eqb (guardBits r c) 0)) → T (stopsArm (decided r c .verdict))
   unfolding faultTick closeFault closedOf faultVerdict
