@@ -23,7 +23,7 @@ use Rattle.lictor_fuse.specs.CleanTick.{chunkTally, closeClean, cleanTick}
 use Rattle.lictor_fuse.specs.FaultTick.{closeFault, faultTick}
 use Rattle.lictor_fuse.specs.Closed.{closedOf}
 use Rattle.claims.specs.Tallies.{howMany}
-use Rattle.journal_reader.specs.Reading.{Instruction, begin, restart, tick}
+use Rattle.journal_reader.specs.Reading.{Instruction, begin, restart, tick, width}
 use Rattle.journal.specs.declared.tick.Run.{Run}
 use Rattle.journal.specs.Events.{begunOf, restartedOf, decidedOf, tickedOf, runAfterAll, reportOf, eventsFrom}
 use Rattle.journal.specs.Journal.{startRun, journalOf}
@@ -61,6 +61,7 @@ unfolding begunOf restartedOf newOf resetOf emptyTally decidedOf tickedOf report
 told-after r [] l e = e
 told-after r (begin s ∷ is) l e = told-after (begunOf s) is [] refl
 told-after r (restart ∷ is) l e = told-after (restartedOf r) is [] refl
+told-after r (width w ∷ is) l e = told-after r is l e
 told-after r (tick c ∷ is) l e =
     told-after (tickedOf r (decidedOf r c)) is (decidedOf r c .verdict ∷ l)
     (tick-moves (r .config) (r .rt) (c .input) (c .outcome) (c .pos) (c .vel) (c .aux) (c .ext) (c .chunk)

@@ -7,7 +7,7 @@ use Prim.Native.Nat.{ℕ, _-_, _^_, min}
 use Rattle.lictor_core.specs.declared.verdict.SafetyVerdict.{SafetyVerdict}
 use Rattle.lictor_tally.specs.Tally.{stopsArm}
 use Rattle.claims.specs.Tallies.{howMany}
-use Rattle.journal.specs.Events.{Event, began, restarted, ticked}
+use Rattle.journal.specs.Events.{Event, began, restarted, ticked, widthGiven}
 use Rattle.journal.specs.Journal.{journalOf}
 
 -- the verdicts since the last reset, or since the settings where none came, the last one first;
@@ -17,6 +17,7 @@ sinceReset l [] = l
 sinceReset l (began run ∷ es) = sinceReset [] es
 sinceReset l (restarted run ∷ es) = sinceReset [] es
 sinceReset l (ticked t ∷ es) = sinceReset (t .verdict ∷ l) es
+sinceReset l (widthGiven run w ∷ es) = sinceReset l es
 
 -- of every list of bytes, for every table of kinds
 abbrev pub JournalStopped : Type 0
