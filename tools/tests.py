@@ -169,7 +169,7 @@ def explain_story():
 
 def explain_modes():
     """The same records in both modes: the states are the same, what stopped the arm is not."""
-    for name, words in [("observe", "2 of them stopped: in Observe fault ticks alone"), ("enforce", "13 of them in a stop state")]:
+    for name, words in [("observe", "2 of them stopped: in Observe the guard's fault ticks alone"), ("enforce", "13 of them in a stop state")]:
         status, text, said = explain((TOP / f"examples/{name}.journal").read_bytes())
         expect(status == 0 and not said, f"status {status}, said {said}")
         has(text, f"end: 14 ticks since the last reset, {words}\n")

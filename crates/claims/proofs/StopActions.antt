@@ -1,11 +1,10 @@
 -- The ticks that stop the arm: the proofs of specs/StopActions.
-use mathlib.Core.Path.{_≡_, refl, sym, _∙_, ap}
+use mathlib.Core.Path.{_≡_, refl, _∙_, ap}
 use mathlib.Core.Bool.{Bool, true, false, cond, not, _&&_}
 use mathlib.Core.List.{List, [], _∷_}
-use Prim.Native.Nat.{ℕ, _+_, _-_, _^_, _<_, min}
+use Prim.Native.Nat.{_+_, _-_, _^_, min}
 use native.Mathlib.Omega.{arith}
 use lib.Dec.{T, T-not, eqb}
-use lib.ListN.{length}
 use lib.Ieee.{Float}
 use Rattle.lictor_core.specs.declared.envelope.FuseConfig.{FuseConfig}
 use Rattle.lictor_core.specs.declared.fuse.FuseRt.{FuseRt}
@@ -33,10 +32,9 @@ use Rattle.lictor_fuse.specs.Tick.{isAccepted, givenOf, refusedTick}
 use Rattle.claims.specs.Runs.{All, silent, event, andThen}
 use Rattle.claims.specs.Calls.{Call, tickAnswer, settingsPass, guardBits, leftBy}
 use Rattle.claims.specs.Tallies.{howMany, endedIn, historyFrom, verdictsFrom, TallyTold}
-use Rattle.claims.specs.StopActions.{InMode, stopStates, verdictOn, TickStops, StopActionsOf, StopActionsTold}
+use Rattle.claims.specs.StopActions.{InMode, verdictOn, TickStops, StopActionsOf, StopActionsTold}
 use Rattle.claims.proofs.ClockEnd.{row-one}
-use Rattle.claims.proofs.Tick.{by-call, by-guard, decided, cleanTurn, faultTurn, guard-faults}
-use Rattle.claims.proofs.Tick.{holds-true}
+use Rattle.claims.proofs.Tick.{by-call, by-guard, decided, cleanTurn, faultTurn, guard-faults, holds-true}
 use Rattle.claims.proofs.Maxima.{and-false}
 use Rattle.claims.proofs.Tallies.{same-number, tally-told}
 

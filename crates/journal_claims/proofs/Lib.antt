@@ -2,4 +2,4 @@
 pub mod Order
 pub mod Episodes
 pub mod JournalStops
-pub mod JournalStopped
+pub mod JournalStopActions

@@ -1,4 +1,4 @@
 -- The claims, and the words that they are written with.
 pub mod Instructions
 pub mod JournalStops
-pub mod JournalStopped
+pub mod JournalStopActions

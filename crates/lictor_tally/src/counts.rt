@@ -57,7 +57,7 @@ fn stops_arm(s: FuseState, src: ActionSource) -> bool
     is_stop(s) && is_stop_action(src)
 }
 
-pub fn count_stop(s: FuseState, src: ActionSource, n: u32) -> u32
+pub fn count_stop_action(s: FuseState, src: ActionSource, n: u32) -> u32
     ensures { λ r. ⌜ r ≡ count (isStop s && isStopAction src) n ⌝ }
 {
     let moves = stops_arm(s, src);

@@ -12,7 +12,7 @@ use crate::counts::count_fired;
 use crate::counts::count_if;
 use crate::counts::count_in;
 use crate::counts::count_nominal;
-use crate::counts::count_stop;
+use crate::counts::count_stop_action;
 use crate::counts::count_trips;
 use crate::counts::first_at;
 use crate::counts::first_reason;
@@ -135,7 +135,7 @@ pub fn record(tally: Tally, verdict: SafetyVerdict, ev: TickEvents) -> Tally
         max_s: fmath::max(tally.max_s, verdict.scores.s),
         max_z: most_live(tally, standardised, ev.live_z),
         terminal_state: state,
-        stop_actions: count_stop(state, source, tally.stop_actions),
+        stop_actions: count_stop_action(state, source, tally.stop_actions),
     }
 }
 

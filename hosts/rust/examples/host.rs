@@ -3,7 +3,7 @@
 //!     host [--trace] [--record FILE] [JOURNAL]       from standard input where no file is named
 //!
 //! Prints the lines of the program `fuse`.
-//! With --trace, after each tick, every field of the verdict and of the run state.
+//! With --trace, after each tick, every field of the verdict and of the run state but the tally's stop_actions, which is in the last line.
 //! With --record the calls are written to FILE as a journal (`disklorva::recorder`).
 //! The exit status is 2 where reading, printing or recording failed.
 //! A controller has its sensors where this host has a journal.

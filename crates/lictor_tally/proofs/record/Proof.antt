@@ -74,8 +74,8 @@ max-requires c κs = search needs
 most-live-requires : tie.Need-most-live-requires
 most-live-requires c κs = search needs
 
-count-stop-requires : tie.Need-count-stop-requires
-count-stop-requires c κs = search needs
+count-stop-action-requires : tie.Need-count-stop-action-requires
+count-stop-action-requires c κs = search needs
 
 returns : tie.Need-returns
 unfolding recordOf
@@ -113,7 +113,7 @@ returns c =
       «max_s» = most .before .max .ensures i;
       «max_z» = most .most-live .ensures i;
       «terminal_state» = args .verdict .state;
-      «stop_actions» = c .count-stop .ensures i;
+      «stop_actions» = c .count-stop-action .ensures i;
     }
 
 pub record-spec : {M : Type 1} → statement M
@@ -143,5 +143,5 @@ record-spec =
     count-if-requires-6
     max-requires
     most-live-requires
-    count-stop-requires
+    count-stop-action-requires
     returns)

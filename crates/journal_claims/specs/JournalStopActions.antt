@@ -1,6 +1,6 @@
 -- `stopped` in the line `end`, of every journal (request 8): the tally that a journal leaves, which
 -- `end` prints, has counted those ticks since its last reset that stop the arm.
--- Proved in proofs/JournalStopped, `journal-stopped`.
+-- Proved in proofs/JournalStopActions, `journal-stop-actions`.
 use mathlib.Core.Path.{_≡_}
 use mathlib.Core.List.{List, [], _∷_}
 use Prim.Native.Nat.{ℕ, _-_, _^_, min}
@@ -20,7 +20,7 @@ sinceReset l (ticked t ∷ es) = sinceReset (t .verdict ∷ l) es
 sinceReset l (widthGiven run w ∷ es) = sinceReset l es
 
 -- of every list of bytes, for every table of kinds
-abbrev pub JournalStopped : Type 0
-JournalStopped =
+abbrev pub JournalStopActions : Type 0
+JournalStopActions =
     (kinds s : List ℕ) → journalOf kinds s .left .run .rt .tally .«stop_actions»
     ≡ min (howMany stopsArm (sinceReset [] (journalOf kinds s .events))) (2 ^ 32 - 1)

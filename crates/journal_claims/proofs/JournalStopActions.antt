@@ -1,4 +1,4 @@
--- `stopped` of every journal: the proof of specs/JournalStopped. A tick moves the count where its
+-- `stopped` of every journal: the proof of specs/JournalStopActions. A tick moves the count where its
 -- verdict stops the arm, and settings and a reset begin it anew.
 use mathlib.Core.Path.{_≡_, refl, _∙_}
 use mathlib.Core.Bool.{Bool, true, false, cond}
@@ -27,7 +27,7 @@ use Rattle.journal_reader.specs.Reading.{Instruction, begin, restart, tick, wid
 use Rattle.journal.specs.declared.tick.Run.{Run}
 use Rattle.journal.specs.Events.{begunOf, restartedOf, decidedOf, tickedOf, runAfterAll, reportOf, eventsFrom}
 use Rattle.journal.specs.Journal.{startRun, journalOf}
-use Rattle.journal_claims.specs.JournalStopped.{sinceReset, JournalStopped}
+use Rattle.journal_claims.specs.JournalStopActions.{sinceReset, JournalStopActions}
 
 -- ---- one tick
 
@@ -69,6 +69,6 @@ told-after r (tick c ∷ is) l e =
 
 -- ---- the claim
 
-pub journal-stopped : JournalStopped
+pub journal-stop-actions : JournalStopActions
 unfolding journalOf startRun begunOf newOf emptyTally
-journal-stopped kinds s = told-after startRun _ [] refl
+journal-stop-actions kinds s = told-after startRun _ [] refl
