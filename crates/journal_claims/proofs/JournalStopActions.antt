@@ -27,6 +27,7 @@ use Rattle.journal_reader.specs.Reading.{Instruction, begin, restart, tick, wid
 use Rattle.journal.specs.declared.tick.Run.{Run}
 use Rattle.journal.specs.Events.{begunOf, restartedOf, decidedOf, tickedOf, runAfterAll, reportOf, eventsFrom}
 use Rattle.journal.specs.Journal.{startRun, journalOf}
+use Rattle.journal_claims.specs.Instructions.{toldIn}
 use Rattle.journal_claims.specs.JournalStopActions.{sinceReset, JournalStopActions}
 
 -- ---- one tick
@@ -70,5 +71,5 @@ told-after r (tick c ∷ is) l e =
 -- ---- the claim
 
 pub journal-stop-actions : JournalStopActions
-unfolding journalOf startRun begunOf newOf emptyTally
-journal-stop-actions kinds s = told-after startRun _ [] refl
+unfolding journalOf toldIn startRun begunOf newOf emptyTally
+journal-stop-actions kinds s = told-after startRun (toldIn kinds s) [] refl
