@@ -20,10 +20,18 @@ use Rattle.proximity_text.specs.Near.{dimsOf, saidAt}
 abbrev pub wordLine : List ℕ → ℕ → ℕ → List ℕ
 wordLine word t c = word ++ fieldText t ++ fieldText c ++ ascii "\n"
 
+pub data Word : Type 0 where
+  within : Word
+  out : Word
+
+abbrev pub wordText : Word → List ℕ
+wordText within = ascii "within"
+wordText out = ascii "out"
+
 unfoldable pub saidText : Said → ℕ → ℕ → List ℕ
 saidText Nothing t c = []
-saidText Within t c = wordLine (ascii "within") t c
-saidText Out t c = wordLine (ascii "out") t c
+saidText Within t c = wordLine (wordText within) t c
+saidText Out t c = wordLine (wordText out) t c
 
 -- the lines of the first n components, by rising number
 unfoldable pub linesUpTo : Before → ℕ → List Float → List Float → List Float → ℕ → List ℕ

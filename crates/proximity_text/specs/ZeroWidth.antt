@@ -8,7 +8,8 @@ use lib.Ieee.{Float, eq}
 use Rattle.lictor_core.specs.declared.envelope.FuseConfig.{FuseConfig}
 use Rattle.lictor_core.specs.Initial.{zeroFloat}
 use Rattle.proximity_text.specs.Near.{inside, near}
-use Rattle.proximity_text.specs.History.{Moment, Word, out, Entry, LineOf}
+use Rattle.proximity_text.specs.Lines.{out}
+use Rattle.proximity_text.specs.History.{Moment, Entry, LineOf}
 
 pub record ZeroWidth : Type 0 where
   -- of all values
