@@ -17,8 +17,8 @@ use Rattle.journal.specs.Journal.{Ending, ended, refused}
 use Rattle.report.specs.Lines.{refusedText}
 use Rattle.page_text.specs.Rows.{tickRow, pageRow, asLine}
 use Rattle.printer.specs.declared.Notes.{Notes}
-use Rattle.printer.specs.Printer.{Shows, pages, Printer, atStart, pagesPrinter, pageRows, lastPage, nextPage, fills, afterTick, tickOnPage, pageClosed, shownText, remembered, closingText, endShown, endingText, printed, printerAfter, printerAfterAll, textFrom, textOf, kindsTaken, meaningFor}
-use Rattle.printer.specs.Fifties.{verdictsOf, ticksOn, pageNumber, pageOf, pageCount, pagesUpTo, pagesOf, linesText, refusalText, pagesText, NoTicks}
+use Rattle.printer.specs.Printer.{Shows, pages, Printer, atStart, pagesPrinter, pageRows, lastPage, nextPage, fills, afterTick, tickOnPage, pageClosed, shownText, remembered, closingText, endShown, endingText, refusalText, printed, printerAfter, printerAfterAll, textFrom, textOf, kindsTaken, meaningFor}
+use Rattle.printer.specs.Fifties.{verdictsOf, ticksOn, pageNumber, pageOf, pageCount, pagesUpTo, pagesOf, linesText, pagesText, NoTicks}
 
 -- ---- lists
 

@@ -215,6 +215,11 @@ unfoldable pub endingText : Printer → Run → Ending → List ℕ
 endingText p run ended = closingText (p .shows) (p .notes) ++ endShown (p .shows) (run .rt .tally)
 endingText p run (refused r place) = closingText (p .shows) (p .notes) ++ refusedText (numberOf r) place
 
+-- of it the line of a refusal, where there is one
+abbrev pub refusalText : Ending → List ℕ
+refusalText ended = []
+refusalText (refused r place) = refusedText (numberOf r) place
+
 -- the channel that its text goes to: standard output, for all
 abbrev pub endingOn : Shows → Ending → Channel
 endingOn lines e = Output

@@ -18,8 +18,7 @@ use Rattle.journal_claims.specs.JournalStops.{GoesOn}
 use Rattle.proximity_text.specs.Near.{noneInside}
 use Rattle.proximity_text.specs.History.{putFrom, PutListed}
 use Rattle.proximity_text.proofs.History.{lines-listed}
-use Rattle.printer.specs.Printer.{Printer, proximity, atStart, proximityPrinter, shownText, remembered, printed, printerAfterAll, endingText, meaningFor, kindsTaken, textOf}
-use Rattle.printer.specs.Fifties.{refusalText}
+use Rattle.printer.specs.Printer.{Printer, proximity, atStart, proximityPrinter, shownText, remembered, printed, printerAfterAll, endingText, refusalText, meaningFor, kindsTaken, textOf}
 use Rattle.printer.proofs.Parts.{shows-stay, proximity-on-output}
 use Rattle.proximity_claims.specs.EveryLine.{eventsIn, endingIn, historyOf, NoWidth, Unmeasured, Under, Measured, Told, without, with-width, EveryLine}
 use Rattle.proximity_claims.proofs.Order.{Goes, plain, measured, Course, nothing, under, course}

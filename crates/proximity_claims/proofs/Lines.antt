@@ -19,8 +19,7 @@ use Rattle.proximity_text.specs.Lines.{linesOf}
 use Rattle.proximity_text.specs.History.{Moment, clean, fault, reset, putFrom}
 use Rattle.printer.specs.declared.Near.{Near}
 use Rattle.printer.specs.declared.Notes.{Notes}
-use Rattle.printer.specs.Printer.{Shows, proximity, Printer, showing, isClean, tickNear, withInside, nearAfter, nearCleared, withNear, shownText, remembered, closingText, endShown, endingText, printed}
-use Rattle.printer.specs.Fifties.{refusalText}
+use Rattle.printer.specs.Printer.{Shows, proximity, Printer, showing, isClean, tickNear, withInside, nearAfter, nearCleared, withNear, shownText, remembered, closingText, endShown, endingText, refusalText, printed}
 use Rattle.proximity_claims.specs.EveryLine.{historyOf, NoWidth, Under}
 
 -- ---- with a width

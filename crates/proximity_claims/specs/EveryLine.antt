@@ -1,8 +1,8 @@
 -- What `proximity` prints for every journal (02-change-requests.md, Ask 7): with a width, one line for
 -- each clean tick and component that has one, in order, and no other; without a width, none.
 -- The claim is at the end of this file; `every-line` in proofs/EveryLine proves it.
--- Of other files it names: what the program prints (printer, specs/Printer, textOf); a history, and
--- which lines it has (proximity_text, specs/History).
+-- Of other files it names: what the program prints (printer, specs/Printer, textOf), of which the line
+-- of a refusal (refusalText); a history, and which lines it has (proximity_text, specs/History).
 use mathlib.Core.Bool.{false, cond}
 use mathlib.Core.List.{List, [], _∷_, _++_}
 use mathlib.Core.Path.{_≡_}
@@ -16,8 +16,7 @@ use Rattle.journal.specs.Events.{begunOf, TickReport, Event, began, restarted, 
 use Rattle.journal.specs.Journal.{Ending}
 use Rattle.journal.specs.Widths.{tellsWidth}
 use Rattle.proximity_text.specs.History.{Moment, clean, fault, reset, Entry, Listed, listText}
-use Rattle.printer.specs.Printer.{isClean, proximityPrinter, meaningFor, textOf, besideOf}
-use Rattle.printer.specs.Fifties.{refusalText}
+use Rattle.printer.specs.Printer.{isClean, proximityPrinter, refusalText, meaningFor, textOf, besideOf}
 
 -- the events of a journal, and how it ends
 abbrev pub eventsIn : List ℕ → List Event
