@@ -13,6 +13,7 @@ use Rattle.journal_refusals.specs.Table.{numberOf}
 use Rattle.journal.specs.declared.tick.Run.{Run}
 use Rattle.journal.specs.Events.{Event, TickReport, began, restarted, ticked, widthGiven}
 use Rattle.journal.specs.Journal.{Ending, ended, refused}
+use Rattle.journal.specs.Widths.{tellsWidth}
 use Rattle.report.specs.Lines.{refusedText}
 use Rattle.proximity_text.specs.Near.{insideOf, noneInside}
 use Rattle.proximity_text.specs.Lines.{linesOf}
@@ -20,7 +21,7 @@ use Rattle.proximity_text.specs.History.{Moment, clean, fault, reset, putFrom}
 use Rattle.printer.specs.declared.Near.{Near}
 use Rattle.printer.specs.declared.Notes.{Notes}
 use Rattle.printer.specs.Printer.{Shows, proximity, Printer, showing, isClean, tickNear, withInside, nearAfter, nearCleared, withNear, shownText, remembered, closingText, endShown, endingText, refusalText, printed}
-use Rattle.proximity_claims.specs.EveryLine.{historyOf, NoWidth, Under}
+use Rattle.proximity_claims.specs.EveryLine.{historyOf, Under}
 
 -- ---- with a width
 
@@ -48,6 +49,9 @@ near-printed cfg w m (ticked t ∷ es) u was =
     rw (u .0) (tick-put cfg w m es (t .verdict .t) (t .pos) was (λ is. near-printed cfg w m es (u .1) is) (isClean (t .guard)))
 
 -- ---- without a width
+
+abbrev pub NoWidth : Event → Type 0
+NoWidth e = tellsWidth e ≡ false
 
 abbrev unmeasured : Notes → Printer
 unmeasured m = showing proximity m
