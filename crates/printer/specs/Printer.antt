@@ -148,7 +148,7 @@ measureCleared m = withInside m noneInside
 abbrev pub measureGiven : Measure → Float → Measure
 measureGiven m w = record { given = true; before = record { width = w; inside = m .before .inside } }
 
--- the same notes of pages
+-- rows and page kept
 abbrev pub withMeasure : Notes → Measure → Notes
 withMeasure m x = record { rows = m .rows; page = m .page; measure = x }
 

@@ -1,5 +1,4 @@
 -- The lines of a clean tick (02-change-requests.md, Ask 7), one after the other.
-use mathlib.Core.Bool.{Bool}
 use mathlib.Core.List.{List, [], _++_}
 use mathlib.Core.Path.{_≡_}
 use Prim.Native.Nat.{ℕ, zero, suc, _*_}
@@ -50,6 +49,7 @@ abbrev pub linesRoom : ℕ
 linesRoom = maxPos * lineRoom
 
 -- the lines of a tick, put after the first n bytes: where they end, and the bytes then
-pub record LinesShown (cfg : FuseConfig) (b : Before) (t : ℕ) (pos : List Float) (out : List ℕ) (n r : ℕ) (out' : List ℕ) : Type 0 where
+pub record LinesShown (cfg : FuseConfig) (b : Before) (t : ℕ) (pos : List Float)
+    (out : List ℕ) (n r : ℕ) (out' : List ℕ) : Type 0 where
   pub ends : r ≡ placeWith linesRoom (length out) n (linesOf cfg b t pos)
   pub memory : out' ≡ memoryWith linesRoom out n (linesOf cfg b t pos)

@@ -13,7 +13,8 @@ use Rattle.proximity_text.specs.History.{Moment, Entry, LineOf}
 
 pub record ZeroWidth : Type 0 where
   -- of all values
-  pub none-near : (width lo hi p : Float) → eq width zeroFloat ≡ true → inside lo hi p ≡ true → near width lo hi p ≡ false
+  pub none-near : (width lo hi p : Float)
+      → eq width zeroFloat ≡ true → inside lo hi p ≡ true → near width lo hi p ≡ false
   -- every line of a history is an `out`
   pub only-out : (cfg : FuseConfig) (width : Float) (history : List Moment) (e : Entry)
       → eq width zeroFloat ≡ true → LineOf cfg width history e → e .word ≡ out
