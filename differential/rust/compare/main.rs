@@ -1,8 +1,9 @@
 //! Compares programs with the Rust reference on generated journals.
 //!
-//!     compare [--fuse COMMAND] [--trace COMMAND] [options] [JOURNAL ..]
+//!     compare [--fuse COMMAND] [--trace COMMAND] [--proximity COMMAND] [options] [JOURNAL ..]
 //!
-//! COMMAND is a path with arguments after blanks. With files, those journals are compared; else generated ones:
+//! COMMAND is a path with arguments after blanks. A program has to print what the reference does and nothing on standard
+//! error, and to end with status 0. With files, those journals are compared; else generated ones:
 //!     --seeds N      so many seeds (20)
 //!     --first S      from this one on (1)
 //!     --profile P    this profile alone (may be repeated)
@@ -80,6 +81,7 @@ fn options() -> Result<Options, String> {
         match arg.as_str() {
             "--fuse" => given.subjects.push(subject(Program::Fuse, &value()?)),
             "--trace" => given.subjects.push(subject(Program::Trace, &value()?)),
+            "--proximity" => given.subjects.push(subject(Program::Proximity, &value()?)),
             "--seeds" => given.seeds = number(value()?)?,
             "--first" => given.first = number(value()?)?,
             "--profile" => {
@@ -113,13 +115,14 @@ fn options() -> Result<Options, String> {
             given.left_out.iter().map(|name| Field { name: name.clone(), lines: Cell::new(0) }).collect();
     }
     if given.subjects.is_empty() && given.write.is_none() && !given.show {
-        return Err("nothing to compare: give --fuse or --trace".into());
+        return Err("nothing to compare: give --fuse, --trace or --proximity".into());
     }
     Ok(given)
 }
 
 fn subject(program: Program, command: &str) -> Subject {
-    Subject { program, command: command.split_whitespace().map(String::from).collect(), left_out: Vec::new() }
+    let command = command.split_whitespace().map(String::from).collect();
+    Subject { program, command, left_out: Vec::new(), lines: Cell::new(0) }
 }
 
 fn main() -> ExitCode {
@@ -302,6 +305,8 @@ impl Run {
             }
             println!("left out: {name} in {lines} lines");
         }
+        let lines = self.given.subjects.iter().map(|subject| format!("{} {:?}", subject.lines.get(), subject.program));
+        println!("lines that are the same: {}", lines.collect::<Vec<_>>().join(", "));
         println!(
             "{} ticks in {} journals of {} bytes, {} programs, {seconds:.1} s ({:.0} ticks/s), {} differences",
             self.coverage.ticks,

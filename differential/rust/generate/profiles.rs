@@ -10,6 +10,7 @@ use crate::{
     rng::Rng,
     settings::{self, *},
     walk::{self, walk, Mix, CALM},
+    walls,
 };
 
 /// How often a profile is run: with every seed, or with the first one alone.
@@ -41,7 +42,7 @@ const fn once(name: &'static str, what: &'static str, make: fn(&Rng) -> Vec<Vec<
     Profile { name, what, often: Often::Once, make }
 }
 
-pub const PROFILES: [Profile; 34] = [
+pub const PROFILES: [Profile; 37] = [
     each("mixed", "a bit of everything under small limits", |rng| {
         let s = small(rng);
         run(s, rng, &CALM, 300)
@@ -154,6 +155,9 @@ pub const PROFILES: [Profile; 34] = [
         run(s, rng, &mix, 300)
     }),
     each("triples", "every three events in a row, from a state that the seed chooses", triples),
+    each("walls", "positions about the walls of the box, with fault ticks and resets", walls::walls),
+    each("faces", "on each face and next to it, and every width about the distance", walls::faces),
+    each("widths", "kind 8 good and bad, late, again, cut, while records wait", bad::widths),
     each("refusals", "each cause of refusal, alone and with others", bad::refusals),
     each("bytes", "random bytes, and good journals damaged", bad::bytes),
     each("cuts", "a good journal cut anywhere", bad::cuts),
