@@ -36,7 +36,7 @@ use Rattle.printer.specs.declared.Shown.{Shown}
 -- ---- a printer
 
 -- what is shown: of a tick its line; or its line and every field of the verdict, the run state and
--- the tally; or its row on a page; or the components that are close to a face or have left the box
+-- the tally that the Rust has; or its row on a page; or the components that are close to a face or have left the box
 pub data Shows : Type 0 where
   lines : Shows
   trace : Shows

@@ -30,7 +30,7 @@ use text::memory::put_line;
 // Of a tick its line, as `fuse` prints it. Any number that is not listed means the same.
 pub const LINES: u8 = 0;
 
-// Its line, and then every field of the verdict, the run state and the tally.
+// Its line, and then every field of the verdict, the run state and the tally that the Rust has.
 pub const TRACE: u8 = 1;
 
 // Pages: rows of ticks, and after each page a line with its number.
