@@ -1,7 +1,7 @@
 -- Every journal is printed so.
 use mathlib.Core.Bool.{Bool, true, false, _||_}
 use mathlib.Core.List.{List, [], _∷_, _++_}
-use mathlib.Core.Path.{_≡_, refl, sym, ap, ap₂, _∙_}
+use mathlib.Core.Path.{_≡_, refl, ap, _∙_}
 use Prim.Native.Nat.{ℕ, _≤_}
 use native.Mathlib.Omega.{arith}
 use borrow.Author.Tests.{ltb-false}
@@ -16,14 +16,14 @@ use Rattle.journal_reader.specs.Reading.{Instruction, begin, restart, tick, wid
 use Rattle.journal.specs.declared.tick.Run.{Run}
 use Rattle.stream.proofs.Stream.{impossible}
 use Rattle.journal.specs.Events.{begunOf, restartedOf, tickedOf, decidedOf, runAfter, reportOf, Event, began, widthGiven, eventsFrom}
-use Rattle.journal.specs.Journal.{Ending, startRun, journalOf}
+use Rattle.journal.specs.Journal.{startRun, journalOf}
 use Rattle.journal_claims.specs.Instructions.{toldIn}
 use Rattle.journal_claims.specs.JournalStops.{GoesOn}
 use Rattle.journal_claims.proofs.Order.{Goes, plain, measured, Ordered, nothing, under, ordered}
 use Rattle.proximity_text.specs.Near.{noneInside}
 use Rattle.proximity_text.specs.History.{putFrom, PutListed}
 use Rattle.proximity_text.proofs.History.{lines-listed}
-use Rattle.printer.specs.Printer.{Printer, proximity, atStart, proximityPrinter, shownText, remembered, printed, printerAfterAll, endingText, refusalText, meaningFor, kindsTaken, textOf}
+use Rattle.printer.specs.Printer.{proximity, atStart, proximityPrinter, shownText, remembered, printed, printerAfterAll, refusalText, meaningFor, kindsTaken, textOf}
 use Rattle.printer.proofs.Parts.{shows-stay, proximity-on-output}
 use Rattle.proximity_claims.specs.EveryLine.{eventsIn, endingIn, historyOf, HasWidth, Unmeasured, Under, Measured, Told, without, with-width, EveryLine}
 use Rattle.proximity_claims.proofs.Lines.{NoWidth, near-printed, none-printed, ending-is}
