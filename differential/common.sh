@@ -3,7 +3,7 @@
 #   option WORDS ..  takes an option that all of them have, if the first word is one, and sets `took` to the number of its words (0: it is none)
 #   build [OPTION]   builds the reference from the Rust sources, or skips where something that it needs is missing
 #   skip WHY         says what is missing and ends: with status 0, or with --require as an error
-# They set and use: name (the script's), top, out, src, fuse, trace, pages, require.
+# They set and use: name (the script's), top, out, src, fuse, trace, pages, proximity, require.
 top=$(dirname "$here")
 name=$(basename "$0")
 out=$top/target/differential
@@ -11,10 +11,11 @@ src=${RUST_SOURCES:-$top/../shared/docs/src}
 fuse=$top/target/bin/fuse
 trace=$top/target/bin/trace
 pages=$top/target/bin/pages
+proximity=$top/target/bin/proximity
 require=
 
 # The rules that the fuse has by request and the Rust has not, as options; the reference follows them (rust/rules).
-has=' --rule max-ignores-nan'
+has=' --rule max-ignores-nan --rule reset-keeps-nonces'
 
 option() {
     took=2
@@ -23,6 +24,7 @@ option() {
     --fuse) fuse=$2 ;;
     --trace) trace=$2 ;;
     --pages) pages=$2 ;;
+    --proximity) proximity=$2 ;;
     --require) require=yes && took=1 ;;
     *) took=0 ;;
     esac

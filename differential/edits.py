@@ -1,6 +1,6 @@
 """The scripted edits that turn the published Rust into the reference of 01-scope.md.
 
-Every file is taken as it was published, except chunk.rs (sizes), fuse.rs (the outcome record) and fmath.rs (a rule that is off
+Every file is taken as it was published, except chunk.rs (sizes), fuse.rs (the outcome record, and a name that is let out) and fmath.rs (a rule that is off
 unless it is asked for). An edit replaces a text that must occur exactly once; where it does not, the build stops and says which
 edit no longer fits.
 """
@@ -195,7 +195,18 @@ OUTCOME = [
     ),
 ]
 
-REFERENCE = SIZES + OUTCOME
+# Ask 7 of 02-change-requests.md: whether a tick is clean is what the guard found, and a verdict does not always tell.
+# The compiler puts the guard into its caller also without the word `inline`, as long as nothing else calls it.
+GUARD = [
+    Edit(
+        FUSE,
+        "the guard can be asked by itself, and is compiled as before",
+        "fn guard(cfg: &FuseConfig, rt: &FuseRt, inp: &TickInput<'_>) -> u32 {",
+        "#[inline(always)]\npub fn guard(cfg: &FuseConfig, rt: &FuseRt, inp: &TickInput<'_>) -> u32 {",
+    ),
+]
+
+REFERENCE = SIZES + OUTCOME + GUARD
 
 # Rules that are turned on by name (rust/rules) and are off otherwise. Where speed is measured they are left out.
 RULES = [

@@ -2,12 +2,15 @@
 
 import os
 import pathlib
+import re
 import statistics
 import subprocess
 import tempfile
 import time
 
 SETTINGS = 221  # bytes of the settings record, its kind byte included
+LENGTHS = {1: 220, 2: 0, 3: 14, 4: 14, 5: 9, 6: 257, 7: 9}  # of a body, by kind
+ACK, NONCE = 3, slice(3, 11)  # an acknowledgement, and the place of its nonce counted from the kind byte
 
 
 class Measured:
@@ -17,10 +20,38 @@ class Measured:
         self.wall, self.cpu = wall, cpu
 
 
+def has() -> list:
+    """The rules that the fuse has and the Rust has not, as options of the reference: those of common.sh."""
+    text = (pathlib.Path(__file__).resolve().parent / "common.sh").read_text()
+    return re.search(r"^has='(.*)'$", text, re.MULTILINE)[1].split()
+
+
+def acks(records: bytes) -> list:
+    """The places of the acknowledgements."""
+    places, at = [], 0
+    while at < len(records):
+        if records[at] == ACK:
+            places.append(at)
+        at += 1 + LENGTHS[records[at]]
+    return places
+
+
 def repeat(journal: bytes, size: int) -> bytes:
-    """The settings once, then the rest over and over, up to about so many bytes. The rest should begin with a reset."""
+    """The settings once, then the rest over and over, up to about so many bytes. The rest should begin with a reset.
+
+    A reset keeps the nonces, so each round has its own, in the order of the first's: every round then goes as the first does. 0 stays 0.
+    """
     rest = journal[SETTINGS:]
-    return journal[:SETTINGS] + rest * max(1, size // len(rest))
+    nonces = {at: int.from_bytes(rest[at:][NONCE], "little") for at in acks(rest)}
+    ranks = {nonce: rank for rank, nonce in enumerate(sorted(set(nonces.values()) | {0}))}
+    rounds = []
+    for done in range(max(1, size // len(rest))):
+        one = bytearray(rest)
+        for at, nonce in nonces.items():
+            fresh = nonce and done * len(ranks) + ranks[nonce]
+            one[at + NONCE.start : at + NONCE.stop] = fresh.to_bytes(8, "little")
+        rounds.append(one)
+    return journal[:SETTINGS] + b"".join(rounds)
 
 
 def large(journal: pathlib.Path, size: int, to: pathlib.Path) -> pathlib.Path:

@@ -75,7 +75,8 @@ def build_mutant(mutant: Mutant, good: build.Builder, folder: pathlib.Path, leve
 
 def differs(good: build.Builder, program: pathlib.Path, options: list):
     """The name of the first journal that shows a difference, or None."""
-    call = [str(good.out / "compare"), "--trace", f"{program} trace", "--fuse", str(program), "--quick"] + options
+    programs = ["--trace", f"{program} trace", "--fuse", str(program), "--proximity", f"{program} proximity"]
+    call = [str(good.out / "compare"), *programs, "--quick"] + options
     done = subprocess.run(call, capture_output=True, text=True)
     if done.returncode not in (0, 1):
         raise build.BuildError(f"{' '.join(call)}:\n{done.stderr}")

@@ -22,6 +22,7 @@ bytes_12 = (1, 0, 1, 0, DIM, DIM, 3, 5, 3, 2, 2, 2)  # Enforce, EePosition, Proj
 numbers = (ROWS, ROWS, 60, 30, 10, 30, 200, 127, 0, 31)
 floats = (PERIOD, 1 / PERIOD, 1.0, 0.01, 0.5, 3.0, *[-1.0] * 8, *[1.0] * 8)
 record(1, "12B6H3IQ22d", *bytes_12, *numbers, *floats)
+record(8, "d", 0.05)  # a width for the program proximity; it may be left out
 record(2, "")
 for t in range(10):
     if t % ROWS == 0:

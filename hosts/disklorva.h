@@ -126,7 +126,7 @@ typedef struct {
 /* The state machine's. Counts stop at their largest number, and none wraps but handoff_seq (docs/COUNTERS.md). */
 typedef struct {
     uint64_t window;          /* the hit window: bit 0 is the last clean tick, 1 a hit */
-    uint64_t last_nonce[8];   /* by slot, the last nonce that was consumed; 0 after a reset */
+    uint64_t last_nonce[8];   /* by slot, the last nonce that was consumed; 0 in a new run state, kept by a reset */
     double hold[8];           /* the point that is held, unit: where the arm was when it stopped, within the box; 0 before */
     uint8_t state;            /* code */
     uint16_t clean_run;       /* quiet ticks in a row */
@@ -246,10 +246,12 @@ typedef struct {
 
 /* ---- the functions */
 
-/* A run state for which no episode has begun. A tick on it faults: begin with disklorva_reset. */
+/* A run state for which no episode has begun and no nonce is spent: one for each arm, where the host starts or takes new settings. A tick on it faults: begin
+ * with disklorva_reset. */
 disklorva_run_state disklorva_new(void);
 
-/* Starts an episode in *rt, whatever it held. It forgets everything, spent nonces too (docs/HOST.md, What a reset forgets). */
+/* Starts an episode in *rt. It keeps control.last_nonce, so that no acknowledgement of an episode before is consumed again, and forgets everything else
+ * (docs/HOST.md, What a reset keeps and forgets). *rt once came from disklorva_new: a new run state for each episode would have no nonce spent. */
 void disklorva_reset(disklorva_run_state *rt);
 
 /* One tick: changes *rt where it lies. Call it once a control period, with the run state that the call before left and the settings of the episode.

@@ -28,6 +28,7 @@ RECORDS = {
         ("trips", 4, "0"), ("clamped_dims", 4, "0"), ("feasible", 1, "1"), ("margin", ("f", 1), "1"), ("s", ("f", 1), "-inf"),
         ("valid", 4, "0"), ("fired", 4, "0"), ("z", ("f", 12), "0"), ("policy", ("f", 8), "0"), ("clamped", ("f", 8), "0")]),
     7: ("tick", [("t", 4, "0"), ("idx", 2, "0"), ("missed", 1, "0"), ("schema", 1, "0"), ("vel", 1, "0")]),
+    8: ("width", [("w", ("f", 1), "0")]),
 }
 KINDS = {name: kind for kind, (name, _) in RECORDS.items()}
 ROOM = [512, 16, 16, 16, 16]  # values of each list
@@ -117,6 +118,8 @@ def record(words):
     name, fields = RECORDS[kind]
     if name == "value" and len(words) == 3 and "=" not in words[1] + words[2]:
         words = ["value", "list=" + words[1], "x=" + words[2]]
+    if name == "width" and len(words) == 2 and "=" not in words[1]:
+        words = ["width", "w=" + words[1]]
     given = {}
     for w in words[1:]:
         key, eq, text = w.partition("=")
@@ -198,6 +201,8 @@ def wrong(number, b):
     of, kind = values(b), b[0]
     if number == 1:
         return [f"{key} is {of[key]}, and 0 to {last} are listed" for key, last in LISTED.get(kind, []) if of[key] > last]
+    if kind == 8 and number == 3:
+        return [f"w is {of['w']!r}" + (", below zero" if of["w"] < 0 else "")] if not 0 <= of["w"] < float("inf") else []
     if kind != 1:
         return []
     if number == 2:

@@ -116,7 +116,7 @@ ACKS = [
     (10, "ack", "the tick has a fault bit"),
 ]
 
-# the ten refusals: a text, and the words of the cause
+# the ten refusals: a text, and the words of the cause; a width gets the numbers 3, 6, 8 and 9
 REFUSALS = [
     (1, "settings mode=7", "mode is 7, and 0 to 1 are listed"),
     (1, "settings\nack decision=3", "decision is 3, and 0 to 2 are listed"),
@@ -129,7 +129,16 @@ REFUSALS = [
     (3, "settings box_hi=1,1,inf,1", "box_hi 2 is inf"),
     (3, "settings tau=nan", "tau is nan"),
     (4, "settings box_lo=-1,-1,2,-1", "pair 2: box_lo 2 is above box_hi 1"),
-    (5, "settings\nreset\nraw 0800", "the kind is 8"),
+    (3, "settings\nwidth nan", "w is nan"),
+    (3, "settings\nwidth w=-inf", "w is -inf, below zero"),
+    (3, "settings\nack\nwidth -1e-300\nreset", "w is -1e-300, below zero"),
+    (5, "settings\nreset\nraw 0900", "the kind is 9"),
+    (6, "settings\nraw 0800", "width has 8 bytes of body, and 1 byte came"),
+    (8, "width -1", "width came first"),
+    (9, "settings\nwidth\noutcome\nwidth", "width came already"),
+    (9, "settings\nwidth\nreset\nwidth nan", "width came already"),
+    (9, "settings\nreset\nvalue pos 0\nwidth", "a reset came before it"),
+    (9, "settings\noutcome\ntick\nreset\nwidth -1", "a tick came before it"),
     (5, "settings\nraw " + b"settings".hex(), "the bytes are text: tools/journal write makes a journal of it"),
     (6, "settings\nreset\nraw 0700", "tick has 9 bytes of body, and 1 byte came"),
     (7, "settings\nreset\n" + "value pos 0\n" * 17, "pos has its 16 values already"),
@@ -187,6 +196,24 @@ def explain_acknowledgements():
         has(explain(made(text.replace("ACK10\n", "")))[1], "not consumed: " + words, "acknowledgements: 1 came, 0 consumed")
 
 
+def explain_replayed():
+    """Nonces are kept over a reset, and by the tool too: examples/replay."""
+    text = explain((TOP / "examples/replay.journal").read_bytes())[1]
+    lines_as_fuse(text, (TOP / "examples/replay.expected").read_text().splitlines())
+    spent = "which was spent before the reset"
+    told = re.findall(r"slot (\d), nonce (\d+), handoff \d: (consumed|not consumed: .*)", text)
+    last = "18446744073709551615"
+    wanted = [
+        ("7", "1", "the state was Idle"), ("8", "1", "a slot is 0 to 7"), ("7", "1", None), ("2", "5", "the state was Braking"), ("3", last, None),
+        ("7", "1", f"the nonce must be above 1, {spent}"), ("3", last, f"the nonce must be above {last}, {spent}"),
+        ("3", "0", f"the nonce must be above {last}, {spent}"), ("8", "2", "a slot is 0 to 7"), ("2", "5", None), ("7", "2", None),
+        ("7", "2", f"the nonce must be above 2, {spent}"), ("7", "3", None),
+    ]  # fmt: skip
+    expect(len(told) == len(wanted), f"{len(told)} acknowledgements")
+    for (slot, nonce, end), (of, given, why) in zip(told, wanted):
+        expect((slot, nonce) == (of, given) and end.startswith(f"not consumed: {why}" if why else "consumed"), f"{slot} {nonce}: {end}")
+
+
 def explain_refusals():
     for number, text, words in REFUSALS:
         journal = made(text)
@@ -197,6 +224,24 @@ def explain_refusals():
         at = sum(1 for place, _ in records.stream([journal]) if place <= int(last[2]))
         has(said, f"refused {number}: ", words, f"record {at} of the journal, its kind byte is byte {last[2]}", "look for: ")
         has(said, "the record: " + records.text(journal[int(last[2]) :][: records.SIZE.get(journal[int(last[2])], 300)], True))
+
+
+def explain_width():
+    """A width is told once, and changes no other word."""
+    story = (TOP / "examples/story.txt").read_text()
+    for given, told in (("0.25", "0.25"), ("-0", "-0"), ("0", "0"), ("1e308", "1e+308")):
+        settings, reset, rest = story.partition("\nreset")
+        status, text, said = explain(made(settings + f"\nwidth {given}" + reset + rest))
+        expect(status == 0 and not said, said)
+        has(text, f"width: {told}, for the program proximity\n")
+        words = re.sub(r"width: .*\n", "", text)
+        number = lambda m: f"record {int(m[1]) - 1}, byte {int(m[2]) - 9}"  # noqa: E731
+        words = re.sub(r"record (\d+), byte (\d+)", number, words)
+        expect(words == (TOP / "examples/story.words").read_text(), words)
+    file = OUT / "width.html"
+    status, out, said = explain(made("settings\nwidth 0.25\nreset\noutcome\ntick"), "--html", file)
+    expect(status == 0 and not out + said, said)
+    has(file.read_text(), "; width: 0.25, for the program proximity</p>")
 
 
 def explain_what_waits():
@@ -263,7 +308,7 @@ def explain_memory():
 def explain_damaged():
     """Journals with changed, lost and doubled bytes: the ticks and the end of fuse."""
     tool, rng = module("explain"), random.Random(29)
-    for base in (STORY, (TOP / "crates/trace/stdin").read_bytes()):
+    for base in (STORY, (TOP / "crates/trace/stdin").read_bytes(), (TOP / "examples/near.journal").read_bytes()[:1500]):
         for _ in range(120):
             journal = bytearray(base)
             for _ in range(rng.randrange(1, 4)):
@@ -518,6 +563,8 @@ def journal_commands():
 def journal_numbers():
     for text, x in ((".5", "0.5"), ("+1", "1"), ("1.", "1"), ("-.25e1", "-2.5"), ("+inf", "inf")):
         expect(made("value pos " + text) == made("value pos " + x), text)
+        expect(made("width " + text) == made("width w=" + x) == b"\x08" + made("value pos " + x)[2:], text)
+    expect(made("width") == made("width 0"), "the default of width")
     expect(made("tick t=+7") == made("tick t=7"), "+7")
     for text, words in (
         ("value pos 1e999", "value x: 1e999 is too large for a float"),
@@ -527,6 +574,9 @@ def journal_numbers():
         ("settings mode=256", "settings mode: expected a number below 256, found '256'"),
         ("value hand 0", "value list: expected one of chunk, pos, vel, aux, ext, or a number; found 'hand'"),
         ("tick t=-1", "tick t: expected a number, found '-1'"),
+        ("width wide", "width w: expected a float (decimal, inf, -inf, nan or bits:HEX), found 'wide'"),
+        ("width 1 2", "width: expected NAME=VALUE with NAME one of w; found '1'"),
+        ("width w=1,2", "width w: expected at most 1 floats, found 2"),
     ):
         status, _, said = journal("write", text.encode())
         expect(status == 1, text)
@@ -554,7 +604,7 @@ def journal_defaults():
 def journal_any_bytes():
     """Whatever the bytes are, read and written again they are the same."""
     rng = random.Random(3)
-    for base in (STORY, (TOP / "crates/trace/stdin").read_bytes(), bytes(rng.randrange(256) for _ in range(300)), STORY + b"\x08" + STORY * 40):
+    for base in (STORY, (TOP / "crates/trace/stdin").read_bytes(), bytes(rng.randrange(256) for _ in range(300)), STORY + b"\x09" + STORY * 40, made("settings\nwidth nan\nwidth") + STORY):
         for _ in range(10):
             given = bytearray(base[: rng.randrange(len(base)) or 1])
             given[rng.randrange(len(given))] = rng.randrange(256)

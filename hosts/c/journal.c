@@ -1,6 +1,7 @@
 #include "journal.h"
 #include "recorder.h"
 
+#include <float.h>
 #include <stdlib.h>
 #include <string.h>
 
@@ -195,6 +196,19 @@ static int take_tick(host *h, const uint8_t *p, int *ticked, disklorva_verdict *
     return a.number;
 }
 
+/* A width is for the program `proximity`: it is checked, recorded and not used. */
+static int take_width(host *h, const uint8_t *p) {
+    double w = f64(&p);
+    if (!(w >= 0 && w <= DBL_MAX)) {
+        return 3;
+    }
+    h->width_late = 1;
+    if (h->record) {
+        note(h, record_width(h->record, w));
+    }
+    return 0;
+}
+
 static int take(host *h, int kind, const uint8_t *body, int *ticked, disklorva_verdict *verdict) {
     switch (kind) {
     case 1:
@@ -205,6 +219,7 @@ static int take(host *h, int kind, const uint8_t *body, int *ticked, disklorva_v
         }
         disklorva_reset(&h->rt);
         empty(h);
+        h->width_late = 1;
         return 0;
     case 3:
         h->input.ack = ack(body);
@@ -220,21 +235,25 @@ static int take(host *h, int kind, const uint8_t *body, int *ticked, disklorva_v
         h->outcome = outcome(body);
         h->has_outcome = body[8] <= 1;
         return body[8] > 1 ? 1 : 0;
+    case 8:
+        return take_width(h, body);
     default:
+        h->width_late = 1;
         return take_tick(h, body, ticked, verdict);
     }
 }
 
 static int again(const host *h, int kind) {
-    return (kind == 1 && h->has_settings) || (kind == 3 && h->input.has_ack) || (kind == 4 && h->input.has_chunk) || (kind == 6 && h->has_outcome);
+    return (kind == 1 && h->has_settings) || (kind == 3 && h->input.has_ack) || (kind == 4 && h->input.has_chunk) || (kind == 6 && h->has_outcome) ||
+           (kind == 8 && h->width_late);
 }
 
 int host_record(host *h, const uint8_t *bytes, size_t n, size_t *used, int *ticked, disklorva_verdict *verdict) {
-    static const size_t body[] = {0, 220, 0, 14, 14, 9, 257, 9};
+    static const size_t body[] = {0, 220, 0, 14, 14, 9, 257, 9, 8};
     int kind = bytes[0];
     *ticked = 0;
     *used = 0;
-    if (kind < 1 || kind > 7) {
+    if (kind < 1 || kind > 8) {
         return 5;
     }
     if (n - 1 < body[kind]) {

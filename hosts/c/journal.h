@@ -13,6 +13,7 @@ typedef struct {
     disklorva_settings settings;
     disklorva_run_state rt;
     int has_settings;
+    int width_late; /* a width, a reset or a tick came: no width may come any more */
     disklorva_input input;
     disklorva_outcome outcome;
     int has_outcome;

@@ -2,7 +2,7 @@
 
 #include <string.h>
 
-enum { SETTINGS = 1, RESET, ACK, CHUNK_HEAD, VALUE, OUTCOME, TICK };
+enum { SETTINGS = 1, RESET, ACK, CHUNK_HEAD, VALUE, OUTCOME, TICK, WIDTH };
 
 /* The most that one call writes: acknowledgement, chunk head, values, outcome and tick. */
 enum { MOST = 15 + 15 + (512 + 4 * 16) * 10 + 258 + 10 };
@@ -55,6 +55,13 @@ int record_settings(FILE *to, const disklorva_settings *s) {
     put_floats(&p, floats, 6);
     put_floats(&p, s->box_lo, 8);
     put_floats(&p, s->box_hi, 8);
+    return write_out(to, &p);
+}
+
+int record_width(FILE *to, double w) {
+    page p = {.n = 0};
+    put(&p, WIDTH, 1);
+    put_float(&p, w);
     return write_out(to, &p);
 }
 

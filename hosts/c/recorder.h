@@ -1,7 +1,7 @@
 /* Writes a host's calls as a journal, which the program `fuse` replays to the same verdicts.
  *
- * The settings come first, once the library has accepted them; then each reset and each tick.
- * New settings need a new file.
+ * The settings come first, once the library has accepted them; then each reset and each tick. A width is no call: it is for the program `proximity`.
+ * New settings need a new file, and a file a new run state (disklorva_new): a replay begins with no nonce spent.
  * Each function answers 0, or -1 where writing failed.
  * A file whose writing failed is cut within a record, and all before it is good. */
 #ifndef RECORDER_H
@@ -12,6 +12,9 @@
 #include <stdio.h>
 
 int record_settings(FILE *to, const disklorva_settings *settings);
+
+/* Once at most, after the settings and before the first reset and tick; finite and not below zero. */
+int record_width(FILE *to, double w);
 
 int record_reset(FILE *to);
 

@@ -253,7 +253,7 @@ last-off true true c e = e
 last-off true false c e = refl
 last-off false b c e = refl
 
--- a slot that stored the largest number of 64 bits accepts nothing more until a reset
+-- a slot that stored the largest number of 64 bits accepts nothing more until new settings
 pub slot-ends : (handoff : ℕ) (nonces : List ℕ) (a : VerifiedAck) → getD nonces (a .«operator_slot») 0 ≡ 2 ^ 64 - 1 → a .nonce < 2 ^ 64
     → acceptedAck handoff nonces (Given a) ≡ NoAck
 unfolding acceptedAck acceptedBy

@@ -1,12 +1,11 @@
--- Demand 3: every tick meets the laws of `Law`, so every list of calls meets the claim
--- (specs/Demand3).
+-- Demand 3: every tick meets the law of the arm, so every list of calls meets the claim
+-- (specs/Demand3); the part on acknowledgements is from Nonces.
 use mathlib.Core.Path.{_≡_, refl, sym, subst, _∙_}
 use mathlib.Core.Bool.{Bool, true, false, cond, not, _||_}
-use mathlib.Core.List.{List, [], _∷_}
+use mathlib.Core.List.{List}
 use Prim.Native.Nat.{ℕ, _-_, _≤_}
 use native.Mathlib.Omega.{arith}
 use lib.Dec.{T, eqb}
-use lib.ListN.{length}
 use lib.Ieee.{Float}
 use Rattle.lictor_core.specs.declared.ack.MaybeAck.{MaybeAck}
 use Rattle.lictor_core.specs.declared.ack.MaybeAck.the-variants.{NoAck}
@@ -24,7 +23,7 @@ use Rattle.lictor_table.specs.declared.FsmInput.{FsmInput}
 use Rattle.lictor_table.specs.Consumed.{takenIn}
 use Rattle.lictor_table.specs.Helpers.{acceptedAck, settledOf}
 use Rattle.lictor_table.specs.Table.{nextFrom, nextOf}
-use Rattle.lictor_table.proofs.Stops.{StopLaw, stop-law, consumedOf, nonce-law, fresh-law}
+use Rattle.lictor_table.proofs.Stops.{StopLaw, stop-law}
 use Rattle.lictor_fuse.specs.declared.decide.Decided.{Decided}
 use Rattle.lictor_fuse.specs.CleanTick.{readyOf, closeClean, cleanTick}
 use Rattle.lictor_fuse.specs.FaultTick.{faultInput, faultVerdict, closeFault, faultTick}
@@ -32,11 +31,12 @@ use Rattle.lictor_fuse.specs.Closed.{closedOf}
 use Rattle.lictor_fuse.specs.Tick.{givenOf}
 use Rattle.claims.specs.Runs.{All, total, Step}
 use Rattle.claims.specs.Calls.{Call, Under, guardBits, tripsOf, bitsOf, ackAccepted, tookOf, TickSeen, seenOf, stepOf, ticksFrom}
-use Rattle.claims.specs.Demand3.{maxRearms, Sized, rearmsAlone, Stops, Faults, Acks, StopsCloseUnder}
+use Rattle.claims.specs.Demand3.{maxRearms, Sized, rearmsAlone, Stops, Faults, StopsCloseUnder}
 use Rattle.claims.proofs.Runs.{Run, Meets, runs}
-use Rattle.claims.proofs.Law.{Arm, ArmLaw, NonceLaw, stops-by, faults-by, rearms-by, acks-by}
-use Rattle.claims.proofs.Rows.{armIn, arm-law, floorIn, stored-law, still-eight}
-use Rattle.claims.proofs.Tick.{by-step, by-guard, guard-faults, decided, foundOf, cleanTurn, faultTurn}
+use Rattle.claims.proofs.Law.{Arm, ArmLaw, stops-by, faults-by, rearms-by}
+use Rattle.claims.proofs.Rows.{armIn, arm-law}
+use Rattle.claims.proofs.Tick.{by-step, by-guard, guard-faults, holds-true, decided, foundOf, cleanTurn, faultTurn}
+use Rattle.claims.proofs.Nonces.{acks-once}
 
 -- the state that the machine answers is the one that it stores
 pub state-agrees : (cfg : FuseConfig) (rt : Control) (pos : List Float) (inp : FsmInput) → nextOf cfg rt pos inp .rt .state ≡ nextOf cfg rt pos inp .state
@@ -59,10 +59,6 @@ module _ (s : Settings) (z : Sized s) where
       let ack = acceptedAck (start .«handoff_seq») (start .«last_nonce») (inp .ack) in
       let l : StopLaw (configOf s) (start .state) bits ack start t = rw e at (stop-law (configOf s) start pos inp) in
       rw (state-agrees (configOf s) start pos inp) (arm-law s z bits ack start (t .rt) (t .extra) (t .reason) (start .state) (t .state) took shown u l)
-
-true-of : (b : Bool) → T b → b ≡ true
-true-of true h = refl
-true-of false h = absurd h
 
 -- what is seen of a tick, by the guard's test and its verdict's state
 abbrev seenBy : FuseRt → Call → Bool → FuseState → TickSeen
@@ -87,7 +83,7 @@ module _ (r : FuseRt) (c : Call) (z : Sized (c .settings)) where
   unfolding givenOf tookOf bitsOf cleanTick closeClean faultTick closeFault closedOf verdictOf faultVerdict
   arm-ticks =
       by-guard (λ b (d : Decided). Holds b (d .verdict .state) (d .rt .control)) r c
-      (λ h. clean-turns) (λ h. fault-turns (guard-faults r c ∙ true-of (not (eqb (guardBits r c) 0)) h))
+      (λ h. clean-turns) (λ h. fault-turns (guard-faults r c ∙ holds-true (not (eqb (guardBits r c) 0)) h))
 
 module _ (s : Settings) (z : Sized s) where
   abbrev Any : FuseRt → Type 0
@@ -110,59 +106,7 @@ module _ (s : Settings) (z : Sized s) where
   pub arm-runs : (r : FuseRt) (cs : List Call) → All (Under s) cs → Run (ArmLaw s) (armOf s r) (ticksFrom r cs)
   arm-runs r cs u = runs (stepOf seenOf) (armOf s) Any (Under s) (ArmLaw s) arm-meets cs u r tt
 
--- ---- the stored nonces
-
-abbrev pub floorOf : FuseRt → ℕ → ℕ
-floorOf r = floorIn (r .control .«last_nonce»)
-
--- eight are stored
-abbrev pub Eight : FuseRt → Type 0
-Eight r = length (r .control .«last_nonce») ≡ 8
-
--- a turn of the machine from `start`; only what it consumes matters of what is seen
-spends : (cfg : FuseConfig) (start : Control) (pos : List Float) (inp : FsmInput) (from to : FuseState) (bits : Bool) (took shown : MaybeAck)
-    → length (start .«last_nonce») ≡ 8 → took ≡ consumedOf start inp
-    → let after = nextOf cfg start pos inp .rt .«last_nonce» in
-    (length after ≡ 8) × NonceLaw (floorIn (start .«last_nonce»)) (record { from = from; to = to; took = took; bits = bits; ack = shown }) (floorIn after)
-spends cfg start pos inp from to bits took shown o e =
-    rw (e, nonce-law cfg start pos inp)
-    (still-eight (start .«last_nonce») o from to bits shown (consumedOf start inp), stored-law (start .«last_nonce») o from to bits shown (consumedOf start inp) (fresh-law start inp))
-
-module _ (r : FuseRt) (c : Call) (o : Eight r) where
-  abbrev Spends : Bool → FuseState → List ℕ → Type 0
-  Spends clean p after = (length after ≡ 8) × NonceLaw (floorOf r) (seenBy r c clean p) (floorIn after)
-
-  clean-spends : Spends true (cleanTurn r c .state) (cleanTurn r c .rt .«last_nonce»)
-  unfolding readyOf machineInput findingsOf tripsOf ackAccepted configOf consumedOf
-  clean-spends = spends (configOf (c .settings)) (readyOf (r .control) (foundOf r c)) _ _ _ _ _ _ _ o refl
-
-  fault-spends : anyOf (guardBits r c) faultBits ≡ true → Spends false (faultTurn r c .state) (faultTurn r c .rt .«last_nonce»)
-  unfolding faultInput consumedOf
-  fault-spends e = spends (configOf (c .settings)) (r .control) _ (faultInput (configOf (c .settings)) (c .input) (guardBits r c)) _ _ true NoAck _ o (rw e refl)
-
-  nonce-ticks : Eight (decided r c .rt) × NonceLaw (floorOf r) (seenOf r c (givenOf (decided r c))) (floorOf (decided r c .rt))
-  unfolding givenOf tookOf bitsOf cleanTick closeClean faultTick closeFault closedOf verdictOf faultVerdict
-  nonce-ticks =
-      by-guard (λ b (d : Decided). Spends b (d .verdict .state) (d .rt .control .«last_nonce»)) r c
-      (λ h. clean-spends) (λ h. fault-spends (guard-faults r c ∙ true-of (not (eqb (guardBits r c) 0)) h))
-
-abbrev Calls : Call → Type 0
-Calls c = Unit {0}
-
-abbrev Nonces : FuseRt → Step FuseRt TickSeen → Type 0
-Nonces = Meets (stepOf seenOf) floorOf Eight Calls NonceLaw
-
-nonce-meets : (r : FuseRt) (c : Call) → Eight r → Unit {0} → Nonces r (stepOf seenOf r c)
-nonce-meets r c o u = by-step seenOf (λ r′. Nonces r) r c (λ h. nonce-ticks r c o) (λ h. (o, refl))
-
-every : (cs : List Call) → All Calls cs
-every [] = tt
-every (c ∷ cs) = (tt, every cs)
-
-pub nonce-runs : (r : FuseRt) → Eight r → (cs : List Call) → Run NonceLaw (floorOf r) (ticksFrom r cs)
-nonce-runs r o cs = runs (stepOf seenOf) floorOf Eight Calls NonceLaw nonce-meets cs (every cs) r o
-
--- ---- the four parts, from any run state
+-- ---- the parts that begin with a reset, from any run state
 
 module _ (s : Settings) (z : Sized s) (r : FuseRt) (cs : List Call) (u : All (Under s) cs) where
   pub stops-from : Stops s (ticksFrom r cs)
@@ -175,19 +119,17 @@ module _ (s : Settings) (z : Sized s) (r : FuseRt) (cs : List Call) (u : All (Un
   pub rearms-from : total rearmsAlone (ticksFrom r cs) ≤ maxRearms s - r .control .rearms
   rearms-from = rearms-by s (arm-runs s z r cs u)
 
--- whatever the settings and the stored nonces are
-pub acks-from : (r : FuseRt) → Eight r → (cs : List Call) → Acks (ticksFrom r cs)
-acks-from r o cs = acks-by (nonce-runs r o cs)
-
 -- ---- the claim
 
 -- of settings whose limits their fields can hold, as those of the code are (stops_close)
 pub stops-close : (s : Settings) → Sized s → StopsCloseUnder s
 unfolding resetOf freshControl
-stops-close s z r cs u =
+stops-close s z =
     record {
-      stops = stops-from s z (resetOf r) cs u;
-      faults = faults-from s z (resetOf r) cs u;
-      rearms = omega (arith, rearms-from s z (resetOf r) cs u);
-      acks = acks-from (resetOf r) refl cs;
+      from-reset = λ r cs u. record {
+        stops = stops-from s z (resetOf r) cs u;
+        faults = faults-from s z (resetOf r) cs u;
+        rearms = omega (arith, rearms-from s z (resetOf r) cs u);
+      };
+      acks = acks-once;
     }

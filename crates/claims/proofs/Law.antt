@@ -5,11 +5,12 @@ use mathlib.Core.Logic.{_⊎_, inl, inr}
 use mathlib.Core.List.{List}
 use Prim.Native.Nat.{ℕ, _+_, _≤_, _<_}
 use lib.Dec.{T}
+use Rattle.lictor_core.specs.declared.ack.MaybeAck.{MaybeAck}
 use Rattle.lictor_core.specs.declared.envelope.Settings.{Settings}
 use Rattle.lictor_core.specs.declared.state.FuseState.the-variants.{Fault}
 use Rattle.claims.specs.Runs.{total}
 use Rattle.claims.specs.Calls.{TickSeen}
-use Rattle.claims.specs.Demand3.{begins, closes, endsIn, rearmsAlone, Consumes, limit, Stops, Faults, Acks}
+use Rattle.claims.specs.Demand3.{begins, closes, endsIn, rearmsAlone, Is, Consumes, limit, Stops, Faults, Acks}
 use Rattle.claims.proofs.Runs.{Run, answered, latched, within, once}
 
 -- ---- the arm
@@ -45,11 +46,14 @@ module _ (s : Settings) {c : Arm} {l : List TickSeen} (r : Run (ArmLaw s) c l) w
   rearms-by = within (ArmLaw s) (λ c. c .budget) rearmsAlone (λ c x c′ h. h .spends) r
 
 -- ---- the stored nonces, by slot: none falls, and one that is consumed lies above its slot's and
--- is stored
+-- is stored; of a tick only what it takes matters
 
-pub record NonceLaw (f : ℕ → ℕ) (x : TickSeen) (f′ : ℕ → ℕ) : Type 0 where
+pub record NonceLaw (f : ℕ → ℕ) (taken : MaybeAck) (f′ : ℕ → ℕ) : Type 0 where
   pub kept : (slot : ℕ) → f slot ≤ f′ slot
-  pub fresh : (slot nonce : ℕ) → Consumes x slot nonce → (f slot < nonce) × (nonce ≤ f′ slot)
+  pub fresh : (slot nonce : ℕ) → Is taken slot nonce → (f slot < nonce) × (nonce ≤ f′ slot)
 
-pub acks-by : {f : ℕ → ℕ} {l : List TickSeen} → Run NonceLaw f l → Acks l
-acks-by r slot nonce = once NonceLaw (λ f. f) Consumes (λ f x f′ h. h .kept) (λ f x f′ h. h .fresh) slot nonce r
+abbrev pub Spends : (ℕ → ℕ) → TickSeen → (ℕ → ℕ) → Type 0
+Spends f x f′ = NonceLaw f (x .took) f′
+
+pub acks-by : {f : ℕ → ℕ} {l : List TickSeen} → Run Spends f l → Acks l
+acks-by r slot nonce = once Spends (λ f. f) Consumes (λ f x f′ h. h .kept) (λ f x f′ h. h .fresh) slot nonce r

@@ -3,6 +3,7 @@ pub mod Runs
 pub mod Law
 pub mod Rows
 pub mod Tick
+pub mod Nonces
 pub mod Demand3
 pub mod Flag
 pub mod ClockEnd

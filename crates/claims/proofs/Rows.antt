@@ -1,14 +1,10 @@
--- A tick by the transition table (lictor_table, proofs/Stops) meets the two laws.
-use mathlib.Core.Path.{_≡_, _∙_}
+-- A tick by the transition table (lictor_table, proofs/Stops) meets the law of the arm.
+use mathlib.Core.Path.{_≡_}
 use mathlib.Core.Bool.{Bool, true, false, cond, not, _&&_, _||_}
-use mathlib.Core.List.{List}
 use Prim.Native.Nat.{ℕ, _+_, _-_, _≤_, _<_}
 use native.Mathlib.Omega.{arith}
-use native.Mathlib.Decide.{ℕ-discrete}
 use lib.Dec.{T, not-T, leb→le, nleb→lt, ltb→lt, eqb→eq}
 use lib.Ieee.Fits.{and-l, and-r}
-use lib.ListN.{getD, set, length, length-set}
-use lib.Seq.{getD-set-same, getD-set-other}
 use Rattle.lictor_core.specs.declared.ack.MaybeAck.{MaybeAck}
 use Rattle.lictor_core.specs.declared.ack.MaybeAck.the-variants.{NoAck, Given}
 use Rattle.lictor_core.specs.declared.envelope.Settings.{Settings}
@@ -16,16 +12,15 @@ use Rattle.lictor_core.specs.declared.fuse.Control.{Control}
 use Rattle.lictor_core.specs.declared.reason.ReasonCode.{ReasonCode}
 use Rattle.lictor_core.specs.declared.state.FuseState.{FuseState}
 use Rattle.lictor_core.specs.declared.state.FuseState.the-variants.{Idle, Armed, Watching, Clamped, Braking, Held, Escalated, Fault, Terminated}
-use Rattle.lictor_core.specs.Cases.{byState, byAck}
+use Rattle.lictor_core.specs.Cases.{byState}
 use Rattle.lictor_core.specs.Codes.{isState}
 use Rattle.lictor_settings.specs.Settings.{configOf}
 use Rattle.lictor_table.specs.Helpers.{to}
 use Rattle.lictor_table.specs.Consumed.{takenIn}
 use Rattle.lictor_table.proofs.Lines.{by-test}
-use Rattle.lictor_table.proofs.Stops.{StopLaw, Fresh}
-use Rattle.claims.specs.Calls.{TickSeen}
-use Rattle.claims.specs.Demand3.{B, H, E, maxRearms, Sized, rearmsAlone, none?, Is, limit}
-use Rattle.claims.proofs.Law.{Arm, ArmLaw, NonceLaw}
+use Rattle.lictor_table.proofs.Stops.{StopLaw}
+use Rattle.claims.specs.Demand3.{B, H, E, maxRearms, Sized, rearmsAlone, none?, limit}
+use Rattle.claims.proofs.Law.{Arm, ArmLaw}
 
 ruleset tests = (arith, leb→le, nleb→lt, ltb→lt, eqb→eq)
 
@@ -139,33 +134,3 @@ module _ (s : Settings) (z : Sized s) (bits : Bool) (ack : MaybeAck) (r r′ : C
   pub arm-law : (q p : FuseState) (took shown : MaybeAck) → took ≡ cond bits NoAck (takenIn q ack) → Law q p
       → ArmLaw s (armIn s q r) (record { from = q; to = p; took = took; bits = bits; ack = shown }) (armIn s p r′)
   arm-law q p took shown e l = record { opens = opens q p l; falls = falls q p l; latches = λ h. h; stays = stays q p l; spends = spends q p took e l }
-
--- ---- the stored nonces
-
--- slots beyond the list count as 0
-abbrev pub floorIn : List ℕ → ℕ → ℕ
-floorIn l slot = getD l slot 0
-
--- the nonces with that of an acknowledgement stored in its slot
-abbrev pub storedIn : List ℕ → MaybeAck → List ℕ
-storedIn l taken = byAck taken l (λ a. set l (a .«operator_slot») (a .nonce))
-
-module _ (l : List ℕ) (eight : length l ≡ 8) (q p : FuseState) (bits : Bool) (ack : MaybeAck) where
-  abbrev seen : MaybeAck → TickSeen
-  seen taken = record { from = q; to = p; took = taken; bits = bits; ack = ack }
-
-  pub stored-law : (taken : MaybeAck) → Fresh l taken → NonceLaw (floorIn l) (seen taken) (floorIn (storedIn l taken))
-  stored-law NoAck f = record { kept = λ slot. omega arith; fresh = λ slot nonce u. absurd u }
-  stored-law (Given a) f = record { kept = λ slot. kept slot (ℕ-discrete slot (a .«operator_slot»)); fresh = fresh }
-    where
-      kept : (slot : ℕ) → Dec (slot ≡ a .«operator_slot») → floorIn l slot ≤ floorIn (set l (a .«operator_slot») (a .nonce)) slot
-      kept slot (yes e) = rw e (rw (getD-set-same l (a .«operator_slot») (a .nonce) 0 (omega arith)) (omega arith))
-      kept slot (no e) = rw (getD-set-other l (a .«operator_slot») slot (a .nonce) 0 e) (omega arith)
-
-      fresh : (slot nonce : ℕ) → Is (Given a) slot nonce → (floorIn l slot < nonce) × (nonce ≤ floorIn (set l (a .«operator_slot») (a .nonce)) slot)
-      fresh slot nonce e =
-          rw (← (e .0), ← (e .1)) (f .1, rw (getD-set-same l (a .«operator_slot») (a .nonce) 0 (omega arith)) (omega arith))
-
-  pub still-eight : (taken : MaybeAck) → length (storedIn l taken) ≡ 8
-  still-eight NoAck = eight
-  still-eight (Given a) = length-set l (a .«operator_slot») (a .nonce) ∙ eight

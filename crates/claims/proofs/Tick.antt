@@ -68,6 +68,10 @@ pub by-guard : (P : Bool → Decided → Type 0) (r : FuseRt) (c : Call)
 unfolding decideOf decideBy guardBits
 by-guard P r c f g = by-both P (eqb (guardBits r c) 0) _ _ f g
 
+pub holds-true : (b : Bool) → T b → b ≡ true
+holds-true true h = refl
+holds-true false h = absurd h
+
 -- every bit that the guard finds is a fault bit
 three-bits : (a b d : Bool) → M.anyOf (bitOr (bitOr (bitIf a M.nonfinite) (bitIf b M.schema)) (bitIf d M.watchdog)) M.faultBits
     ≡ not (eqb (bitOr (bitOr (bitIf a M.nonfinite) (bitIf b M.schema)) (bitIf d M.watchdog)) 0)

@@ -1,4 +1,5 @@
--- A list of calls of `tick`, and what is seen of each (01-scope.md, The list in demand 3).
+-- A list of calls of `tick`, and what is seen of each (01-scope.md, The list in demand 3);
+-- and one with resets among them (02-change-requests.md, Ask 6).
 use mathlib.Core.Path.{_≡_}
 use mathlib.Core.Bool.{Bool, cond, not, _||_}
 use mathlib.Core.List.{List, [], _∷_}
@@ -12,6 +13,7 @@ use Rattle.lictor_core.specs.declared.fuse.FuseRt.{FuseRt}
 use Rattle.lictor_core.specs.declared.fuse.TickInput.{TickInput}
 use Rattle.lictor_core.specs.declared.outcome.Outcome.{Outcome}
 use Rattle.lictor_core.specs.declared.state.FuseState.{FuseState}
+use Rattle.lictor_core.specs.Initial.{resetOf}
 use Rattle.lictor_core.specs.Masks.{anyOf, faultBits}
 use Rattle.lictor_settings.specs.Settings.{checkOf, configOf}
 use Rattle.lictor_guard.specs.Guard.{guardOf}
@@ -115,3 +117,20 @@ leftBy r (c ∷ cs) = leftBy (tickAnswer r c .rt) cs
 -- the ticks of a list of calls, from the run state r
 abbrev pub ticksFrom : FuseRt → List Call → List TickSeen
 ticksFrom r cs = course (stepOf seenOf) r cs
+
+-- ---- the list with resets among its calls
+
+-- a call of `tick`, or one of `reset`
+pub data Entry : Type 0 where
+  of-tick : Call → Entry
+  of-reset : Entry
+
+module _ {A : Type 0} (see : FuseRt → Call → Ticked → A) where
+  -- a reset is no tick: it leaves what `reset` promises (crates/lictor_fuse/src/episode.rt)
+  abbrev pub entryStep : FuseRt → Entry → Step FuseRt A
+  entryStep r (of-tick c) = stepOf see r c
+  entryStep r of-reset = silent (resetOf r)
+
+-- the ticks of such a list, from the run state r
+abbrev pub ticksAmong : FuseRt → List Entry → List TickSeen
+ticksAmong r es = course (entryStep seenOf) r es

@@ -1,10 +1,11 @@
--- Demand 3, stops close: one claim about every list of calls from a reset on
--- (00-demands.md, Demand 3; 01-scope.md, The list in demand 3).
+-- Demand 3, stops close: one claim about every list of calls, of which three parts are from a reset
+-- on, and the part on acknowledgements reaches over all resets (00-demands.md, Demand 3;
+-- 01-scope.md, The list in demand 3; 02-change-requests.md, Ask 6).
 -- It is at the end of this file; `stops_close` promises it of every settings record that the code
 -- can hold (src/lib.rt), by `stops-close` in proofs/Demand3.
 -- Of other files it names: what is said of a list (Runs); a call, its settings, what is seen of its
--- tick, the ticks of a list (Calls); the state that `reset` leaves (lictor_core, specs/Initial,
--- resetOf).
+-- tick, the ticks of a list, with resets among its calls or not (Calls); that eight nonces are stored
+-- (Nonces); the states that settings and `reset` leave (lictor_core, specs/Initial, newOf, resetOf).
 use mathlib.Core.Bool.{Bool, true, false, cond, not, _&&_, _||_}
 use mathlib.Core.List.{List}
 use mathlib.Core.Path.{_≡_}
@@ -19,9 +20,10 @@ use Rattle.lictor_core.specs.declared.state.FuseState.{FuseState}
 use Rattle.lictor_core.specs.declared.state.FuseState.the-variants.{Armed, Braking, Held, Fault, Terminated}
 use Rattle.lictor_core.specs.Cases.{byAck}
 use Rattle.lictor_core.specs.Codes.{isState}
-use Rattle.lictor_core.specs.Initial.{resetOf}
+use Rattle.lictor_core.specs.Initial.{newOf, resetOf}
 use Rattle.claims.specs.Runs.{Each, All, Some, total}
-use Rattle.claims.specs.Calls.{Call, Under, TickSeen, ticksFrom}
+use Rattle.claims.specs.Calls.{Call, Under, TickSeen, ticksFrom, Entry, ticksAmong}
+use Rattle.claims.specs.Nonces.{noncesOf, Eight}
 
 -- ---- the settings' limits
 
@@ -111,14 +113,23 @@ Acks l = (slot nonce : ℕ) → Each (λ x after. Consumes x slot nonce → All 
 
 -- ---- the claim
 
-pub record Demand3 (s : Settings) (l : List TickSeen) : Type 0 where
+-- the three parts that begin anew with each reset
+pub record FromReset (s : Settings) (l : List TickSeen) : Type 0 where
   pub stops : Stops s l
   pub faults : Faults l
   pub rearms : Rearms s l
-  pub acks : Acks l
 
--- Of every list of calls that are under s or refused, from what a reset of any run state leaves:
--- `stops_close` promises it of every s that the code can hold (src/lib.rt).
--- (Where s itself does not pass the check, every call is refused: no tick.)
-abbrev pub StopsCloseUnder : Settings → Type 0
-StopsCloseUnder s = (r : FuseRt) (cs : List Call) → All (Under s) cs → Demand3 s (ticksFrom (resetOf r) cs)
+-- the part that reaches over all resets: of every list of calls, whatever their settings, resets and
+-- refused calls anywhere among them
+pub record AcksOnce : Type 0 where
+  -- from the settings on, whether or not a reset comes first
+  pub from-settings : (es : List Entry) → Acks (ticksAmong newOf es)
+  -- from any run state, whatever nonces it has stored
+  pub from-any : (r : FuseRt) → Eight (noncesOf r) → (es : List Entry) → Acks (ticksAmong r es)
+
+-- The four parts: `stops_close` promises them of every s that the code can hold (src/lib.rt).
+pub record StopsCloseUnder (s : Settings) : Type 0 where
+  -- of every list of calls that are under s or refused, from what a reset of any run state leaves
+  -- (where s itself does not pass the check, every call is refused: no tick)
+  pub from-reset : (r : FuseRt) (cs : List Call) → All (Under s) cs → FromReset s (ticksFrom (resetOf r) cs)
+  pub acks : AcksOnce

@@ -1,6 +1,7 @@
 -- The claims, and the words that they are written with.
 pub mod Runs
 pub mod Calls
+pub mod Nonces
 pub mod Demand3
 pub mod Flag
 pub mod ClockEnd

@@ -1,7 +1,8 @@
--- Demand 3 is not met by having nothing to say (00-demands.md, Demand 3): one list of calls from a
--- reset on in which stops begin and close, the fuse rearms by itself as often as it may, an
--- acknowledgement is consumed and comes again in vain, and a fault stays.
--- Proved by computing every tick, proofs/Witness, `witnessed`.
+-- Demand 3 is not met by having nothing to say (00-demands.md, Demand 3): one list of calls from
+-- settings and a reset on in which stops begin and close, the fuse rearms by itself as often as it
+-- may, an acknowledgement is consumed and comes again in vain, and a fault stays; and one with
+-- resets in it, over which an acknowledgement stays spent (02-change-requests.md, Ask 6).
+-- Proved by computing every tick, proofs/Witness, `witnessed` and `spent-witnessed`.
 -- (That the limit of the first part is met, for all B, H and E: specs/Limit.)
 use mathlib.Core.Path.{_≡_}
 use mathlib.Core.Bool.{Bool, true, false, cond}
@@ -17,14 +18,14 @@ use Rattle.lictor_core.specs.declared.chunk.MaybeChunk.{MaybeChunk}
 use Rattle.lictor_core.specs.declared.chunk.MaybeChunk.the-variants.{NoChunk, Delivered}
 use Rattle.lictor_core.specs.declared.envelope.RearmPolicy.the-variants.{Auto}
 use Rattle.lictor_core.specs.declared.envelope.Settings.{Settings}
-use Rattle.lictor_core.specs.declared.fuse.FuseRt.{FuseRt}
 use Rattle.lictor_core.specs.declared.state.FuseState.the-variants.{Fault}
+use Rattle.lictor_core.specs.Cases.{byAck}
 use Rattle.lictor_core.specs.Codes.{stateCode}
-use Rattle.lictor_core.specs.Initial.{zeroFloat, oneFloat, resetOf}
+use Rattle.lictor_core.specs.Initial.{zeroFloat, oneFloat, newOf, resetOf}
 use Rattle.lictor_core.specs.Masks.{nonfinite}
 use Rattle.samples.specs.Samples.{sampleUnder, sampleOutcome, sampleInput, numberedChunk}
 use Rattle.claims.specs.Runs.{All, Where, total}
-use Rattle.claims.specs.Calls.{Call, settingsPass, TickSeen, ticksFrom}
+use Rattle.claims.specs.Calls.{Call, settingsPass, TickSeen, ticksFrom, Entry, of-tick, of-reset, ticksAmong}
 use Rattle.claims.specs.Demand3.{maxRearms, Sized, endsIn, begins, none?, rearmsAlone}
 
 -- Auto, two rearms, at once where a chunk comes; standstill is confirmed by one tick; B, H and E 5
@@ -68,7 +69,8 @@ storyCall t trips feasible head values ack = record {
 abbrev pub firstCall : Call
 firstCall = storyCall 0 0 false (Delivered (numberedChunk 0 0)) (zeroFloat ∷ []) NoAck
 
--- an infeasible brake; nothing; the chunk with this number; the acknowledgement; a fault bit
+-- an infeasible brake; nothing; the chunk with this number; the acknowledgement with this nonce;
+-- a fault bit
 abbrev pub brakes : ℕ → Call
 brakes t = storyCall t 0 false NoChunk [] NoAck
 
@@ -78,8 +80,8 @@ stands t = storyCall t 0 true NoChunk [] NoAck
 abbrev pub delivers : ℕ → ℕ → Call
 delivers n t = storyCall t 0 true (Delivered (numberedChunk n t)) (zeroFloat ∷ []) NoAck
 
-abbrev pub resumes : ℕ → Call
-resumes t = storyCall t 0 true NoChunk [] (Given (record { decision = Resume; «operator_slot» = 3; nonce = 1; «handoff_seq» = 0 }))
+abbrev pub resumes : ℕ → ℕ → Call
+resumes n t = storyCall t 0 true NoChunk [] (Given (record { decision = Resume; «operator_slot» = 3; nonce = n; «handoff_seq» = 0 }))
 
 abbrev pub faulted : ℕ → Call
 faulted t = storyCall t nonfinite true NoChunk [] NoAck
@@ -90,8 +92,8 @@ unfoldable pub story : List Call
 story =
     firstCall ∷ stands 1 ∷ delivers 1 2
     ∷ brakes 3 ∷ stands 4 ∷ delivers 2 5
-    ∷ brakes 6 ∷ stands 7 ∷ delivers 3 8 ∷ resumes 9
-    ∷ brakes 10 ∷ stands 11 ∷ resumes 12 ∷ faulted 13 ∷ stands 14 ∷ []
+    ∷ brakes 6 ∷ stands 7 ∷ delivers 3 8 ∷ resumes 1 9
+    ∷ brakes 10 ∷ stands 11 ∷ resumes 1 12 ∷ faulted 13 ∷ stands 14 ∷ []
 
 -- ---- what is said of it
 
@@ -117,4 +119,26 @@ pub record Witness (l : List TickSeen) : Type 0 where
   pub faults : Where (λ x after. T (endsIn Fault x) × (1 ≤ length after)) l
 
 abbrev pub Witnessed : Type 0
-Witnessed = (r : FuseRt) → Witness (ticksFrom (resetOf r) story)
+Witnessed = Witness (ticksFrom (resetOf newOf) story)
+
+-- ---- acknowledgements over a reset
+
+-- before the first reset the acknowledgement comes in vain, so it is not spent; it ends a stop; after
+-- the next reset it comes again, to the same handoff number, and then the next nonce
+unfoldable pub sequel : List Entry
+sequel =
+    of-tick (resumes 1 0)
+    ∷ of-reset ∷ of-tick firstCall ∷ of-tick (stands 1) ∷ of-tick (resumes 1 2)
+    ∷ of-reset ∷ of-tick firstCall ∷ of-tick (stands 1) ∷ of-tick (resumes 1 2) ∷ of-tick (resumes 2 3) ∷ []
+
+-- the nonce that the tick consumes, or 0
+abbrev pub nonceTaken : TickSeen → ℕ
+nonceTaken x = byAck (x .took) 0 (λ a. a .nonce)
+
+pub record SpentWitness (l : List TickSeen) : Type 0 where
+  pub states : map (λ x. stateCode (x .to)) l ≡ 7 ∷ 4 ∷ 5 ∷ 1 ∷ 4 ∷ 5 ∷ 5 ∷ 1 ∷ []
+  pub taken : map nonceTaken l ≡ 0 ∷ 0 ∷ 0 ∷ 1 ∷ 0 ∷ 0 ∷ 0 ∷ 2 ∷ []
+
+-- from the settings on
+abbrev pub SpentWitnessed : Type 0
+SpentWitnessed = SpentWitness (ticksAmong newOf sequel)

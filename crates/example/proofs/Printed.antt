@@ -6,7 +6,7 @@ use Rattle.journal_frames.specs.Frames.{isKnown, bodyLen, frameOf, byFrames}
 use Rattle.journal_records.specs.Little.{leAt, floatAt, floatsAt}
 use Rattle.journal_records.specs.Body.{ackOf, headOf, tickNumbers, decodeOf}
 use Rattle.journal_records.specs.Long.{limitsOf, calibrationOf, settingsOf, scoresIn, outcomeOf}
-use Rattle.journal_refusals.specs.Causes.{beforeSettings, again, codeNotListed, sizeOutside, floatNotFinite, boxCrossed, listFull, notReady}
+use Rattle.journal_refusals.specs.Causes.{beforeSettings, again, codeNotListed, sizeOutside, floatOutside, boxCrossed, listFull, notReady}
 use Rattle.journal_refusals.specs.Table.{orderRows, contentRows, wholeRows, wholeOf}
 use Rattle.journal_reader.specs.Reading.{broughtOf, onRecord, onWhole, onBytes}
 use Rattle.journal_reader.specs.State.{ackWaits, headWaits, valueWaits, stored, outcomeWaits, settingsCame, emptied, startReader, valuesOf, inputOf}
@@ -21,7 +21,7 @@ pub example-printed : textOf fusePrinter exampleBytes ≡ exampleText
 unfolding
     tick-opened lineOf putOf pushOf leAt floatAt floatsAt limitsOf calibrationOf settingsOf ackOf headOf scoresIn
     outcomeOf tickNumbers decodeOf isKnown bodyLen frameOf byFrames beforeSettings again codeNotListed sizeOutside
-    floatNotFinite boxCrossed listFull notReady orderRows contentRows wholeRows wholeOf broughtOf onRecord
+    floatOutside boxCrossed listFull notReady orderRows contentRows wholeRows wholeOf broughtOf onRecord
     onWhole onBytes ackWaits headWaits valueWaits stored outcomeWaits settingsCame emptied startReader valuesOf inputOf
     settle settled begunOf restartedOf decidedOf tickedOf reportOf startState startRun journalOf shownText remembered
     endingText printed printerAfterAll textFrom kindsTaken textOf inBytes times settingsBytes resetBytes outcomeBytes

@@ -1,5 +1,5 @@
 -- `host-run`: by induction on the list, since each call on a stored run state stores what the fuse
--- returns (host_c, proofs/Stored). `host-stops`: demand 3 of that run.
+-- returns (host_c, proofs/Stored). `host-stops`: demand 3 of that run from a reset on.
 use mathlib.Core.Path.{_≡_, refl, ap, _∙_}
 use mathlib.Core.List.{List, [], _∷_, map}
 use Rattle.lictor_core.specs.Initial.{resetOf}
@@ -34,4 +34,4 @@ all-meant-under s (h ∷ hs) u = (u .0, all-meant-under s hs (u .1))
 
 -- of settings whose limits their fields can hold, as those of a host are (stops_close)
 pub host-stops : (s : Settings) → Sized (settingsIn s) → HostStopsUnder s
-host-stops s z rt hs u = record { answers = host-run rt hs; stops = stops-close (settingsIn s) z (stateIn rt) (map meant hs) (all-meant-under s hs u) }
+host-stops s z rt hs u = record { answers = host-run rt hs; stops = stops-close (settingsIn s) z .from-reset (stateIn rt) (map meant hs) (all-meant-under s hs u) }

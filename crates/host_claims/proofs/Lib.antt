@@ -1,2 +1,3 @@
 pub mod HostCut
 pub mod HostRun
+pub mod HostAcks

@@ -1,6 +1,7 @@
 -- A host in C or Rust calls the library again and again, each time on the run state that the call
 -- before left in the memory that it lends. The answers are those of the fuse to its own list of
--- calls (01-scope.md, The list in demand 3), as numbers, and demand 3 holds of that list.
+-- calls (01-scope.md, The list in demand 3), as numbers, and of that list the three parts of
+-- demand 3 hold that begin with a reset. The fourth is in specs/HostAcks.
 use mathlib.Core.Path.{_≡_}
 use mathlib.Core.List.{List, [], _∷_, map}
 use lib.Ieee.{Float}
@@ -9,7 +10,7 @@ use Rattle.lictor_core.specs.declared.fuse.FuseRt.{FuseRt}
 use Rattle.lictor_fuse.specs.declared.Ticked.{Ticked}
 use Rattle.claims.specs.Runs.{All}
 use Rattle.claims.specs.Calls.{Call, Under, tickAnswer, ticksFrom}
-use Rattle.claims.specs.Demand3.{Demand3}
+use Rattle.claims.specs.Demand3.{FromReset}
 use Rattle.host_layout.specs.declared.input.Settings.{Settings}
 use Rattle.host_layout.specs.declared.input.Input.{Input}
 use Rattle.host_layout.specs.declared.input.Outcome.{Outcome}
@@ -66,10 +67,10 @@ HostRun =
     → answeredFrom (resetRun rt) hs ≡ map tickedOut (answersFrom (resetOf (stateIn rt)) (map meant hs))
 
 -- Of calls under one settings record s, refused ones among them: the library's answers are those of
--- the fuse's own run, and of the ticks of that run the four parts of demand 3 hold.
+-- the fuse's own run, and of the ticks of that run the three parts of demand 3 hold.
 pub record HostStops (s : Settings) (rt : RunState) (hs : List HostCall) : Type 0 where
   pub answers : answeredFrom (resetRun rt) hs ≡ map tickedOut (answersFrom (resetOf (stateIn rt)) (map meant hs))
-  pub stops : Demand3 (settingsIn s) (ticksFrom (resetOf (stateIn rt)) (map meant hs))
+  pub stops : FromReset (settingsIn s) (ticksFrom (resetOf (stateIn rt)) (map meant hs))
 
 -- The claim: of every list of calls under s. `stops_close` promises it of every settings record
 -- that a host can hold (src/lib.rt).

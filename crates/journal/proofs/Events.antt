@@ -3,7 +3,7 @@
 use mathlib.Core.Path.{_≡_, refl, ap}
 use mathlib.Core.List.{List, [], _∷_, _++_}
 use Rattle.lictor_fuse.specs.Decide.{decideBy, decideOf}
-use Rattle.journal_reader.specs.Reading.{Brought, Instruction, begin, restart, tick}
+use Rattle.journal_reader.specs.Reading.{Brought, Instruction, begin, restart, tick, width}
 use Rattle.journal.specs.declared.tick.Run.{Run}
 use Rattle.journal.specs.Events.{decidedOf, runAfter, runAfterAll, Event, ticked, EventsTell, reportOf, eventOf, eventsFrom, reportedOf}
 
@@ -12,6 +12,7 @@ unfolding reportOf
 event-run r (begin s) = refl
 event-run r restart = refl
 event-run r (tick c) = refl
+event-run r (width w) = refl
 
 -- the verdict goes by the bits that are reported
 pub decided-by-guard : (r : Run) (c : Brought) → decidedOf r c ≡ decideBy (r .config) (r .rt) (c .input) (c .outcome) (reportOf r c .guard) (c .pos) (c .vel)

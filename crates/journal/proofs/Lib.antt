@@ -2,3 +2,5 @@
 pub mod Events
 pub mod Parts
 pub mod Ends
+pub mod Widths
+pub mod WithoutWidth

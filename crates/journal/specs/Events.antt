@@ -1,5 +1,5 @@
 -- What each instruction of a journal does to the fuse, and what it gives to whoever shows it
--- (01-scope.md, Journal).
+-- (01-scope.md, Journal; of a width 02-change-requests.md, Ask 7).
 use mathlib.Core.List.{List, [], _∷_}
 use mathlib.Core.Path.{_≡_}
 use Prim.Native.Nat.{ℕ}
@@ -12,7 +12,7 @@ use Rattle.lictor_settings.specs.Settings.{configOf}
 use Rattle.lictor_guard.specs.Guard.{guardOf}
 use Rattle.lictor_fuse.specs.declared.decide.Decided.{Decided}
 use Rattle.lictor_fuse.specs.Decide.{decideOf}
-use Rattle.journal_reader.specs.Reading.{Brought, Instruction, begin, restart, tick}
+use Rattle.journal_reader.specs.Reading.{Brought, Instruction, begin, restart, tick, width}
 use Rattle.journal.specs.declared.tick.Run.{Run}
 use Rattle.journal.specs.declared.tick.Reported.{Reported}
 
@@ -32,11 +32,12 @@ decidedOf r c = decideOf (r .config) (r .rt) (c .input) (c .outcome) (c .pos) (c
 unfoldable pub tickedOf : Run → Decided → Run
 tickedOf r d = record { config = r .config; rt = d .rt }
 
--- the fuse after an instruction, and after a list of them
+-- the fuse after an instruction, and after a list of them; a width leaves it as it is
 abbrev pub runAfter : Run → Instruction → Run
 runAfter r (begin s) = begunOf s
 runAfter r restart = restartedOf r
 runAfter r (tick c) = tickedOf r (decidedOf r c)
+runAfter r (width w) = r
 
 abbrev pub runAfterAll : Run → List Instruction → Run
 runAfterAll r [] = r
@@ -53,11 +54,12 @@ pub record TickReport : Type 0 where
   pub verdict : SafetyVerdict
   pub run : Run
 
--- settings and a reset give the fuse that they leave
+-- settings and a reset give the fuse that they leave; a width gives the fuse as it is, and its number
 pub data Event : Type 0 where
   began : Run → Event
   restarted : Run → Event
   ticked : TickReport → Event
+  widthGiven : Run → Float → Event
 
 -- the guard's bits are those that `decideOf` goes by
 unfoldable pub reportOf : Run → Brought → TickReport
@@ -76,6 +78,7 @@ abbrev pub eventOf : Run → Instruction → Event
 eventOf r (begin s) = began (begunOf s)
 eventOf r restart = restarted (restartedOf r)
 eventOf r (tick c) = ticked (reportOf r c)
+eventOf r (width w) = widthGiven r w
 
 abbrev pub eventsFrom : Run → List Instruction → List Event
 eventsFrom r [] = []
@@ -86,6 +89,7 @@ abbrev pub runTold : Event → Run
 runTold (began r) = r
 runTold (restarted r) = r
 runTold (ticked t) = t .run
+runTold (widthGiven r w) = r
 
 -- it is the one after the event's instruction (proofs/Events, event-run)
 abbrev pub EventsTell : Type 0

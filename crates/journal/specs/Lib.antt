@@ -2,3 +2,4 @@
 pub mod Events
 pub mod Journal
 pub mod Ends
+pub mod Widths

@@ -1,5 +1,5 @@
--- A journal's instructions are none, or its settings and then resets and ticks: the judge refuses
--- what comes before settings, and settings again.
+-- What a journal tells is nothing, or its settings and then resets and ticks, a width left out: the
+-- judge refuses what comes before settings, and settings again.
 use mathlib.Core.Path.{_≡_, refl, _∙_}
 use mathlib.Core.Bool.{Bool, true, false, cond, not, _&&_}
 use mathlib.Core.List.{List, [], _∷_}
@@ -25,21 +25,22 @@ use Rattle.journal_records.proofs.Decoded.{decoded}
 use Rattle.journal_records.specs.Long.{limitsOf, settingsOf}
 use Rattle.journal_records.specs.Body.{decodeOf}
 use Rattle.journal_refusals.specs.declared.Refusal.{Refusal}
-use Rattle.journal_refusals.specs.declared.Refusal.the-variants.{UnknownKind, BeforeSettings, Again, BadCode, BadSize, NotFinite, BoxCrossed}
+use Rattle.journal_refusals.specs.declared.Refusal.the-variants.{UnknownKind, BeforeSettings, Again, BadCode, BadSize, BadFloat, BoxCrossed}
 use Rattle.journal_refusals.specs.declared.Seen.{Seen}
 use Rattle.journal_refusals.specs.declared.Judged.{Judged}
 use Rattle.journal_refusals.specs.declared.Judged.the-variants.{Accepted, Refused}
-use Rattle.journal_refusals.specs.Causes.{beforeSettings, again, codeNotListed, sizeOutside, floatNotFinite, boxCrossed}
+use Rattle.journal_refusals.specs.Causes.{beforeSettings, again, codeNotListed, sizeOutside, floatOutside, boxCrossed}
 use Rattle.journal_refusals.specs.Table.{orderRows, contentRows, wholeRows, wholeOf}
 use Rattle.journal_refusals.proofs.Exactly.{causeOf, no-cause}
 use Rattle.stream.specs.Stream.{Next, wait, halt, go, tell, after, settle, settled}
-use Rattle.journal_reader.specs.State.{State, seenIn, ackWaits, headWaits, valueWaits, outcomeWaits, settingsCame, emptied, startReader}
-use Rattle.journal_reader.specs.Reading.{Instruction, begin, restart, tick, onRecord, onJudged, onWhole, onBytes}
+use Rattle.journal_reader.specs.State.{State, seenIn, ackWaits, headWaits, valueWaits, outcomeWaits, settingsCame, widthCame, emptied, startReader}
+use Rattle.journal_reader.specs.Reading.{Instruction, begin, restart, tick, width, onRecord, onJudged, onWhole, onBytes}
 use Rattle.journal_reader.proofs.Reading.{next-frame}
 use Rattle.journal.specs.Journal.{startState}
+use Rattle.journal.specs.Widths.{forFuse}
 use Rattle.stream.proofs.Stream.{impossible}
-use Rattle.journal_claims.specs.Instructions.{instructionsOf}
-use Rattle.journal_claims.specs.JournalStops.{Bytes, NoSettings, SettledBy}
+use Rattle.journal_claims.specs.Instructions.{toldIn}
+use Rattle.journal_claims.specs.JournalStops.{Bytes, GoesOn, SettledBy}
 
 -- ---- bytes
 
@@ -81,6 +82,7 @@ abbrev Told : State → State → Instruction → Type 0
 Told st st' (begin w) = (came st ≡ false) × ((came st' ≡ true) × ((checkOf w ≡ K.Accepted) × Sized w))
 Told st st' restart = (came st ≡ true) × (came st' ≡ true)
 Told st st' (tick c) = (came st ≡ true) × (came st' ≡ true)
+Told st st' (width w) = (came st ≡ true) × (came st' ≡ true)
 
 abbrev Moves : State → Next State Instruction Refusal → Type 0
 Moves st wait = Unit {0}
@@ -88,7 +90,7 @@ Moves st (halt r) = Unit {0}
 Moves st (go st' n) = came st' ≡ came st
 Moves st (tell st' n i) = Told st st' i
 
-not-both : {x : Bool} → x ≡ true → x ≡ false → ⊥
+pub not-both : {x : Bool} → x ≡ true → x ≡ false → ⊥
 not-both p q = impossible cc
 
 module _ (st : State) (b : List ℕ) (n : ℕ) where
@@ -98,7 +100,7 @@ module _ (st : State) (b : List ℕ) (n : ℕ) where
 
   -- after the settings, the other kinds leave them there
   others-move : (k : ℕ) → eqb k settingsKind ≡ false → came st ≡ true → Moves st (onRecord st b n (decodeOf k b))
-  unfolding onRecord emptied ackWaits headWaits valueWaits outcomeWaits
+  unfolding onRecord widthCame emptied ackWaits headWaits valueWaits outcomeWaits
   others-move k e c =
       decoded k b (λ x. Moves st (onRecord st b n x))
       (record {
@@ -108,19 +110,20 @@ module _ (st : State) (b : List ℕ) (n : ℕ) where
         head = λ p. refl;
         value = λ p. refl;
         outcome = λ p. refl;
+        width = λ p. (c, c);
         tick = (c, c);
       })
 
 -- what the rows about the order and the settings say of a record that is accepted
-record Passed (seen : Seen) (k : ℕ) (b : List ℕ) : Type 0 where
-  order : beforeSettings seen k b ≡ false
-  twice : again seen k b ≡ false
-  codes : codeNotListed seen k b ≡ false
-  sizes : sizeOutside seen k b ≡ false
-  floats : floatNotFinite seen k b ≡ false
-  box : boxCrossed seen k b ≡ false
+pub record Passed (seen : Seen) (k : ℕ) (b : List ℕ) : Type 0 where
+  pub order : beforeSettings seen k b ≡ false
+  pub twice : again seen k b ≡ false
+  pub codes : codeNotListed seen k b ≡ false
+  pub sizes : sizeOutside seen k b ≡ false
+  pub floats : floatOutside seen k b ≡ false
+  pub box : boxCrossed seen k b ≡ false
 
-passed-by : (seen : Seen) (k : ℕ) (b : List ℕ) → wholeOf seen k b ≡ Accepted → Passed seen k b
+pub passed-by : (seen : Seen) (k : ℕ) (b : List ℕ) → wholeOf seen k b ≡ Accepted → Passed seen k b
 unfolding wholeOf wholeRows orderRows contentRows causeOf
 passed-by seen k b e =
     let none = no-cause seen k b wholeRows e in
@@ -129,17 +132,17 @@ passed-by seen k b e =
       twice = none Again;
       codes = none BadCode;
       sizes = none BadSize;
-      floats = none NotFinite;
+      floats = none BadFloat;
       box = none BoxCrossed;
     }
 
-both-false : (x : Bool) → (not false && not x) ≡ false → x ≡ true
+pub both-false : (x : Bool) → (not false && not x) ≡ false → x ≡ true
 both-false true e = refl
 both-false false e = impossible cc
 
 kind-moves : (st : State) (k : ℕ) (b : List ℕ) (n : ℕ) → Bytes b → Passed (seenIn st) k b → (t : Bool) → eqb k settingsKind ≡ t
     → Moves st (onRecord st b n (decodeOf k b))
-unfolding decodeOf beforeSettings again codeNotListed sizeOutside floatNotFinite boxCrossed checkOf settingsTable firstThat
+unfolding decodeOf beforeSettings again codeNotListed sizeOutside floatOutside boxCrossed checkOf settingsTable firstThat
 kind-moves st k b n h p true e =
     let c : checkOf (settingsOf b) ≡ K.Accepted = rw (rw e at (p .codes), rw e at (p .sizes), rw e at (p .floats), rw e at (p .box)) refl in
     rw e (settings-move st b n (rw e at (p .twice)) c (read-sized b h))
@@ -161,24 +164,25 @@ next-moves kinds st s h = rw (next-frame kinds st s (frameOf kinds s) refl) (fra
 -- ---- all records
 
 -- after the settings
-module _ (kinds : List ℕ) (f : ℕ) (ih : (st : State) (s : List ℕ) → Bytes s → came st ≡ true → All NoSettings (settle (onBytes kinds) f st s .told)) where
+module _ (kinds : List ℕ) (f : ℕ) (ih : (st : State) (s : List ℕ) → Bytes s → came st ≡ true → All GoesOn (forFuse (settle (onBytes kinds) f st s .told))) where
   later-by : (st : State) (s : List ℕ) → Bytes s → came st ≡ true → (x : Next State Instruction Refusal) → Moves st x
-      → All NoSettings (after st s x (λ st' n. settle (onBytes kinds) f st' (drop n s)) .told)
+      → All GoesOn (forFuse (after st s x (λ st' n. settle (onBytes kinds) f st' (drop n s)) .told))
   later-by st s h c wait m = tt
   later-by st s h c (halt r) m = tt
   later-by st s h c (go st' n) m = ih st' (drop n s) (some-drop n s h) (m ∙ c)
   later-by st s h c (tell st' n (begin w)) m = absurd (not-both c (m .0))
   later-by st s h c (tell st' n restart) m = (tt, ih st' (drop n s) (some-drop n s h) (m .1))
   later-by st s h c (tell st' n (tick a)) m = (tt, ih st' (drop n s) (some-drop n s h) (m .1))
+  later-by st s h c (tell st' n (width w)) m = ih st' (drop n s) (some-drop n s h) (m .1)
 
-later : (kinds : List ℕ) (f : ℕ) (st : State) (s : List ℕ) → Bytes s → came st ≡ true → All NoSettings (settle (onBytes kinds) f st s .told)
+later : (kinds : List ℕ) (f : ℕ) (st : State) (s : List ℕ) → Bytes s → came st ≡ true → All GoesOn (forFuse (settle (onBytes kinds) f st s .told))
 unfolding settle
 later kinds zero st s h c = tt
 later kinds (suc f) st s h c = later-by kinds f (λ st' u h' c'. later kinds f st' u h' c') st s h c (onBytes kinds st s) (next-moves kinds st s h)
 
 pub data Ordered (is : List Instruction) : Type 0 where
   nothing : is ≡ [] → Ordered is
-  under : (w : S.Settings) → SettledBy w is → Ordered is
+  under : (w : S.Settings) → SettledBy w (forFuse is) → Ordered is
 
 -- from the first byte on
 module _ (kinds : List ℕ) (f : ℕ) (ih : (st : State) (s : List ℕ) → Bytes s → came st ≡ false → Ordered (settle (onBytes kinds) f st s .told)) where
@@ -189,7 +193,7 @@ module _ (kinds : List ℕ) (f : ℕ) (ih : (st : State) (s : List ℕ) → Byte
   ordered-by st s h c (go st' n) m = ih st' (drop n s) (some-drop n s h) (m ∙ c)
   ordered-by st s h c (tell st' n (begin w)) m =
       under w (record {
-        rest = settle (onBytes kinds) f st' (drop n s) .told;
+        rest = forFuse (settle (onBytes kinds) f st' (drop n s) .told);
         first = refl;
         once = later kinds f st' (drop n s) (some-drop n s h) (m .1 .0);
         check = m .1 .1 .0;
@@ -197,12 +201,13 @@ module _ (kinds : List ℕ) (f : ℕ) (ih : (st : State) (s : List ℕ) → Byte
       })
   ordered-by st s h c (tell st' n restart) m = absurd (not-both (m .0) c)
   ordered-by st s h c (tell st' n (tick a)) m = absurd (not-both (m .0) c)
+  ordered-by st s h c (tell st' n (width w)) m = absurd (not-both (m .0) c)
 
 ordered-at : (kinds : List ℕ) (f : ℕ) (st : State) (s : List ℕ) → Bytes s → came st ≡ false → Ordered (settle (onBytes kinds) f st s .told)
 unfolding settle
 ordered-at kinds zero st s h c = nothing refl
 ordered-at kinds (suc f) st s h c = ordered-by kinds f (λ st' u h' c'. ordered-at kinds f st' u h' c') st s h c (onBytes kinds st s) (next-moves kinds st s h)
 
-pub ordered : (kinds s : List ℕ) → Bytes s → Ordered (instructionsOf kinds s)
-unfolding instructionsOf settled startState startReader
+pub ordered : (kinds s : List ℕ) → Bytes s → Ordered (toldIn kinds s)
+unfolding toldIn settled startState startReader
 ordered kinds s h = ordered-at kinds _ startState s h refl

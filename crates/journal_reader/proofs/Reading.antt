@@ -6,6 +6,7 @@ use mathlib.Core.List.{List, [], _∷_}
 use mathlib.Core.Bool.{Bool, true, false}
 use native.Mathlib.Omega.{arith}
 use lib.ListN.{length, take, drop, length-take, length-drop}
+use lib.Ieee.{Float}
 use Rattle.journal_frames.specs.declared.Frame.{Frame}
 use Rattle.journal_frames.specs.declared.Frame.the-variants as F
 use Rattle.journal_frames.specs.Frames.{bodyLen, recordRoom, ShortRecords, bodyOf, frameOf, TakesWhole, onFrame, byFrames}
@@ -13,7 +14,7 @@ use Rattle.journal_frames.proofs.Frames.{FrameAt, unknown, cut, whole, frame-at
 use Rattle.journal_records.specs.Little.{byteAt}
 use Rattle.lictor_core.specs.declared.fuse.TickInput.{TickInput}
 use Rattle.journal_records.specs.declared.Record.{Record}
-use Rattle.journal_records.specs.declared.Record.the-variants.{Settings, Reset, Ack, Head, Value, Outcome, Tick}
+use Rattle.journal_records.specs.declared.Record.the-variants.{Settings, Reset, Ack, Head, Value, Outcome, Tick, Width}
 use Rattle.journal_records.specs.Kinds.{journalKinds}
 use Rattle.journal_records.specs.Body.{decodeOf}
 use Rattle.journal_records.specs.Long.{settingsOf}
@@ -27,8 +28,8 @@ use Rattle.journal_refusals.proofs.Framing.{judged-framed}
 use Rattle.stream.specs.Stream.{Next, wait, halt, go, tell, goesOn, takes, size, Machine, awaits, settled, Advanced, advanced}
 use Rattle.journal_reader.specs.declared.What.{What}
 use Rattle.journal_reader.specs.declared.What.the-variants as W
-use Rattle.journal_reader.specs.State.{State, seenIn, settingsCame, emptied, inputOf}
-use Rattle.journal_reader.specs.Reading.{Instruction, begin, restart, tick, broughtOf, withReader, onRecord, onJudged, onWhole, onBytes, whatOf, readOf}
+use Rattle.journal_reader.specs.State.{State, seenIn, settingsCame, widthCame, emptied, inputOf}
+use Rattle.journal_reader.specs.Reading.{Instruction, begin, restart, tick, width, broughtOf, withReader, onRecord, onJudged, onWhole, onBytes, whatOf, readOf}
 use Rattle.stream.proofs.Stream.{impossible, tells-on, ahead}
 
 abbrev pub Move : Type 0
@@ -50,6 +51,7 @@ record-takes st b n (Head h) = goes _
 record-takes st b n (Value c x) = goes _
 record-takes st b n Outcome = goes _
 record-takes st b n (Tick t) = tells _ _
+record-takes st b n (Width w) = tells _ _
 
 takes-size : {n : ℕ} {x : Move} → Takes n x → size x ≡ n
 takes-size (goes st) = refl
@@ -219,6 +221,7 @@ Says st b n x (W.Refuses r) = Unit {0}
 Says st b n x W.Begins = x ≡ tell (withReader st (settingsCame (st .reader))) n (begin (settingsOf b))
 Says st b n x W.Resets = x ≡ tell (withReader st (emptied (st .reader))) n restart
 Says st b n x (W.Ticks i) = x ≡ tell (withReader st (emptied (st .reader))) n (tick (broughtOf st i))
+Says st b n x (W.GivesWidth w) = x ≡ tell (withReader st (widthCame (st .reader))) n (width w)
 
 record-says : (st : State) (b : List ℕ) (n : ℕ) (x : Record) → Says st b n (onRecord st b n x) (whatOf (onRecord st b n x))
 unfolding onRecord broughtOf
@@ -229,6 +232,7 @@ record-says st b n (Head h) = tt
 record-says st b n (Value c v) = tt
 record-says st b n Outcome = tt
 record-says st b n (Tick t) = refl
+record-says st b n (Width w) = refl
 
 judged-says : (st : State) (b : List ℕ) (n : ℕ) (x : Record) (j : Judged) → Says st b n (onJudged st b n x j) (whatOf (onJudged st b n x j))
 judged-says st b n x (Refused r) = tt
@@ -262,6 +266,9 @@ module _ (kinds : List ℕ) (st : State) (u : List ℕ) where
   pub ticks-is : (i : TickInput) → whatOf (onBytes kinds st u) ≡ W.Ticks i → onBytes kinds st u ≡ tell (withReader st (emptied (st .reader))) front-size (tick (broughtOf st i))
   ticks-is i e = subst (Says st front-body front-size (onBytes kinds st u)) e front-says
 
+  pub width-is : (w : Float) → whatOf (onBytes kinds st u) ≡ W.GivesWidth w → onBytes kinds st u ≡ tell (withReader st (widthCame (st .reader))) front-size (width w)
+  width-is w e = subst (Says st front-body front-size (onBytes kinds st u)) e front-says
+
 -- ---- where an instruction ends
 
 -- these are instructions
@@ -271,6 +278,7 @@ instructs (W.Refuses r) = false
 instructs W.Begins = true
 instructs W.Resets = true
 instructs (W.Ticks i) = true
+instructs (W.GivesWidth w) = true
 
 -- what tells, tells something
 pub record TellsTo (x : Move) (n : ℕ) : Type 0 where
@@ -318,6 +326,7 @@ waits-of (go st n) g e = impossible cc
 waits-of (tell st n (begin s)) g e = impossible cc
 waits-of (tell st n restart) g e = impossible cc
 waits-of (tell st n (tick c)) g e = impossible cc
+waits-of (tell st n (width w)) g e = impossible cc
 
 -- fewer bytes are left over than a record has
 pub read-short : (kinds : List ℕ) → ShortRecords kinds → (st : State) (s : List ℕ) → readOf kinds st s .what ≡ W.Waits → length s < readOf kinds st s .used + recordRoom

@@ -17,7 +17,7 @@ use Rattle.lictor_core.specs.declared.outcome.Outcome as O
 use Rattle.lictor_core.specs.declared.fuse.TickInput.{TickInput}
 use Rattle.journal_records.specs.declared.TickNumbers.{TickNumbers}
 use Rattle.journal_records.specs.declared.Record.{Record}
-use Rattle.journal_records.specs.declared.Record.the-variants.{Settings, Reset, Ack, Head, Value, Outcome, Tick}
+use Rattle.journal_records.specs.declared.Record.the-variants.{Settings, Reset, Ack, Head, Value, Outcome, Tick, Width}
 use Rattle.journal_frames.specs.declared.Frame.{Frame}
 use Rattle.journal_frames.specs.declared.Frame.the-variants as F
 use Rattle.journal_frames.specs.Frames.{bodyOf, frameOf, onFrame}
@@ -292,6 +292,10 @@ module _ (rd : Reader) (l : List Float) (s : List ℕ) (at n : ℕ) (x : Record)
       → Instructs rd l s at n x (record { reader = rd; at = at; end = at + 1 + n; what = W.Ticks i; more = false })
   unfolding onRecord broughtOf
   instructs-tick t i e f = instructs (W.Ticks i) (rw e refl) (rw (e, f) refl) (rw e refl)
+
+  pub instructs-width : (w : Float) → x ≡ Width w → Instructs rd l s at n x (record { reader = rd; at = at; end = at + 1 + n; what = W.GivesWidth w; more = false })
+  unfolding onRecord
+  instructs-width w e = instructs (W.GivesWidth w) (rw e refl) (rw e refl) (rw e refl)
 
 -- ---- one turn
 

@@ -1,6 +1,6 @@
--- What a journal's bytes say, record by record (01-scope.md, Journal): instructions for the fuse.
--- The run state has no part in it. Which kinds there are, and how long their bodies are, is the
--- parameter `kinds` (journal_frames, specs/Frames).
+-- What a journal's bytes say, record by record (01-scope.md, Journal; of a width
+-- 02-change-requests.md, Ask 7): instructions. The run state has no part in it. Which kinds there
+-- are, and how long their bodies are, is the parameter `kinds` (journal_frames, specs/Frames).
 use mathlib.Core.List.{List}
 use Prim.Native.Nat.{ℕ, _+_}
 use lib.Ieee.{Float}
@@ -8,7 +8,7 @@ use Rattle.lictor_core.specs.declared.envelope.Settings as S
 use Rattle.lictor_core.specs.declared.fuse.TickInput.{TickInput}
 use Rattle.lictor_core.specs.declared.outcome.Outcome as O
 use Rattle.journal_records.specs.declared.Record.{Record}
-use Rattle.journal_records.specs.declared.Record.the-variants.{Settings, Reset, Ack, Head, Value, Outcome, Tick}
+use Rattle.journal_records.specs.declared.Record.the-variants.{Settings, Reset, Ack, Head, Value, Outcome, Tick, Width}
 use Rattle.journal_frames.specs.Frames.{OnWhole, byFrames}
 use Rattle.journal_records.specs.Body.{decodeOf}
 use Rattle.journal_records.specs.Long.{settingsOf, outcomeOf}
@@ -20,10 +20,10 @@ use Rattle.journal_refusals.specs.Causes.{chunkList, posList, velList, auxList,
 use Rattle.journal_refusals.specs.Table.{wholeOf}
 use Rattle.journal_reader.specs.declared.waiting.Reader.{Reader}
 use Rattle.journal_reader.specs.declared.What.{What}
-use Rattle.journal_reader.specs.declared.What.the-variants.{Waits, Refuses, Begins, Resets, Ticks}
+use Rattle.journal_reader.specs.declared.What.the-variants.{Waits, Refuses, Begins, Resets, Ticks, GivesWidth}
 use Rattle.journal_reader.specs.declared.Progress.{Progress}
 use Rattle.stream.specs.Stream.{Next, wait, halt, go, tell, size, advanced}
-use Rattle.journal_reader.specs.State.{State, seenIn, ackWaits, headWaits, valueWaits, stored, withWaiting, outcomeWaits, settingsCame, emptied, valuesOf, inputOf}
+use Rattle.journal_reader.specs.State.{State, seenIn, ackWaits, headWaits, valueWaits, stored, withWaiting, outcomeWaits, settingsCame, widthCame, emptied, valuesOf, inputOf}
 
 -- ---- what a record does
 
@@ -41,6 +41,7 @@ pub data Instruction : Type 0 where
   begin : S.Settings → Instruction
   restart : Instruction
   tick : Brought → Instruction
+  width : Float → Instruction
 
 -- a tick uses all that was collected
 unfoldable pub broughtOf : State → TickInput → Brought
@@ -60,7 +61,8 @@ abbrev pub withReader : State → Reader → State
 withReader st r = record { reader = r; lists = st .lists }
 
 -- A record of n bytes, with body b, that is not refused. Settings, a reset and a tick instruct the
--- fuse; a reset and a tick empty what was collected; the others wait.
+-- fuse, and a width whoever shows what it does; a reset and a tick empty what was collected; the
+-- others wait.
 unfoldable pub onRecord : State → List ℕ → ℕ → Record → Next State Instruction Refusal
 onRecord st b n Settings = tell (withReader st (settingsCame (st .reader))) n (begin (settingsOf b))
 onRecord st b n Reset = tell (withReader st (emptied (st .reader))) n restart
@@ -75,6 +77,7 @@ onRecord st b n (Value c x) =
     n
 onRecord st b n Outcome = go (withReader st (outcomeWaits (st .reader) (outcomeOf b))) n
 onRecord st b n (Tick t) = tell (withReader st (emptied (st .reader))) n (tick (broughtOf st (inputOf (st .reader .waiting) t)))
+onRecord st b n (Width w) = tell (withReader st (widthCame (st .reader))) n (width w)
 
 -- ---- what bytes do
 
@@ -102,6 +105,7 @@ whatOf (go st n) = Waits
 whatOf (tell st n (begin s)) = Begins
 whatOf (tell st n restart) = Resets
 whatOf (tell st n (tick c)) = Ticks (c .input)
+whatOf (tell st n (width w)) = GivesWidth w
 
 -- all records up to the next instruction: the reader there, the bytes up to there, what comes next,
 -- and where that ends

@@ -1,6 +1,7 @@
--- What a reader of a journal holds between records (01-scope.md, Journal): what waits for the next
--- tick, and the lent memory of the collected values.
-use mathlib.Core.Bool.{true, false, cond}
+-- What a reader of a journal holds between records (01-scope.md, Journal; 02-change-requests.md, Ask
+-- 7): what came once and for all, what waits for the next tick, and the lent memory of the collected
+-- values.
+use mathlib.Core.Bool.{Bool, true, false, cond}
 use mathlib.Core.List.{List, [], _∷_}
 use Prim.Native.Nat.{ℕ, _+_, _*_, min}
 use lib.ListN.{length, getD, set, take, drop, replicate}
@@ -38,26 +39,53 @@ places = chunkRoom + 4 * listRoom
 
 -- ---- what has been seen
 
+-- the same of what came once and for all (settings; a width; a reset or a tick), with this waiting
+abbrev pub withCollected : Seen → Bool → Bool → Bool → List ℕ → Seen
+withCollected n ack head outcome counts = record {
+  settings = n .settings;
+  width = n .width;
+  underway = n .underway;
+  ack = ack;
+  head = head;
+  outcome = outcome;
+  counts = counts;
+}
+
+-- the same waiting, and this that came once and for all
+abbrev pub withCame : Seen → Bool → Bool → Bool → Seen
+withCame n settings width underway = record {
+  settings = settings;
+  width = width;
+  underway = underway;
+  ack = n .ack;
+  head = n .head;
+  outcome = n .outcome;
+  counts = n .counts;
+}
+
 abbrev pub seenSettings : Seen → Seen
-seenSettings n = record { settings = true; ack = n .ack; head = n .head; outcome = n .outcome; counts = n .counts }
+seenSettings n = withCame n true (n .width) (n .underway)
+
+abbrev pub seenWidth : Seen → Seen
+seenWidth n = withCame n (n .settings) true (n .underway)
 
 abbrev pub seenAck : Seen → Seen
-seenAck n = record { settings = n .settings; ack = true; head = n .head; outcome = n .outcome; counts = n .counts }
+seenAck n = withCollected n true (n .head) (n .outcome) (n .counts)
 
 abbrev pub seenHead : Seen → Seen
-seenHead n = record { settings = n .settings; ack = n .ack; head = true; outcome = n .outcome; counts = n .counts }
+seenHead n = withCollected n (n .ack) true (n .outcome) (n .counts)
 
 abbrev pub seenOutcome : Seen → Seen
-seenOutcome n = record { settings = n .settings; ack = n .ack; head = n .head; outcome = true; counts = n .counts }
+seenOutcome n = withCollected n (n .ack) (n .head) true (n .counts)
 
 -- one value more in list c
 abbrev pub seenValue : Seen → ℕ → Seen
-seenValue n c = record { settings = n .settings; ack = n .ack; head = n .head; outcome = n .outcome; counts = set (n .counts) c (countOf n c + 1) }
+seenValue n c = withCollected n (n .ack) (n .head) (n .outcome) (set (n .counts) c (countOf n c + 1))
 
--- Nothing waits any more: the counts are 0. The values in the lent memory stay as they were, and so
--- do the places of an ack, a head and an outcome.
+-- A reset or a tick came, and nothing waits any more: the counts are 0. The values in the lent
+-- memory stay as they were, and so do the places of an ack, a head and an outcome.
 abbrev pub seenNone : Seen → Seen
-seenNone n = record { settings = n .settings; ack = false; head = false; outcome = false; counts = replicate (length capacities) 0 }
+seenNone n = withCollected (withCame n (n .settings) (n .width) true) false false false (replicate (length capacities) 0)
 
 -- ---- what waits
 
@@ -86,6 +114,9 @@ outcomeWaits r o = record { waiting = withSeen (r .waiting) (seenOutcome (r .wai
 unfoldable pub settingsCame : Reader → Reader
 settingsCame r = withWaiting r (withSeen (r .waiting) (seenSettings (r .waiting .seen)))
 
+unfoldable pub widthCame : Reader → Reader
+widthCame r = withWaiting r (withSeen (r .waiting) (seenWidth (r .waiting .seen)))
+
 unfoldable pub emptied : Reader → Reader
 emptied r = withWaiting r (withSeen (r .waiting) (seenNone (r .waiting .seen)))
 
@@ -93,7 +124,15 @@ emptied r = withWaiting r (withSeen (r .waiting) (seenNone (r .waiting .seen)))
 unfoldable pub startReader : Reader
 startReader = record {
   waiting = record {
-    seen = record { settings = false; ack = false; head = false; outcome = false; counts = replicate (length capacities) 0 };
+    seen = record {
+      settings = false;
+      width = false;
+      underway = false;
+      ack = false;
+      head = false;
+      outcome = false;
+      counts = replicate (length capacities) 0;
+    };
     ack = ackOf [];
     head = headOf [];
   };

@@ -9,7 +9,7 @@ use lib.ListN.{length, drop, getD}
 use lib.Ieee.{Float}
 use Rattle.lictor_core.specs.declared.outcome.Outcome as O
 use Rattle.journal_records.specs.declared.Record.{Record}
-use Rattle.journal_records.specs.declared.Record.the-variants.{Settings, Reset, Ack, Head, Value, Outcome, Tick}
+use Rattle.journal_records.specs.declared.Record.the-variants.{Settings, Reset, Ack, Head, Value, Outcome, Tick, Width}
 use Rattle.journal_records.specs.Body.{decodeOf}
 use Rattle.journal_frames.specs.declared.Frame.{Frame}
 use Rattle.journal_frames.specs.declared.Frame.the-variants as F
@@ -70,6 +70,7 @@ isSmall (Head h) = true
 isSmall (Value c x) = true
 isSmall Outcome = false
 isSmall (Tick t) = false
+isSmall (Width w) = false
 
 abbrev pub looksSmall : Look → Bool
 looksSmall L.Waits = false

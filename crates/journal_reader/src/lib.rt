@@ -36,6 +36,7 @@ pub enum What {
     Begins,
     Resets,
     Ticks(TickInput),
+    GivesWidth(f64),
 }
 
 pub struct Progress {
@@ -139,12 +140,13 @@ fn add(w: Waiting, lists: &mut [f64; PLACES], at: usize, n: usize, x: Record) ->
                 more: true,
             }
         }
-        Record::Settings | Record::Reset | Record::Outcome | Record::Tick(_) => Took {
-            waiting: w,
-            at,
-            look: Look::Found(x, n),
-            more: false,
-        },
+        Record::Settings | Record::Reset | Record::Outcome | Record::Tick(_) | Record::Width(_) =>
+            Took {
+                waiting: w,
+                at,
+                look: Look::Found(x, n),
+                more: false,
+            },
     }
 }
 
@@ -194,6 +196,19 @@ struct Stretch {
     more: bool,
 }
 
+// No more records are taken: what comes at this place, and where it ends.
+fn comes_to(reader: Reader, at: usize, end: usize, what: What) -> Stretch
+    ensures { λ r. ⌜ r ≡ record { reader = reader; at = at; end = end; what = what; more = false } ⌝ }
+{
+    Stretch {
+        reader,
+        at,
+        end,
+        what,
+        more: false,
+    }
+}
+
 // A record that is not small.
 fn instruct(rd: Reader, lists: &[f64; PLACES], s: &[u8], at: usize, n: usize, x: Record) -> Stretch
     requires { ⌜ at + n < length (now s) ⌝ }
@@ -214,34 +229,16 @@ fn instruct(rd: Reader, lists: &[f64; PLACES], s: &[u8], at: usize, n: usize, x:
                 more: true,
             }
         }
-        Record::Settings => Stretch {
-            reader: rd,
-            at,
-            end,
-            what: What::Begins,
-            more: false,
-        },
-        Record::Reset => Stretch {
-            reader: rd,
-            at,
-            end,
-            what: What::Resets,
-            more: false,
-        },
-        Record::Tick(t) => Stretch {
-            reader: rd,
-            at,
-            end,
-            what: What::Ticks(crate::waiting::input_of(waiting, t)),
-            more: false,
-        },
-        Record::Ack(_) | Record::Head(_) | Record::Value(_, _) => Stretch {
-            reader: rd,
-            at,
-            end: at,
-            what: What::Waits,
-            more: false,
-        },
+        Record::Settings => comes_to(rd, at, end, What::Begins),
+        Record::Reset => comes_to(rd, at, end, What::Resets),
+        Record::Tick(t) => {
+            let input = crate::waiting::input_of(waiting, t);
+            comes_to(rd, at, end, What::Ticks(input))
+        }
+        Record::Width(w) => comes_to(rd, at, end, What::GivesWidth(w)),
+        Record::Ack(_) | Record::Head(_) | Record::Value(_, _) => {
+            comes_to(rd, at, at, What::Waits)
+        }
     }
 }
 
@@ -265,20 +262,8 @@ fn take_stretch(
     let reader = Reader { waiting, outcome };
     match look {
         Look::Found(x, n) => instruct(reader, lists, s, next, n, x),
-        Look::Waits => Stretch {
-            reader,
-            at: next,
-            end: next,
-            what: What::Waits,
-            more: false,
-        },
-        Look::Refuses(r) => Stretch {
-            reader,
-            at: next,
-            end: next,
-            what: What::Refuses(r),
-            more: false,
-        },
+        Look::Waits => comes_to(reader, next, next, What::Waits),
+        Look::Refuses(r) => comes_to(reader, next, next, What::Refuses(r)),
     }
 }
 

@@ -1,11 +1,11 @@
 // What waits for a tick: the records that were collected since the last tick or reset;
-// and whether the settings came.
+// and what came once and for all.
 ghost use mathlib.Core.Bool.{cond};
 ghost use mathlib.Core.Path.{_≡_};
 ghost use lib.ListN.{getD};
 ghost use Rattle.lictor_core.specs.declared.ack.MaybeAck.the-variants as MaybeAck;
 ghost use Rattle.lictor_core.specs.declared.chunk.MaybeChunk.the-variants as MaybeChunk;
-ghost use Rattle.journal_reader.specs.State.{bases, ackWaits, headWaits, outcomeWaits, settingsCame, emptied as State·emptied, startReader, inputOf};
+ghost use Rattle.journal_reader.specs.State.{bases, ackWaits, headWaits, outcomeWaits, settingsCame, widthCame, emptied as State·emptied, startReader, inputOf};
 use journal_records::TickNumbers;
 use journal_refusals::AUX;
 use journal_refusals::CHUNK_ROOM;
@@ -144,13 +144,27 @@ pub fn begun(rd: Reader) -> Reader
     Reader { waiting, outcome }
 }
 
-// The reader after a reset or a tick: nothing waits.
+// The reader after a width.
+// Which pattern a NaN has is the program's choice.
+pub fn with_width(rd: Reader) -> Reader
+    ensures { λ r. ⌜ r ≡ widthCame rd ⌝ }
+{
+    let mut waiting = rd.waiting;
+    let mut seen = waiting.seen;
+    seen.width = true;
+    waiting.seen = seen;
+    let outcome = rd.outcome;
+    Reader { waiting, outcome }
+}
+
+// The reader after a reset or a tick: the journal is under way, and nothing waits.
 // Which pattern a NaN has is the program's choice.
 pub fn emptied(rd: Reader) -> Reader
     ensures { λ r. ⌜ r ≡ State·emptied rd ⌝ }
 {
     let mut waiting = rd.waiting;
     let mut seen = waiting.seen;
+    seen.underway = true;
     seen.ack = false;
     seen.head = false;
     seen.outcome = false;
@@ -167,6 +181,8 @@ pub fn start() -> Reader
 {
     let seen = Seen {
         settings: false,
+        width: false,
+        underway: false,
         ack: false,
         head: false,
         outcome: false,

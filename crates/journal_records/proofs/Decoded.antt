@@ -8,11 +8,11 @@ use denote.Enum.Declared.{tagOf}
 use lib.Dec.{eqb}
 use lib.Ieee.{Float, nan}
 use Rattle.journal_records.specs.Little.{byteAt, floatAt}
-use Rattle.journal_records.specs.Kinds.{settingsKind, resetKind, ackKind, headKind, valueKind, outcomeKind}
+use Rattle.journal_records.specs.Kinds.{settingsKind, resetKind, ackKind, headKind, valueKind, outcomeKind, widthKind}
 use Rattle.journal_records.specs.Body.{ackOf, headOf, tickNumbers, decodeOf}
 use Rattle.journal_records.proofs.Record as R
 use Rattle.journal_records.specs.declared.Record.{Record}
-use Rattle.journal_records.specs.declared.Record.the-variants.{Settings, Reset, Ack, Head, Value, Outcome, Tick}
+use Rattle.journal_records.specs.declared.Record.the-variants.{Settings, Reset, Ack, Head, Value, Outcome, Tick, Width}
 
 pub record OfEachKind (k : ℕ) (b : List ℕ) (P : Record → Type 0) : Type 0 where
   pub settings : k ≡ settingsKind → P Settings
@@ -21,6 +21,7 @@ pub record OfEachKind (k : ℕ) (b : List ℕ) (P : Record → Type 0) : Type 0 
   pub head : k ≡ headKind → P (Head (headOf b))
   pub value : k ≡ valueKind → P (Value (byteAt b 0) (floatAt b 1))
   pub outcome : k ≡ outcomeKind → P Outcome
+  pub width : k ≡ widthKind → P (Width (floatAt b 0))
   pub tick : P (Tick (tickNumbers b))
 
 this-or : (P : Record → Type 0) (k j : ℕ) (x y : Record) (t : Bool) → eqb k j ≡ t → (k ≡ j → P x) → P y → P (cond t x y)
@@ -35,7 +36,8 @@ decoded k b P c =
     (this-or P k ackKind _ _ _ refl (c .ack)
     (this-or P k headKind _ _ _ refl (c .head)
     (this-or P k valueKind _ _ _ refl (c .value)
-    (this-or P k outcomeKind _ _ _ refl (c .outcome) (c .tick))))))
+    (this-or P k outcomeKind _ _ _ refl (c .outcome)
+    (this-or P k widthKind _ _ _ refl (c .width) (c .tick)))))))
 
 -- ---- a value
 
@@ -79,6 +81,7 @@ pub record LastKind (k : ℕ) : Type 0 where
   pub head : k ≡ headKind → ⊥
   pub value : k ≡ valueKind → ⊥
   pub outcome : k ≡ outcomeKind → ⊥
+  pub width : k ≡ widthKind → ⊥
 
 pub decoded-last : (b : List ℕ) (k : ℕ) → LastKind k → Tick (tickNumbers b) ≡ decodeOf k b
 unfolding decodeOf
@@ -90,4 +93,5 @@ decoded-last b k n =
       ne-eqb k headKind (n .head),
       ne-eqb k valueKind (n .value),
       ne-eqb k outcomeKind (n .outcome),
+      ne-eqb k widthKind (n .width),
     )

@@ -6,12 +6,12 @@ use Prim.Native.Nat.{ℕ}
 use lib.Dec.{eqb}
 use Rattle.journal_records.specs.Little.{byteAt, leAt, floatAt, flag}
 use Rattle.lictor_core.specs.Codes.{decisionOf}
-use Rattle.journal_records.specs.Kinds.{settingsKind, resetKind, ackKind, headKind, valueKind, outcomeKind}
+use Rattle.journal_records.specs.Kinds.{settingsKind, resetKind, ackKind, headKind, valueKind, outcomeKind, widthKind}
 use Rattle.lictor_core.specs.declared.ack.VerifiedAck.{VerifiedAck}
 use Rattle.lictor_core.specs.declared.chunk.ChunkHead.{ChunkHead}
 use Rattle.journal_records.specs.declared.TickNumbers.{TickNumbers}
 use Rattle.journal_records.specs.declared.Record.{Record}
-use Rattle.journal_records.specs.declared.Record.the-variants.{Settings, Reset, Ack, Head, Value, Outcome, Tick}
+use Rattle.journal_records.specs.declared.Record.the-variants.{Settings, Reset, Ack, Head, Value, Outcome, Tick, Width}
 
 -- an acknowledgement: decision, slot, nonce, handoff
 unfoldable pub ackOf : List ℕ → VerifiedAck
@@ -25,8 +25,8 @@ headOf b = record { seq = leAt b 0 4; «t_emit» = leAt b 4 4; horizon = leAt b 
 unfoldable pub tickNumbers : List ℕ → TickNumbers
 tickNumbers b = record { t = leAt b 0 4; idx = leAt b 4 2; «missed_ticks» = byteAt b 6; «schema_fault» = flag (byteAt b 7); «has_vel» = flag (byteAt b 8) }
 
--- The record of kind k with body b. A value has a list code and a float. A kind that is not listed
--- is refused before, and is taken as the last case here.
+-- The record of kind k with body b. A value has a list code and a float, a width (kind 8) one float.
+-- A kind that is not listed is refused before, and is taken as the last case here.
 unfoldable pub decodeOf : ℕ → List ℕ → Record
 decodeOf k b =
     cond (eqb k settingsKind) Settings
@@ -35,4 +35,5 @@ decodeOf k b =
     (cond (eqb k headKind) (Head (headOf b))
     (cond (eqb k valueKind) (Value (byteAt b 0) (floatAt b 1))
     (cond (eqb k outcomeKind) Outcome
-    (Tick (tickNumbers b)))))))
+    (cond (eqb k widthKind) (Width (floatAt b 0))
+    (Tick (tickNumbers b))))))))

@@ -34,6 +34,7 @@ pub enum Record {
     Value(u8, f64),
     Outcome,
     Tick(TickNumbers),
+    Width(f64),
 }
 
 // The kinds, numbered from 1 on.
@@ -51,11 +52,16 @@ pub const OUTCOME: u8 = 6;
 
 pub const TICK: u8 = 7;
 
-// The kinds of a journal, as the framing takes them: how long the bodies of kinds 1 to 7 are.
-pub fn journal_kinds() -> [u16; 7]
+pub const WIDTH: u8 = 8;
+
+// How many there are.
+pub const KINDS: usize = 8;
+
+// The kinds of a journal, as the framing takes them: how long the bodies of kinds 1 to 8 are.
+pub fn journal_kinds() -> [u16; KINDS]
     ensures { λ r. ⌜ r ≡ journalKinds ⌝ }
 {
-    [220, 0, 14, 14, 9, 257, 9]
+    [220, 0, 14, 14, 9, 257, 9, 8]
 }
 
 // The body of an ACK.
@@ -109,6 +115,7 @@ pub fn decode(k: u8, b: &[u8]) -> Record
         HEAD => Record::Head(read_head(b)),
         VALUE => Record::Value(byte(b, 0), f64_at(b, 1)),
         OUTCOME => Record::Outcome,
+        WIDTH => Record::Width(f64_at(b, 0)),
         _ => Record::Tick(read_tick(b)),
     }
 }

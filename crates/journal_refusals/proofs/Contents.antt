@@ -1,14 +1,15 @@
 -- The rows about a body's contents, kind by kind: at a given kind the other kinds' causes are not
 -- there.
 use Prim.Native.Nat.{ℕ}
-use mathlib.Core.Path.{_≡_, refl}
+use mathlib.Core.Path.{_≡_, refl, sym, ap, _∙_}
 use mathlib.Core.Bool.{Bool, true, false, cond, _||_}
 use mathlib.Core.List.{List}
 use borrow.Author.Tests.{ne-eqb}
 use lib.ListN.{length}
+use lib.Ieee.{Float}
 use Rattle.lictor_core.specs.Codes.{decisions, flags}
-use Rattle.journal_records.specs.Little.{byteAt}
-use Rattle.journal_records.specs.Kinds.{settingsKind, ackKind, valueKind, outcomeKind, tickKind}
+use Rattle.journal_records.specs.Little.{byteAt, floatAt}
+use Rattle.journal_records.specs.Kinds.{settingsKind, ackKind, valueKind, outcomeKind, tickKind, widthKind}
 use Rattle.lictor_settings.specs.declared.SettingsCheck.{SettingsCheck}
 use Rattle.lictor_settings.specs.declared.SettingsCheck.the-variants as S
 use Rattle.lictor_core.specs.FirstThat.{firstThat}
@@ -17,8 +18,8 @@ use Rattle.journal_records.specs.Long.{settingsOf}
 use Rattle.journal_refusals.specs.declared.Seen.{Seen}
 use Rattle.journal_refusals.specs.declared.Judged.{Judged}
 use Rattle.journal_refusals.specs.declared.Judged.the-variants.{Accepted, Refused}
-use Rattle.journal_refusals.specs.declared.Refusal.the-variants.{BadCode, BadSize, NotFinite, BoxCrossed, ListFull, NotReady}
-use Rattle.journal_refusals.specs.Causes.{capacities, notBelow, codeNotListed, sizeOutside, floatNotFinite, boxCrossed, listFull, notReady}
+use Rattle.journal_refusals.specs.declared.Refusal.the-variants.{BadCode, BadSize, BadFloat, BoxCrossed, ListFull, NotReady}
+use Rattle.journal_refusals.specs.Causes.{capacities, notBelow, codeNotListed, sizeOutside, badWidth, floatOutside, boxCrossed, listFull, notReady}
 use Rattle.journal_refusals.specs.Table.{contentRows, contentsOf}
 
 -- what the check of the settings answers, as a judgement
@@ -26,13 +27,13 @@ abbrev pub judgedBy : SettingsCheck → Judged
 judgedBy S.Accepted = Accepted
 judgedBy S.BadCode = Refused BadCode
 judgedBy S.BadSize = Refused BadSize
-judgedBy S.NotFinite = Refused NotFinite
+judgedBy S.NotFinite = Refused BadFloat
 judgedBy S.BoxCrossed = Refused BoxCrossed
 
 -- four causes in order, in the one table and in the other
 same-order : (p q r s : Bool)
     → judgedBy (cond p S.BadCode (cond q S.BadSize (cond r S.NotFinite (cond s S.BoxCrossed S.Accepted))))
-    ≡ cond p (Refused BadCode) (cond q (Refused BadSize) (cond r (Refused NotFinite) (cond s (Refused BoxCrossed) Accepted)))
+    ≡ cond p (Refused BadCode) (cond q (Refused BadSize) (cond r (Refused BadFloat) (cond s (Refused BoxCrossed) Accepted)))
 same-order true q r s = refl
 same-order false true r s = refl
 same-order false false true s = refl
@@ -41,7 +42,7 @@ same-order false false false false = refl
 
 -- to unfold this is to unfold every row about contents
 unfoldable opened : Seen → ℕ → List ℕ → Judged
-unfolding contentsOf contentRows firstThat codeNotListed sizeOutside floatNotFinite boxCrossed listFull notReady
+unfolding contentsOf contentRows firstThat codeNotListed sizeOutside floatOutside boxCrossed listFull notReady
 opened seen k b = contentsOf seen k b
 
 -- a kind that has no rows about its contents
@@ -51,6 +52,7 @@ pub record NoContents (k : ℕ) : Type 0 where
   pub value : k ≡ valueKind → ⊥
   pub outcome : k ≡ outcomeKind → ⊥
   pub tick : k ≡ tickKind → ⊥
+  pub width : k ≡ widthKind → ⊥
 
 module _ (seen : Seen) (b : List ℕ) where
   -- what is said of a kind is said of a number that is this kind
@@ -78,8 +80,26 @@ module _ (seen : Seen) (b : List ℕ) where
   unfolding opened
   contents-tick = refl
 
+  pub contents-width : cond (badWidth (floatAt b 0)) (Refused BadFloat) Accepted ≡ contentsOf seen widthKind b
+  unfolding opened
+  contents-width = refl
+
+  -- by the float x that was read
+  pub width-refused : (x : Float) → x ≡ floatAt b 0 → badWidth x ≡ true → Refused BadFloat ≡ contentsOf seen widthKind b
+  width-refused x e f = rw (sym (ap badWidth e) ∙ f) at contents-width
+
+  pub width-accepted : (x : Float) → x ≡ floatAt b 0 → badWidth x ≡ false → Accepted ≡ contentsOf seen widthKind b
+  width-accepted x e f = rw (sym (ap badWidth e) ∙ f) at contents-width
+
   -- the others have none
   pub contents-none : (k : ℕ) → NoContents k → Accepted ≡ contentsOf seen k b
   unfolding opened
   contents-none k n =
-      simp (ne-eqb k settingsKind (n .settings), ne-eqb k ackKind (n .ack), ne-eqb k valueKind (n .value), ne-eqb k outcomeKind (n .outcome), ne-eqb k tickKind (n .tick))
+      simp (
+        ne-eqb k settingsKind (n .settings),
+        ne-eqb k ackKind (n .ack),
+        ne-eqb k valueKind (n .value),
+        ne-eqb k outcomeKind (n .outcome),
+        ne-eqb k tickKind (n .tick),
+        ne-eqb k widthKind (n .width),
+      )

@@ -10,7 +10,7 @@ use Rattle.lictor_core.proofs.FirstThat.{first-is}
 use Rattle.stream.proofs.Stream.{impossible}
 use Rattle.journal_refusals.specs.declared.Seen.{Seen}
 use Rattle.journal_refusals.specs.declared.Refusal.{Refusal}
-use Rattle.journal_refusals.specs.declared.Refusal.the-variants.{UnknownKind, CutBody, BeforeSettings, Again, BadCode, BadSize, NotFinite, BoxCrossed, ListFull, NotReady}
+use Rattle.journal_refusals.specs.declared.Refusal.the-variants.{UnknownKind, CutBody, BeforeSettings, Again, BadCode, BadSize, BadFloat, BoxCrossed, ListFull, NotReady}
 use Rattle.journal_refusals.specs.declared.Judged.the-variants.{Accepted, Refused}
 use Rattle.journal_refusals.specs.Table.{Row, numberOf, lastNumber, firstRow}
 use Rattle.journal_refusals.specs.Exactly.{Decides, this-row, later-row, Passes, no-row, not-this-row}
@@ -79,7 +79,7 @@ numbers BeforeSettings = (omega arith, omega arith)
 numbers Again = (omega arith, omega arith)
 numbers BadCode = (omega arith, omega arith)
 numbers BadSize = (omega arith, omega arith)
-numbers NotFinite = (omega arith, omega arith)
+numbers BadFloat = (omega arith, omega arith)
 numbers BoxCrossed = (omega arith, omega arith)
 numbers ListFull = (omega arith, omega arith)
 numbers NotReady = (omega arith, omega arith)

@@ -3,3 +3,4 @@ pub mod Again
 pub mod Contents
 pub mod Exactly
 pub mod Framing
+pub mod Widths

@@ -1,16 +1,20 @@
--- The causes that refuse a record (01-scope.md, Journal, the table, in its order). A cause looks at
--- what has been seen, at the record's kind and at its body as far as it came, and at nothing else:
--- at no run state, at no value of a list (at their counts only) and at no byte after the record.
+-- The causes that refuse a record (01-scope.md, Journal, the table, in its order; of a width
+-- 02-change-requests.md, Ask 7). A cause looks at what has been seen, at the record's kind and at
+-- its body as far as it came, and at nothing else: at no run state, at no value of a list (at their
+-- counts only) and at no byte after the record.
 use mathlib.Core.Bool.{Bool, false, cond, not, _&&_, _||_}
 use mathlib.Core.List.{List, [], _∷_}
 use Prim.Native.Nat.{ℕ}
 use lib.Dec.{eqb, ltb, leb}
 use lib.ListN.{length, getD}
+use lib.Ieee.{Float, lt}
+use lib.Ieee.Scale.{finite}
 use Rattle.lictor_core.specs.Codes.{decisions, flags}
-use Rattle.journal_records.specs.Little.{byteAt}
+use Rattle.lictor_core.specs.Initial.{zeroFloat}
+use Rattle.journal_records.specs.Little.{byteAt, floatAt}
 use Rattle.lictor_settings.specs.Settings.{badCode, badSize, badFloat, badBox}
 use Rattle.journal_frames.specs.Frames.{isKnown, bodyLen}
-use Rattle.journal_records.specs.Kinds.{settingsKind, ackKind, headKind, valueKind, outcomeKind, tickKind}
+use Rattle.journal_records.specs.Kinds.{settingsKind, ackKind, headKind, valueKind, outcomeKind, tickKind, widthKind}
 use Rattle.journal_records.specs.Long.{settingsOf}
 use Rattle.journal_refusals.specs.declared.Seen.{Seen}
 
@@ -60,14 +64,16 @@ bodyCut kinds seen k b = ltb (length b) (bodyLen kinds k)
 unfoldable pub beforeSettings : Seen → ℕ → List ℕ → Bool
 beforeSettings seen k b = not (eqb k settingsKind) && not (seen .settings)
 
--- a second settings record, or a second acknowledgement, head or outcome while one waits
+-- a second settings record, or a second acknowledgement, head or outcome while one waits; a second
+-- width, or one that comes after a reset or a tick
 unfoldable pub again : Seen → ℕ → List ℕ → Bool
 again seen k b =
     cond (eqb k settingsKind) (seen .settings)
     (cond (eqb k ackKind) (seen .ack)
     (cond (eqb k headKind) (seen .head)
     (cond (eqb k outcomeKind) (seen .outcome)
-    false)))
+    (cond (eqb k widthKind) (seen .width || seen .underway)
+    false))))
 
 -- a code or flag that is not listed: those of the settings, the decision, the list, the
 -- feasible flag, the schema and the velocity flag
@@ -84,9 +90,17 @@ codeNotListed seen k b =
 unfoldable pub sizeOutside : Seen → ℕ → List ℕ → Bool
 sizeOutside seen k b = cond (eqb k settingsKind) (badSize (settingsOf b)) false
 
--- of settings: an infinity or a NaN among the floats; tau may be infinite
-unfoldable pub floatNotFinite : Seen → ℕ → List ℕ → Bool
-floatNotFinite seen k b = cond (eqb k settingsKind) (badFloat (settingsOf b)) false
+-- a width that is not finite or below zero; -0 is not below zero
+unfoldable pub badWidth : Float → Bool
+badWidth w = not (finite w) || lt w zeroFloat
+
+-- of settings: an infinity or a NaN among the floats, where tau may be infinite; of a width: the
+-- same, or a number below zero
+unfoldable pub floatOutside : Seen → ℕ → List ℕ → Bool
+floatOutside seen k b =
+    cond (eqb k settingsKind) (badFloat (settingsOf b))
+    (cond (eqb k widthKind) (badWidth (floatAt b 0))
+    false)
 
 -- of settings: one of the 8 pairs of the box is crossed
 unfoldable pub boxCrossed : Seen → ℕ → List ℕ → Bool

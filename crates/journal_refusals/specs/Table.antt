@@ -9,10 +9,10 @@ use Rattle.journal_frames.specs.declared.Frame.{Frame}
 use Rattle.journal_frames.specs.declared.Frame.the-variants.{Waits, Unknown, Whole}
 use Rattle.journal_refusals.specs.declared.Seen.{Seen}
 use Rattle.journal_refusals.specs.declared.Refusal.{Refusal}
-use Rattle.journal_refusals.specs.declared.Refusal.the-variants.{UnknownKind, CutBody, BeforeSettings, Again, BadCode, BadSize, NotFinite, BoxCrossed, ListFull, NotReady}
+use Rattle.journal_refusals.specs.declared.Refusal.the-variants.{UnknownKind, CutBody, BeforeSettings, Again, BadCode, BadSize, BadFloat, BoxCrossed, ListFull, NotReady}
 use Rattle.journal_refusals.specs.declared.Judged.{Judged}
 use Rattle.journal_refusals.specs.declared.Judged.the-variants.{Accepted, Refused}
-use Rattle.journal_refusals.specs.Causes.{unknownKind, bodyCut, beforeSettings, again, codeNotListed, sizeOutside, floatNotFinite, boxCrossed, listFull, notReady}
+use Rattle.journal_refusals.specs.Causes.{unknownKind, bodyCut, beforeSettings, again, codeNotListed, sizeOutside, floatOutside, boxCrossed, listFull, notReady}
 
 -- the paper's number of each refusal
 abbrev pub numberOf : Refusal → ℕ
@@ -22,7 +22,7 @@ numberOf BeforeSettings = 8
 numberOf Again = 9
 numberOf BadCode = 1
 numberOf BadSize = 2
-numberOf NotFinite = 3
+numberOf BadFloat = 3
 numberOf BoxCrossed = 4
 numberOf ListFull = 7
 numberOf NotReady = 10
@@ -48,7 +48,7 @@ unfoldable pub contentRows : List Row
 contentRows =
     refuse BadCode when codeNotListed
     ∷ refuse BadSize when sizeOutside
-    ∷ refuse NotFinite when floatNotFinite
+    ∷ refuse BadFloat when floatOutside
     ∷ refuse BoxCrossed when boxCrossed
     ∷ refuse ListFull when listFull
     ∷ refuse NotReady when notReady

@@ -1,13 +1,13 @@
 // Whether a record of a journal is refused, and why: the causes in the order of the table.
 // Those about its frame are found by journal_frames. The others go by its kind, its body and what
 // has been seen before it, never by the run state.
-ghost use mathlib.Core.Bool.{not, _&&_};
+ghost use mathlib.Core.Bool.{not, _&&_, _||_};
 ghost use mathlib.Core.Path.{_≡_};
 ghost use lib.Dec.{eqb, ltb};
 ghost use lib.ListN.{getD};
 ghost use Rattle.journal_records.specs.Little.{byteAt};
-ghost use Rattle.journal_records.specs.Kinds.{settingsKind, ackKind, valueKind, outcomeKind, tickKind};
-ghost use Rattle.journal_refusals.specs.Causes.{capacities, beforeSettings, notBelow, again as Causes·again, listFull, notReady};
+ghost use Rattle.journal_records.specs.Kinds.{settingsKind, ackKind, valueKind, outcomeKind, tickKind, widthKind};
+ghost use Rattle.journal_refusals.specs.Causes.{capacities, beforeSettings, notBelow, again as Causes·again, badWidth, listFull, notReady};
 ghost use Rattle.journal_refusals.specs.Table.{numberOf, wholeOf, contentsOf};
 use journal_records::ACK;
 use journal_records::HEAD;
@@ -15,7 +15,9 @@ use journal_records::OUTCOME;
 use journal_records::SETTINGS;
 use journal_records::TICK;
 use journal_records::VALUE;
+use journal_records::WIDTH;
 use journal_records::little::byte;
+use journal_records::little::f64_at;
 use lictor_settings::SettingsCheck;
 
 // The lists of values, by their codes.
@@ -43,9 +45,12 @@ pub const CHUNK_ROOM: usize = 512;
 
 pub const LIST_ROOM: usize = 16;
 
-// What has been seen of a journal: whether its settings came, and what waits for a tick.
+// What has been seen of a journal: what came of it once and for all, and what waits for a tick.
 pub struct Seen {
     pub settings: bool,
+    pub width: bool,
+    // a reset or a tick
+    pub underway: bool,
     pub ack: bool,
     pub head: bool,
     pub outcome: bool,
@@ -61,7 +66,7 @@ pub enum Refusal {
     Again,
     BadCode,
     BadSize,
-    NotFinite,
+    BadFloat,
     BoxCrossed,
     ListFull,
     NotReady,
@@ -93,7 +98,7 @@ pub fn number(r: Refusal) -> u8
         Refusal::Again => 9,
         Refusal::BadCode => 1,
         Refusal::BadSize => 2,
-        Refusal::NotFinite => 3,
+        Refusal::BadFloat => 3,
         Refusal::BoxCrossed => 4,
         Refusal::ListFull => 7,
         Refusal::NotReady => 10,
@@ -109,6 +114,16 @@ fn is_early(seen: Seen, k: u8, b: &[u8]) -> bool
     !seen.settings
 }
 
+// A second width, or one that comes after a reset or a tick.
+fn is_late(seen: Seen) -> bool
+    ensures { λ r. ⌜ r ≡ (seen .width || seen .underway) ⌝ }
+{
+    if seen.width {
+        return true;
+    }
+    seen.underway
+}
+
 fn is_again(seen: Seen, k: u8, b: &[u8]) -> bool
     ensures { λ r. ⌜ r ≡ Causes·again seen k (now (b .entry)) ⌝ }
 {
@@ -117,6 +132,7 @@ fn is_again(seen: Seen, k: u8, b: &[u8]) -> bool
         ACK => seen.ack,
         HEAD => seen.head,
         OUTCOME => seen.outcome,
+        WIDTH => is_late(seen),
         _ => false,
     }
 }
@@ -129,7 +145,7 @@ fn judge_settings(seen: Seen, b: &[u8]) -> Judged
         SettingsCheck::Accepted => Judged::Accepted,
         SettingsCheck::BadCode => Judged::Refused(Refusal::BadCode),
         SettingsCheck::BadSize => Judged::Refused(Refusal::BadSize),
-        SettingsCheck::NotFinite => Judged::Refused(Refusal::NotFinite),
+        SettingsCheck::NotFinite => Judged::Refused(Refusal::BadFloat),
         SettingsCheck::BoxCrossed => Judged::Refused(Refusal::BoxCrossed),
     }
 }
@@ -226,6 +242,25 @@ fn judge_tick(seen: Seen, b: &[u8]) -> Judged
     Judged::Accepted
 }
 
+// A width that is not finite or below zero; -0 is neither.
+fn is_bad_width(w: f64) -> bool
+    ensures { λ r. ⌜ r ≡ badWidth w ⌝ }
+{
+    if fmath::is_finite(w) {
+        return w < 0.0;
+    }
+    true
+}
+
+fn judge_width(seen: Seen, b: &[u8]) -> Judged
+    ensures { λ r. ⌜ r ≡ contentsOf seen widthKind (now (b .entry)) ⌝ }
+{
+    if is_bad_width(f64_at(b, 0)) {
+        return Judged::Refused(Refusal::BadFloat);
+    }
+    Judged::Accepted
+}
+
 // A record of a listed kind, whole, and in its order.
 fn judge_contents(seen: Seen, k: u8, b: &[u8]) -> Judged
     ensures { λ r. ⌜ r ≡ contentsOf seen k (now (b .entry)) ⌝ }
@@ -236,6 +271,7 @@ fn judge_contents(seen: Seen, k: u8, b: &[u8]) -> Judged
         VALUE => judge_value(seen, b),
         OUTCOME => judge_outcome(seen, b),
         TICK => judge_tick(seen, b),
+        WIDTH => judge_width(seen, b),
         _ => Judged::Accepted,
     }
 }

@@ -1,5 +1,6 @@
 -- The initial values: an empty tally, the run state of `FuseRt::new`, and what `reset` leaves,
--- every field as fuse.rs and tally.rs have it.
+-- every field as fuse.rs and tally.rs have it, but that a reset keeps the stored nonces
+-- (02-change-requests.md, Ask 6).
 use mathlib.Core.Bool.{true, false}
 use mathlib.Core.List.{List}
 use Prim.Native.Nat.{ℕ}
@@ -60,9 +61,13 @@ emptyTally = record {
   «terminal_state» = Idle;
 }
 
--- all zero, in state s
-unfoldable pub freshControl : FuseState → Control
-freshControl s = record {
+-- nothing is stored: no slot has a nonce above 0
+unfoldable pub noNonces : List ℕ
+noNonces = replicate operators 0
+
+-- all zero, in state s, with these nonces stored
+unfoldable pub freshControl : FuseState → List ℕ → Control
+freshControl s nonces = record {
   window = record { bits = 0 };
   state = s;
   hold = zeros maxPos;
@@ -77,7 +82,7 @@ freshControl s = record {
   rearms = 0;
   «handoff_seq» = 0;
   «handoff_pending» = false;
-  «last_nonce» = replicate operators 0;
+  «last_nonce» = nonces;
 }
 
 unfoldable pub freshMotion : Motion
@@ -86,10 +91,15 @@ freshMotion = record { pos = zeros maxPos; «prev_pos» = zeros maxPos; vel = ze
 unfoldable pub freshClock : Clock
 freshClock = record { filled = false; seq = 0; «last_t» = 0; «next_chunk_seq» = 0; «chunk_ok_this_tick» = false }
 
--- FuseRt::new: no episode yet
+-- FuseRt::new, at the settings: no episode yet, and no nonce stored
 unfoldable pub newOf : FuseRt
-newOf = record { control = freshControl Idle; motion = freshMotion; clock = freshClock; tally = emptyTally }
+newOf = record { control = freshControl Idle noNonces; motion = freshMotion; clock = freshClock; tally = emptyTally }
 
--- reset, from any run state: the same, but armed
+-- reset, from any run state: the same, but armed and with the stored nonces kept (Ask 6)
 unfoldable pub resetOf : FuseRt → FuseRt
-resetOf r = record { control = freshControl Armed; motion = freshMotion; clock = freshClock; tally = emptyTally }
+resetOf r = record {
+  control = freshControl Armed (r .control .«last_nonce»);
+  motion = freshMotion;
+  clock = freshClock;
+  tally = emptyTally;
+}

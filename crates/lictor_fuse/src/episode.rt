@@ -1,4 +1,5 @@
-// The run state before and at the start of an episode (fuse.rs, FuseRt::new and reset).
+// The run state before and at the start of an episode (fuse.rs, FuseRt::new and reset),
+// but that a reset keeps the stored nonces, which are then spent for good.
 ghost use mathlib.Core.Path.{_≡_};
 ghost use Rattle.lictor_core.specs.Initial.{emptyTally, freshControl, freshMotion, freshClock, newOf, resetOf};
 use lictor_core::envelope::MAX_OPERATORS;
@@ -10,11 +11,10 @@ use lictor_core::fuse::Window;
 use lictor_core::rows::no_row;
 use lictor_core::state::FuseState;
 
-fn fresh_control(state: FuseState) -> Control
-    ensures { λ r. ⌜ r ≡ freshControl state ⌝ }
+fn fresh_control(state: FuseState, nonces: [u64; MAX_OPERATORS]) -> Control
+    ensures { λ r. ⌜ r ≡ freshControl state nonces ⌝ }
 {
     let hold = no_row();
-    let last_nonce = [0; MAX_OPERATORS];
     let window = Window { bits: 0 };
     Control {
         window,
@@ -31,7 +31,7 @@ fn fresh_control(state: FuseState) -> Control
         rearms: 0,
         handoff_seq: 0,
         handoff_pending: false,
-        last_nonce,
+        last_nonce: nonces,
     }
 }
 
@@ -60,11 +60,11 @@ fn fresh_clock() -> Clock
     }
 }
 
-// Everything zero, no chunk, in state s.
-fn fresh(s: FuseState) -> FuseRt
-    ensures { λ r. ⌜ r ≡ record { control = freshControl s; motion = freshMotion; clock = freshClock; tally = emptyTally } ⌝ }
+// Everything zero, no chunk, in state s, with these nonces stored.
+fn fresh(s: FuseState, nonces: [u64; MAX_OPERATORS]) -> FuseRt
+    ensures { λ r. ⌜ r ≡ record { control = freshControl s nonces; motion = freshMotion; clock = freshClock; tally = emptyTally } ⌝ }
 {
-    let control = fresh_control(s);
+    let control = fresh_control(s, nonces);
     let motion = fresh_motion();
     let clock = fresh_clock();
     let tally = lictor_tally::empty();
@@ -76,16 +76,18 @@ fn fresh(s: FuseState) -> FuseRt
     }
 }
 
-// No episode yet.
+// No episode yet, and no nonce stored.
 pub fn new() -> FuseRt
     ensures { λ r. ⌜ r ≡ newOf ⌝ }
 {
-    fresh(FuseState::Idle)
+    let nonces = [0; MAX_OPERATORS];
+    fresh(FuseState::Idle, nonces)
 }
 
-// Clears everything and arms the fuse.
+// Clears everything but the stored nonces, and arms the fuse.
 pub fn reset(rt: FuseRt) -> FuseRt
     ensures { λ r. ⌜ r ≡ resetOf rt ⌝ }
 {
-    fresh(FuseState::Armed)
+    let nonces = rt.control.last_nonce;
+    fresh(FuseState::Armed, nonces)
 }

@@ -5,7 +5,7 @@ use Prim.Native.Nat.{ℕ}
 use Rattle.journal_records.specs.Kinds.{journalKinds}
 use Rattle.report.specs.Lines.{tickText}
 use Rattle.journal.specs.declared.tick.Run.{Run}
-use Rattle.journal.specs.Events.{Event, began, restarted, ticked}
+use Rattle.journal.specs.Events.{Event, began, restarted, ticked, widthGiven}
 use Rattle.journal.specs.Journal.{Ending}
 use Rattle.printer.specs.Printer.{Printer, fusePrinter, shownText, remembered, endingText, printed, printerAfterAll, textFrom, textOf, kindsTaken, meaningFor}
 use Rattle.printer.specs.Fifties.{verdictsOf, pagesText}
@@ -22,6 +22,7 @@ fuse-printed [] = refl
 fuse-printed (began run ∷ es) = fuse-printed es
 fuse-printed (restarted run ∷ es) = fuse-printed es
 fuse-printed (ticked t ∷ es) = ap (λ (x : List ℕ). tickText (t .verdict) ++ x) (fuse-printed es)
+fuse-printed (widthGiven run w ∷ es) = fuse-printed es
 
 -- it remembers nothing
 fuse-stays : (es : List Event) → printerAfterAll fusePrinter es ≡ fusePrinter
@@ -30,6 +31,7 @@ fuse-stays [] = refl
 fuse-stays (began run ∷ es) = fuse-stays es
 fuse-stays (restarted run ∷ es) = fuse-stays es
 fuse-stays (ticked t ∷ es) = fuse-stays es
+fuse-stays (widthGiven run w ∷ es) = fuse-stays es
 
 fuse-from : (es : List Event) (run : Run) (e : Ending) → textFrom fusePrinter es run e ≡ fuseLines (verdictsOf es) ++ endingText fusePrinter run e
 unfolding textFrom

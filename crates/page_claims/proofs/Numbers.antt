@@ -50,8 +50,8 @@ use Rattle.journal_refusals.specs.declared.Judged.{Judged}
 use Rattle.journal_refusals.specs.declared.Judged.the-variants.{Accepted, Refused}
 use Rattle.journal_refusals.specs.Table.{wholeOf}
 use Rattle.stream.specs.Stream.{Next, wait, halt, go, tell, after, settle, settled}
-use Rattle.journal_reader.specs.State.{State, seenIn, ackWaits, headWaits, valueWaits, outcomeWaits, settingsCame, emptied, inputOf, startReader}
-use Rattle.journal_reader.specs.Reading.{Brought, Instruction, begin, restart, tick, broughtOf, onRecord, onJudged, onWhole, onBytes}
+use Rattle.journal_reader.specs.State.{State, seenIn, ackWaits, headWaits, valueWaits, outcomeWaits, settingsCame, widthCame, emptied, inputOf, startReader}
+use Rattle.journal_reader.specs.Reading.{Brought, Instruction, begin, restart, tick, width, broughtOf, onRecord, onJudged, onWhole, onBytes}
 use Rattle.journal_reader.proofs.Reading.{next-frame}
 use Rattle.journal.specs.declared.tick.Run.{Run}
 use Rattle.journal.specs.Events.{begunOf, restartedOf, decidedOf, tickedOf, runAfter, eventsFrom, reportOf}
@@ -150,6 +150,7 @@ abbrev Read : Instruction → Type 0
 Read (begin s) = Unit {0}
 Read restart = Unit {0}
 Read (tick c) = (c .input .t < 2 ^ 32) × (c .outcome .trips < 2 ^ 32)
+Read (width w) = Unit {0}
 
 -- the outcome that waits
 abbrev Waits : State → Type 0
@@ -162,7 +163,7 @@ Moves (go st n) = Waits st
 Moves (tell st n i) = Waits st × Read i
 
 record-moves : (st : State) (k : ℕ) (b : List ℕ) (n : ℕ) → Bytes b → Waits st → Moves (onRecord st b n (decodeOf k b))
-unfolding onRecord settingsCame emptied ackWaits headWaits valueWaits outcomeWaits outcomeOf broughtOf inputOf tickNumbers
+unfolding onRecord settingsCame widthCame emptied ackWaits headWaits valueWaits outcomeWaits outcomeOf broughtOf inputOf tickNumbers
 record-moves st k b n h w =
     let four : (at : ℕ) → leAt b at 4 < 2 ^ 32 = λ at. omega (arith, leAt-under b at 4 4 (λ i. byte-under b i h) (omega arith)) in
     decoded k b (λ x. Moves (onRecord st b n x))
@@ -173,6 +174,7 @@ record-moves st k b n h w =
       head = λ p. w;
       value = λ p. w;
       outcome = λ p. four 0;
+      width = λ p. (w, tt);
       tick = (w, (four 0, w));
     })
 
@@ -235,6 +237,7 @@ all-fit r (restart ∷ is) h m = all-fit (restartedOf r) is (restarted-started r
 all-fit r (tick c ∷ is) h m =
     let d = tick-decides r c h (m .0) in
     (d .fits, all-fit (tickedOf r (decidedOf r c)) is (d .next) (m .1))
+all-fit r (width w ∷ is) h m = all-fit r is h (m .1)
 
 pub numbers-fit : (kinds s : List ℕ) → Bytes s → All Fitting (verdictsOf (journalOf kinds s .events))
 unfolding journalOf startRun

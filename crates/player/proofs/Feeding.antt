@@ -18,9 +18,9 @@ use Rattle.stream.proofs.Stream.{impossible, Ahead, ahead, settled-wait, settle
 use Rattle.journal_reader.specs.declared.waiting.Reader.{Reader}
 use Rattle.journal_reader.specs.declared.Progress.{Progress}
 use Rattle.journal_reader.specs.declared.What.the-variants as W
-use Rattle.journal_reader.specs.State.{State, settingsCame, emptied}
-use Rattle.journal_reader.specs.Reading.{Instruction, begin, restart, tick, Brought, broughtOf, withReader, onBytes, whatOf, readOf, listsRead}
-use Rattle.journal_reader.proofs.Reading.{machine, begins-is, resets-is, ticks-is}
+use Rattle.journal_reader.specs.State.{State, settingsCame, widthCame, emptied}
+use Rattle.journal_reader.specs.Reading.{Instruction, begin, restart, tick, width, Brought, broughtOf, withReader, onBytes, whatOf, readOf, listsRead}
+use Rattle.journal_reader.proofs.Reading.{machine, begins-is, resets-is, ticks-is, width-is}
 use Rattle.journal.specs.declared.tick.Run.{Run}
 use Rattle.journal.specs.declared.tick.Reported.{Reported}
 use Rattle.journal.specs.Events.{runAfter, runAfterAll, Event, ticked, eventOf, eventsFrom, reportedOf}
@@ -69,6 +69,7 @@ what-waits (go st n) g e = impossible cc
 what-waits (tell st n (begin s)) g e = impossible cc
 what-waits (tell st n restart) g e = impossible cc
 what-waits (tell st n (tick c)) g e = impossible cc
+what-waits (tell st n (width w)) g e = impossible cc
 
 what-refuses : (x : Next State Instruction Refusal) (r : Refusal) → whatOf x ≡ W.Refuses r → x ≡ halt r
 what-refuses wait r e = impossible cc
@@ -77,6 +78,7 @@ what-refuses (go st n) r e = impossible cc
 what-refuses (tell st n (begin s)) r e = impossible cc
 what-refuses (tell st n restart) r e = impossible cc
 what-refuses (tell st n (tick c)) r e = impossible cc
+what-refuses (tell st n (width w)) r e = impossible cc
 
 -- ---- up to the next instruction
 
@@ -233,13 +235,16 @@ module _ (kinds : List ℕ) (sh : Shows) (p : Played) (l : List Float) (s : List
             stops = λ z. impossible cc;
           })
 
-    -- ---- settings, a reset, a tick
+    -- ---- settings, a reset, a tick, a width
 
     pub on-resets : a .what ≡ W.Resets → (r : Played) (out' : List ℕ) → Obeys sh here (emptied (a .reader)) restart out r out' → PlayedOn kinds sh p l s out r l' out'
     on-resets y = on-tells (emptied (a .reader)) restart _ (resets-is kinds v (drop i s) (sym what-is ∙ y))
 
     pub on-ticks : (x : TickInput) → a .what ≡ W.Ticks x → (r : Played) (out' : List ℕ) → Obeys sh here (emptied (a .reader)) (tick (broughtOf v x)) out r out' → PlayedOn kinds sh p l s out r l' out'
     on-ticks x y = on-tells (emptied (a .reader)) (tick (broughtOf v x)) _ (ticks-is kinds v (drop i s) x (sym what-is ∙ y))
+
+    pub on-width : (x : Float) → a .what ≡ W.GivesWidth x → (r : Played) (out' : List ℕ) → Obeys sh here (widthCame (a .reader)) (width x) out r out' → PlayedOn kinds sh p l s out r l' out'
+    on-width x y = on-tells (widthCame (a .reader)) (width x) _ (width-is kinds v (drop i s) x (sym what-is ∙ y))
 
     -- settings of n bytes, of which the body b was read
     begins-by : (n : ℕ) → onBytes kinds v (drop i s) ≡ tell (withReader v (settingsCame (a .reader))) (suc n) (begin (settingsOf (bodyOf n (drop i s))))

@@ -5,7 +5,7 @@ ghost use mathlib.Core.Bool.{false};
 ghost use Prim.Native.Nat.{_+_, _≤_};
 ghost use lib.ListN.{length};
 ghost use Rattle.journal_records.specs.Long.{settingsOf};
-ghost use Rattle.journal_reader.specs.State.{settingsCame, emptied};
+ghost use Rattle.journal_reader.specs.State.{settingsCame, widthCame, emptied};
 ghost use Rattle.journal_reader.specs.Reading as R;
 ghost use Rattle.printer.specs.Printer.{showsBy, printerBy, eventRoom};
 ghost use Rattle.player.specs.Play.{Obeys, PlayedOn, goesOnOf, playingFrom, Fed};
@@ -113,6 +113,27 @@ fn tick(shows: u8, p: Played, lists: &[f64; PLACES], input: TickInput, out: &mut
     }
 }
 
+// A width, of which the fuse takes nothing.
+fn give_width(shows: u8, p: Played, width: f64, out: &mut [u8]) -> Played
+    requires { ⌜ p .n + eventRoom ≤ length (now out) ⌝ }
+    ensures { λ r. ⌜ Obeys (showsBy shows) p (widthCame (p .reader)) (R.width width) (now (out .entry)) r (now (out .exit)) ⌝ }
+{
+    let before = p.reader;
+    let reader = journal_reader::waiting::with_width(before);
+    let run = p.run;
+    let shown = printer::width_given(shows, p.notes, run, width, out, p.n);
+    let notes = shown.notes;
+    Played {
+        reader,
+        run,
+        notes,
+        at: p.at,
+        n: shown.n,
+        more: p.more,
+        refused: p.refused,
+    }
+}
+
 // ---- from instruction to instruction
 
 // No more is to be had.
@@ -162,6 +183,7 @@ fn play_on(
         }
         What::Resets => restart(shows, here, out),
         What::Ticks(input) => tick(shows, here, lists, input, out),
+        What::GivesWidth(w) => give_width(shows, here, w, out),
     }
 }
 

@@ -12,7 +12,7 @@ use lib.Seq.{take-all, take-append-le, drop-append-le}
 use Rattle.lictor_core.specs.declared.verdict.SafetyVerdict.{SafetyVerdict}
 use Rattle.journal_refusals.specs.Table.{numberOf}
 use Rattle.journal.specs.declared.tick.Run.{Run}
-use Rattle.journal.specs.Events.{Event, began, restarted, ticked}
+use Rattle.journal.specs.Events.{Event, began, restarted, ticked, widthGiven}
 use Rattle.journal.specs.Journal.{Ending, ended, refused}
 use Rattle.report.specs.Lines.{refusedText}
 use Rattle.page_text.specs.Rows.{tickRow, pageRow, asLine}
@@ -87,7 +87,7 @@ module _ (vs : List SafetyVerdict) (m : Notes) (text : List ℕ) (p : Printed vs
   longer : length more ≡ length vs + 1
   longer = length-append vs (v ∷ [])
 
-  on-page : fills m ≡ false → Printed more (record { rows = m .rows + 1; page = m .page }) (text ++ (asLine (tickRow v) ++ []))
+  on-page : fills m ≡ false → Printed more (record { rows = m .rows + 1; page = m .page; near = m .near }) (text ++ (asLine (tickRow v) ++ []))
   on-page b = record {
     whole = w;
     counted = (let e : length more ≡ w * pageRows + (m .rows + 1) = omega (arith, longer, p .counted) in e);
@@ -113,7 +113,7 @@ module _ (vs : List SafetyVerdict) (m : Notes) (text : List ℕ) (p : Printed vs
       ∙ ap₂ (λ (x y : List (List ℕ)). x ++ y) stays page
       ∙ sym (append-assoc before (part-rows ++ (tickRow v ∷ [])) (pageRow (m .page) ∷ []))
 
-  fills-page : fills m ≡ true → Printed more (record { rows = 0; page = nextPage (m .page) }) (text ++ (asLine (tickRow v) ++ asLine (pageRow (m .page))))
+  fills-page : fills m ≡ true → Printed more (record { rows = 0; page = nextPage (m .page); near = m .near }) (text ++ (asLine (tickRow v) ++ asLine (pageRow (m .page))))
   unfolding linesText
   fills-page b =
       let e : m .rows ≡ 49 = omega (arith, p .part, leb-true pageRows (m .rows + 1) b) in
@@ -133,7 +133,7 @@ module _ (vs : List SafetyVerdict) (m : Notes) (text : List ℕ) (p : Printed vs
       }
 
   one-more : (b : Bool) → fills m ≡ b
-      → Printed more (cond b (record { rows = 0; page = nextPage (m .page) }) (record { rows = m .rows + 1; page = m .page })) (text ++ (asLine (tickRow v) ++ cond b (asLine (pageRow (m .page))) []))
+      → Printed more (cond b (record { rows = 0; page = nextPage (m .page); near = m .near }) (record { rows = m .rows + 1; page = m .page; near = m .near })) (text ++ (asLine (tickRow v) ++ cond b (asLine (pageRow (m .page))) []))
   one-more true e = fills-page e
   one-more false e = on-page e
 
@@ -152,6 +152,7 @@ printed-all (ticked t ∷ es) vs m text p =
     let v = t .verdict in
     let q = printed-all es (vs ++ (v ∷ [])) (afterTick m) (text ++ tickOnPage m v) (one-more vs m text p v (fills m) refl) in
     rw (append-assoc vs (v ∷ []) (verdictsOf es), append-assoc text (tickOnPage m v) (printed (pagesWith (afterTick m)) es)) at q
+printed-all (widthGiven run w ∷ es) vs m text p = printed-all es vs m text p
 
 -- it stays the printer of pages
 shows-stay : (p : Printer) (es : List Event) → printerAfterAll p es .shows ≡ p .shows

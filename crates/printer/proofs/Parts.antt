@@ -7,7 +7,7 @@ use Rattle.journal.specs.Events.{Event}
 use Rattle.journal.specs.Journal.{Ending}
 use Rattle.printer.specs.declared.Channel.{Channel}
 use Rattle.printer.specs.declared.Channel.the-variants.{Output}
-use Rattle.printer.specs.Printer.{Shows, Printer, fusePrinter, tracePrinter, pagesPrinter, shownText, printerAfter, printed, printerAfterAll, endingText, endingOn, sentTo, textFrom, besideFrom, meaningFor, textOf, besideOf, OnOutput}
+use Rattle.printer.specs.Printer.{Shows, Printer, fusePrinter, tracePrinter, pagesPrinter, proximityPrinter, shownText, printerAfter, printed, printerAfterAll, endingText, endingOn, sentTo, textFrom, besideFrom, meaningFor, textOf, besideOf, OnOutput}
 
 -- events after events: the printer goes on
 pub after-append : (p : Printer) (es fs : List Event) → printerAfterAll p (es ++ fs) ≡ printerAfterAll (printerAfterAll p es) fs
@@ -51,3 +51,6 @@ trace-on-output = all-on-output tracePrinter (λ e. refl)
 
 pub pages-on-output : (s : List ℕ) → OnOutput pagesPrinter s
 pages-on-output = all-on-output pagesPrinter (λ e. refl)
+
+pub proximity-on-output : (s : List ℕ) → OnOutput proximityPrinter s
+proximity-on-output = all-on-output proximityPrinter (λ e. refl)

@@ -8,7 +8,7 @@ use Rattle.lictor_core.specs.declared.verdict.SafetyVerdict.{SafetyVerdict}
 use Rattle.journal_records.specs.Kinds.{journalKinds}
 use Rattle.journal_refusals.specs.declared.Refusal.{Refusal}
 use Rattle.journal_refusals.specs.Table.{numberOf}
-use Rattle.journal.specs.Events.{Event, began, restarted, ticked}
+use Rattle.journal.specs.Events.{Event, began, restarted, ticked, widthGiven}
 use Rattle.journal.specs.Journal.{Ending, ended, refused, journalOf}
 use Rattle.report.specs.Lines.{refusedText}
 use Rattle.page_text.specs.Rows.{tickRow, pageRow, asLine}
@@ -20,6 +20,7 @@ verdictsOf [] = []
 verdictsOf (began run ∷ es) = verdictsOf es
 verdictsOf (restarted run ∷ es) = verdictsOf es
 verdictsOf (ticked t ∷ es) = t .verdict ∷ verdictsOf es
+verdictsOf (widthGiven run w ∷ es) = verdictsOf es
 
 -- ---- a page, by its place i from 0
 

@@ -1,20 +1,22 @@
--- What a program prints for a journal (01-scope.md, Journal, the program `fuse`; for pages
--- 02-change-requests.md, Ask 1): a text for each event and one for its ending. A printer may
--- remember something from event to event. The text of events goes to standard output; that of an
--- ending may go beside it, to standard error.
-use mathlib.Core.Bool.{Bool, cond}
+-- What a program prints for a journal (01-scope.md, Journal, the program `fuse`; for pages and
+-- proximity 02-change-requests.md, Ask 1 and 7): a text for each event and one for its ending. A
+-- printer may remember something from event to event. The text of events goes to standard output;
+-- that of an ending may go beside it, to standard error.
+use mathlib.Core.Bool.{Bool, true, false, cond, _&&_}
 use mathlib.Core.List.{List, [], _∷_, _++_}
 use mathlib.Core.Path.{_≡_}
 use Prim.Native.Nat.{ℕ, _+_, _*_, min}
 use lib.Dec.{eqb, leb}
+use lib.Ieee.{Float}
 use lib.ListN.{length}
-use Rattle.lictor_core.specs.declared.fuse.FuseRt.{FuseRt}
+use Rattle.lictor_core.specs.declared.envelope.FuseConfig.{FuseConfig}
 use Rattle.lictor_core.specs.declared.tally.Tally.{Tally}
 use Rattle.lictor_core.specs.declared.verdict.SafetyVerdict.{SafetyVerdict}
+use Rattle.lictor_core.specs.Initial.{zeroFloat}
 use Rattle.journal_records.specs.Kinds.{journalKinds}
 use Rattle.journal_refusals.specs.Table.{numberOf}
 use Rattle.journal.specs.declared.tick.Run.{Run}
-use Rattle.journal.specs.Events.{Event, began, restarted, ticked}
+use Rattle.journal.specs.Events.{Event, began, restarted, ticked, widthGiven}
 use Rattle.journal.specs.Journal.{Ending, ended, refused, Meaning, journalOf}
 use Rattle.text.specs.Line.{lineRoom}
 use Rattle.text.specs.Memory.{hasRoom, placeWith, memoryWith}
@@ -22,19 +24,24 @@ use Rattle.trace_text.specs.Trace.{traceCount}
 use Rattle.report.specs.Lines.{tickText, endText, refusedText}
 use Rattle.report.specs.Text.{traceRoom, traceUpTo}
 use Rattle.page_text.specs.Rows.{tickRow, pageRow, asLine}
+use Rattle.proximity_text.specs.declared.Before.{Before}
+use Rattle.proximity_text.specs.Near.{insideOf, noneInside}
+use Rattle.proximity_text.specs.Lines.{linesOf}
 use Rattle.printer.specs.declared.Channel.{Channel}
 use Rattle.printer.specs.declared.Channel.the-variants.{Output, Errors}
+use Rattle.printer.specs.declared.Near.{Near}
 use Rattle.printer.specs.declared.Notes.{Notes}
 use Rattle.printer.specs.declared.Shown.{Shown}
 
 -- ---- a printer
 
 -- what is shown: of a tick its line; or its line and every field of the verdict, the run state and
--- the tally; or its row on a page
+-- the tally; or its row on a page; or the components that are close to a face or have left the box
 pub data Shows : Type 0 where
   lines : Shows
   trace : Shows
   pages : Shows
+  proximity : Shows
 
 -- by number, in the code
 abbrev pub traceCode : ℕ
@@ -43,8 +50,15 @@ traceCode = 1
 abbrev pub pagesCode : ℕ
 pagesCode = 2
 
+abbrev pub proximityCode : ℕ
+proximityCode = 3
+
 unfoldable pub showsBy : ℕ → Shows
-showsBy code = cond (eqb code traceCode) trace (cond (eqb code pagesCode) pages lines)
+showsBy code =
+    cond (eqb code traceCode) trace
+    (cond (eqb code pagesCode) pages
+    (cond (eqb code proximityCode) proximity
+    lines))
 
 -- a printer: what it shows, and what it remembers from event to event
 pub record Printer : Type 0 where
@@ -58,11 +72,14 @@ showing w m = record { shows = w; notes = m }
 abbrev pub printerBy : ℕ → Notes → Printer
 printerBy code m = showing (showsBy code) m
 
--- before the first event: no row, on page 1
-abbrev pub atStart : Notes
-atStart = record { rows = 0; page = 1 }
+-- before the first event: no row, on page 1; no width, and no clean tick
+abbrev pub nearAtStart : Near
+nearAtStart = record { given = false; before = record { width = zeroFloat; inside = noneInside } }
 
--- the printers of `fuse`, `trace` and `pages`
+abbrev pub atStart : Notes
+atStart = record { rows = 0; page = 1; near = nearAtStart }
+
+-- the printers of `fuse`, `trace`, `pages` and `proximity`
 abbrev pub fusePrinter : Printer
 fusePrinter = showing lines atStart
 
@@ -71,6 +88,9 @@ tracePrinter = showing trace atStart
 
 abbrev pub pagesPrinter : Printer
 pagesPrinter = showing pages atStart
+
+abbrev pub proximityPrinter : Printer
+proximityPrinter = showing proximity atStart
 
 -- ---- a page, row by row
 
@@ -90,7 +110,10 @@ fills m = leb pageRows (m .rows + 1)
 
 -- one more row
 abbrev pub afterTick : Notes → Notes
-afterTick m = cond (fills m) (record { rows = 0; page = nextPage (m .page) }) (record { rows = m .rows + 1; page = m .page })
+afterTick m =
+    cond (fills m)
+    (record { rows = 0; page = nextPage (m .page); near = m .near })
+    (record { rows = m .rows + 1; page = m .page; near = m .near })
 
 -- the row of a tick, and after the last of a page the line with its number
 abbrev pub tickOnPage : Notes → SafetyVerdict → List ℕ
@@ -100,45 +123,93 @@ tickOnPage m v = asLine (tickRow v) ++ cond (fills m) (asLine (pageRow (m .page)
 abbrev pub pageClosed : Notes → List ℕ
 pageClosed m = cond (eqb (m .rows) 0) [] (asLine (pageRow (m .page)))
 
+-- ---- proximity, tick by tick
+
+-- a tick is clean where the guard found nothing, whatever its outcome brings and its state is
+abbrev pub isClean : ℕ → Bool
+isClean guard = eqb guard 0
+
+-- the lines of a clean tick, once a width was given
+abbrev pub tickNear : Near → List Float → ℕ → SafetyVerdict → FuseConfig → List ℕ
+tickNear m pos guard v cfg = cond (isClean guard && m .given) (linesOf cfg (m .before) (v .t) pos) []
+
+abbrev pub withInside : Near → List Bool → Near
+withInside m is = record { given = m .given; before = record { width = m .before .width; inside = is } }
+
+-- a clean tick says which components are inside; a fault tick is passed over
+abbrev pub nearAfter : Near → List Float → ℕ → FuseConfig → Near
+nearAfter m pos guard cfg = cond (isClean guard) (withInside m (insideOf cfg pos)) m
+
+-- after a reset there is no clean tick before
+abbrev pub nearCleared : Near → Near
+nearCleared m = withInside m noneInside
+
+-- a width is kept
+abbrev pub nearGiven : Near → Float → Near
+nearGiven m w = record { given = true; before = record { width = w; inside = m .before .inside } }
+
+-- the same notes of pages
+abbrev pub withNear : Notes → Near → Notes
+withNear m x = record { rows = m .rows; page = m .page; near = x }
+
 -- ---- an event
 
-abbrev pub tickShown : Shows → Notes → SafetyVerdict → FuseRt → List ℕ
-tickShown lines m v rt = tickText v
-tickShown trace m v rt = tickText v ++ traceUpTo traceCount v rt
-tickShown pages m v rt = tickOnPage m v
+-- of a tick: its positions as they came, the guard's bits, its verdict and the fuse after it
+abbrev pub tickShown : Shows → Notes → List Float → ℕ → SafetyVerdict → Run → List ℕ
+tickShown lines m pos guard v run = tickText v
+tickShown trace m pos guard v run = tickText v ++ traceUpTo traceCount v (run .rt)
+tickShown pages m pos guard v run = tickOnPage m v
+tickShown proximity m pos guard v run = tickNear (m .near) pos guard v (run .config)
 
--- settings and a reset print nothing
+-- settings, a reset and a width print nothing
 unfoldable pub shownText : Printer → Event → List ℕ
 shownText p (began run) = []
 shownText p (restarted run) = []
-shownText p (ticked t) = tickShown (p .shows) (p .notes) (t .verdict) (t .run .rt)
+shownText p (ticked t) = tickShown (p .shows) (p .notes) (t .pos) (t .guard) (t .verdict) (t .run)
+shownText p (widthGiven run w) = []
 
--- what is remembered after a tick: only pages remember something
-abbrev pub tickRemembered : Shows → Notes → Notes
-tickRemembered lines m = m
-tickRemembered trace m = m
-tickRemembered pages m = afterTick m
+-- what is remembered after a tick, a reset and a width: only pages and proximity remember something
+abbrev pub tickRemembered : Shows → Notes → List Float → ℕ → FuseConfig → Notes
+tickRemembered lines m pos guard cfg = m
+tickRemembered trace m pos guard cfg = m
+tickRemembered pages m pos guard cfg = afterTick m
+tickRemembered proximity m pos guard cfg = withNear m (nearAfter (m .near) pos guard cfg)
+
+abbrev pub resetRemembered : Shows → Notes → Notes
+resetRemembered lines m = m
+resetRemembered trace m = m
+resetRemembered pages m = m
+resetRemembered proximity m = withNear m (nearCleared (m .near))
+
+abbrev pub widthRemembered : Shows → Notes → Float → Notes
+widthRemembered lines m w = m
+widthRemembered trace m w = m
+widthRemembered pages m w = m
+widthRemembered proximity m w = withNear m (nearGiven (m .near) w)
 
 unfoldable pub remembered : Printer → Event → Notes
 remembered p (began run) = p .notes
-remembered p (restarted run) = p .notes
-remembered p (ticked t) = tickRemembered (p .shows) (p .notes)
+remembered p (restarted run) = resetRemembered (p .shows) (p .notes)
+remembered p (ticked t) = tickRemembered (p .shows) (p .notes) (t .pos) (t .guard) (t .run .config)
+remembered p (widthGiven run w) = widthRemembered (p .shows) (p .notes) w
 
 abbrev pub printerAfter : Printer → Event → Printer
 printerAfter p e = showing (p .shows) (remembered p e)
 
--- ---- the ending: a part page is closed; then `end`, which pages do not have, or `refused` with
--- the number and the place
+-- ---- the ending: a part page is closed; then `end`, which pages and proximity do not have, or
+-- `refused` with the number and the place
 
 abbrev pub closingText : Shows → Notes → List ℕ
 closingText lines m = []
 closingText trace m = []
 closingText pages m = pageClosed m
+closingText proximity m = []
 
 abbrev pub endShown : Shows → Tally → List ℕ
 endShown lines t = endText t
 endShown trace t = endText t
 endShown pages t = []
+endShown proximity t = []
 
 unfoldable pub endingText : Printer → Run → Ending → List ℕ
 endingText p run ended = closingText (p .shows) (p .notes) ++ endShown (p .shows) (run .rt .tally)
@@ -149,6 +220,7 @@ abbrev pub endingOn : Shows → Ending → Channel
 endingOn lines e = Output
 endingOn trace e = Output
 endingOn pages e = Output
+endingOn proximity e = Output
 
 -- ---- a whole journal
 
@@ -210,6 +282,10 @@ eventRoom = lineRoom + traceRoom
 abbrev pub endingRoom : ℕ
 endingRoom = 2 * lineRoom
 
+-- an event that prints nothing: what is remembered after it where there is room for an event
+abbrev pub silentShown : ℕ → ℕ → Notes → Notes → Shown
+silentShown room n before after = record { notes = cond (hasRoom eventRoom n room) after before; n = n }
+
 -- An event that is shown after the first n bytes of so much room: what is remembered after it and
 -- where its text ends, and the bytes then. Without room for an event nothing is put or remembered.
 unfoldable pub shownAt : ℕ → ℕ → Printer → Event → Shown
@@ -235,6 +311,7 @@ unfoldable pub channelBy : Shows → ℕ → Channel
 channelBy lines number = Output
 channelBy trace number = Output
 channelBy pages number = Output
+channelBy proximity number = Output
 
 -- that text at the front of memory: how many bytes it has, and memory then; without room for an
 -- ending nothing is put

@@ -32,16 +32,18 @@ fn fills_page(notes: Notes) -> bool
 pub(crate) fn after_tick(notes: Notes) -> Notes
     ensures { λ r. ⌜ r ≡ afterTick notes ⌝ }
 {
+    let near = notes.near;
     if fills_page(notes) {
         let next = next_page(notes.page);
         return Notes {
             rows: 0,
             page: next,
+            near,
         };
     }
     let rows = notes.rows + 1;
     let page = notes.page;
-    Notes { rows, page }
+    Notes { rows, page, near }
 }
 
 // Puts the row of a tick, and where it fills the page the page's line.

@@ -32,7 +32,7 @@ pub fn margin_line(m: Margin) -> Line
 }
 
 // A blank and a number.
-fn field(l: Line, x: u64) -> Line
+pub fn field(l: Line, x: u64) -> Line
     ensures { λ r. ⌜ r ≡ pushOf l (fieldText x) ⌝ }
 {
     push_number(push(l, b" "), x)

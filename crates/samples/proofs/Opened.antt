@@ -3,7 +3,7 @@
 use Rattle.fmath.specs.Float.{minOf, maxOf, clampOf, allFinite, addSquares, normOf}
 use Rattle.fmath.specs.Root.{rootIn, wholeRoot, rootOf}
 use Rattle.lictor_core.specs.Codes.{modeOf, kindOf, clampModeOf, rearmOf, decisionOf}
-use Rattle.lictor_core.specs.Initial.{zeros, emptyTally, freshControl, freshMotion, freshClock, newOf, resetOf}
+use Rattle.lictor_core.specs.Initial.{zeros, emptyTally, noNonces, freshControl, freshMotion, freshClock, newOf, resetOf}
 use Rattle.lictor_core.specs.Masks.{anyOf}
 use Rattle.lictor_core.specs.Rows.{rowTo, takenRow}
 use Rattle.lictor_core.specs.FirstThat.{firstThat}
@@ -34,7 +34,7 @@ unfolding
     minOf maxOf clampOf allFinite addSquares normOf
     rootIn wholeRoot rootOf
     modeOf kindOf clampModeOf rearmOf decisionOf
-    zeros emptyTally freshControl freshMotion freshClock newOf resetOf
+    zeros emptyTally noNonces freshControl freshMotion freshClock newOf resetOf
     anyOf
     rowTo
     badCode badSize badFloat anyBelow crossedOf badBox settingsTable firstThat checkOf configOf

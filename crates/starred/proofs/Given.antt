@@ -1,5 +1,6 @@
--- The definitions give every starred case: the rows of the table are computed, but for the tenth.
--- It starts after 65535 soft trips, too many to compute, and goes by their law (SoftTrips).
+-- The definitions give every starred case: the rows of the table are computed, but for the one with
+-- the full count. It starts after 65535 soft trips, too many to compute, and goes by their law
+-- (SoftTrips).
 use mathlib.Core.Path.{refl, ap, ap₂}
 use mathlib.Core.List.{List, [], _∷_, _++_, drop}
 use Prim.Native.Nat.{ℕ}
@@ -7,24 +8,24 @@ use native.Mathlib.Omega.{arith}
 use lib.ListN.{take}
 use Rattle.starred.proofs.Opened.{tick-opened}
 use Rattle.starred.proofs.SoftTrips.{soft-trips, clamps-on}
-use Rattle.starred.specs.Starred.{AsWanted, starred, rowLimits, rowAck, rowTickAt, rowTick, armed, braking, held, escalated, terminated, clampedFor, bit, ending, endingNonce, clamping, acceptance, printed, usualLimits, wideLimits, quickHandoff, quickEnd}
+use Rattle.starred.specs.Starred.{AsWanted, starred, rowLimits, rowAck, rowTickAt, rowTick, armed, braking, held, spent, escalated, terminated, clampedFor, bit, ending, endingNonce, clamping, acceptance, printed, usualLimits, wideLimits, quickHandoff, quickEnd}
 
-before-tenth : AsWanted (take 9 starred)
+before-full : AsWanted (take 13 starred)
 unfolding
-    tick-opened rowLimits rowAck rowTickAt rowTick armed braking held escalated terminated clampedFor
+    tick-opened rowLimits rowAck rowTickAt rowTick armed braking held spent escalated terminated clampedFor
     bit ending endingNonce clamping acceptance usualLimits quickHandoff quickEnd starred
-before-tenth = refl
+before-full = refl
 
-tenth : AsWanted (take 1 (drop 9 starred))
+full : AsWanted (take 1 (drop 13 starred))
 unfolding wideLimits starred
-tenth = ap (λ (x : List ℕ). x ∷ []) (clamps-on 65535 5 5 5 65534 (clampedFor 65535 wideLimits) (soft-trips 65535 5 5 5 65534 (omega arith)) (omega arith))
+full = ap (λ (x : List ℕ). x ∷ []) (clamps-on 65535 5 5 5 65534 (clampedFor 65535 wideLimits) (soft-trips 65535 5 5 5 65534 (omega arith)) (omega arith))
 
-after-tenth : AsWanted (drop 10 starred)
+after-full : AsWanted (drop 14 starred)
 unfolding
     tick-opened rowLimits rowAck rowTickAt rowTick armed braking held escalated terminated
     ending printed usualLimits quickEnd starred
-after-tenth = refl
+after-full = refl
 
 pub given : AsWanted starred
 unfolding starred
-given = ap₂ _++_ before-tenth (ap₂ _++_ tenth after-tenth)
+given = ap₂ _++_ before-full (ap₂ _++_ full after-full)

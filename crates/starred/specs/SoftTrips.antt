@@ -7,14 +7,14 @@ use Prim.Native.Nat.{ℕ, suc, _≤_, _<_, min}
 use Rattle.lictor_core.specs.declared.fuse.Control.{Control}
 use Rattle.lictor_core.specs.declared.fuse.FuseRt.{FuseRt}
 use Rattle.lictor_core.specs.declared.state.FuseState.the-variants.{Clamped}
-use Rattle.lictor_core.specs.Initial.{freshControl}
+use Rattle.lictor_core.specs.Initial.{noNonces, freshControl}
 use Rattle.lictor_table.specs.Fields.{withClampStreak, withClamps}
 use Rattle.starred.specs.Starred.{rowLimits, clampedFor}
 
 -- The machine's part of the run state: Clamped, with k clamps; the streak is 1, since only the
--- first trip came with a chunk; all else is as the reset left it.
+-- first trip came with a chunk; all else is as settings and the reset left it.
 abbrev pub clampedTimes : ℕ → Control
-clampedTimes k = withClampStreak 1 (withClamps k (freshControl Clamped))
+clampedTimes k = withClampStreak 1 (withClamps k (freshControl Clamped noNonces))
 
 -- after n soft trips, the last of them at t
 pub record Trips (n t : ℕ) (r : FuseRt) : Type 0 where

@@ -1,5 +1,6 @@
 -- The starred cases (01-scope.md, What a contract says, and the cases; the margins as in
--- 02-change-requests.md, Ask 5, with those next to a half and the ends): rows of one table.
+-- 02-change-requests.md, Ask 5, with those next to a half and the ends; the slots from settings on
+-- as in Ask 6, with an acknowledgement that comes again after a reset): rows of one table.
 -- A row has what the definitions give and what they should give, as numbers.
 -- Cases of a tick go through `tickOf`, the definition that `tick` promises, from run states that
 -- ticks after a reset leave. What the cases say of every run state is in specs/ForAll.
@@ -71,6 +72,7 @@ rowTick limits rt t missed ack trips = rowTickAt zeroFloat limits rt t missed ac
 
 -- ---- run states that rows start from: each is one tick after the one before it, from the reset on
 
+-- settings, and a reset
 unfoldable pub armed : FuseRt
 armed = resetOf newOf
 
@@ -81,6 +83,10 @@ braking limits = rowTick limits armed 0 0 NoAck 64 .rt
 -- standstill at 1
 unfoldable pub held : Hysteresis → FuseRt
 held limits = rowTick limits (braking limits) 1 0 NoAck 0 .rt
+
+-- a Resume of slot 3 with nonce 1 at 2, and a reset
+unfoldable pub spent : Hysteresis → FuseRt
+spent limits = resetOf (rowTick limits (held limits) 2 0 (Given (rowAck Resume 3 1 0)) 0 .rt)
 
 -- the hold limit at 2, where H is 0: the handoff with number 1 begins
 unfoldable pub escalated : Hysteresis → FuseRt
@@ -114,9 +120,9 @@ endingNonce r =
 unfoldable pub clamping : Ticked → List ℕ
 clamping r = stateCode (r .verdict .«prev_state») ∷ stateCode (r .verdict .state) ∷ r .rt .control .clamps ∷ []
 
--- whether the acceptance rule takes it, in the state that the reset leaves
-unfoldable pub acceptance : VerifiedAck → List ℕ
-acceptance a = bit (acceptedBy (resetOf newOf .control .«handoff_seq») (resetOf newOf .control .«last_nonce») a) ∷ []
+-- whether the acceptance rule takes it, in this run state
+unfoldable pub acceptance : FuseRt → VerifiedAck → List ℕ
+acceptance rt a = bit (acceptedBy (rt .control .«handoff_seq») (rt .control .«last_nonce») a) ∷ []
 
 -- what is printed of the margin with these bits
 unfoldable pub printed : ℕ → List ℕ
@@ -151,11 +157,16 @@ starred =
     -- the handoff limit 0, and nobody answers
     ending (rowTick quickEnd (escalated quickEnd) 3 0 NoAck 0) is (6 ∷ 8 ∷ 4096 ∷ 25 ∷ [])
     -- a nonce of 0 while held: nothing is stored and the fuse stays held
-    ∷ acceptance (rowAck Resume 3 0 0) is (0 ∷ [])
+    ∷ acceptance armed (rowAck Resume 3 0 0) is (0 ∷ [])
     ∷ endingNonce (rowTick usualLimits (held usualLimits) 2 0 (Given (rowAck Resume 3 0 0)) 0) is (5 ∷ 5 ∷ 13 ∷ 0 ∷ [])
-    -- the last slot there is, and the one past it
-    ∷ acceptance (rowAck Resume 7 1 0) is (1 ∷ [])
-    ∷ acceptance (rowAck Resume 8 1 0) is (0 ∷ [])
+    -- the last slot there is, and the one past it: from settings, before the first reset and after it
+    ∷ acceptance newOf (rowAck Resume 7 1 0) is (1 ∷ [])
+    ∷ acceptance armed (rowAck Resume 7 1 0) is (1 ∷ [])
+    ∷ acceptance newOf (rowAck Resume 8 1 0) is (0 ∷ [])
+    ∷ acceptance armed (rowAck Resume 8 1 0) is (0 ∷ [])
+    -- one that was consumed, after a reset, with the handoff number that it had: it, and the next nonce
+    ∷ acceptance (spent usualLimits) (rowAck Resume 3 1 0) is (0 ∷ [])
+    ∷ acceptance (spent usualLimits) (rowAck Resume 3 2 0) is (1 ∷ [])
     -- a Retune in each of the two states that take acknowledgements
     ∷ endingNonce (rowTick quickHandoff (escalated quickHandoff) 3 0 (Given (rowAck Retune 3 1 1)) 0) is (6 ∷ 8 ∷ 26 ∷ 1 ∷ [])
     ∷ endingNonce (rowTick usualLimits (held usualLimits) 2 0 (Given (rowAck Retune 3 1 0)) 0) is (5 ∷ 5 ∷ 13 ∷ 0 ∷ [])

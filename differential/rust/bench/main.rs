@@ -114,8 +114,11 @@ struct Rust {
 }
 
 impl Rust {
+    /// With the nonces carried over, as the fuse has it by request.
     fn reset(&self, rt: &mut FuseRt) {
+        let nonces = rt.last_nonce;
         rt.reset(EpisodeInit { episode_index: 0, seed: 0, delay_steps: 0, exec: ExecMode::Sync });
+        rt.last_nonce = nonces;
     }
 
     fn tick(&self, rt: &mut FuseRt, call: &Call) -> SafetyVerdict {

@@ -1,8 +1,9 @@
 //! Compares programs with the Rust reference on generated journals.
 //!
-//!     compare [--fuse COMMAND] [--trace COMMAND] [options] [JOURNAL ..]
+//!     compare [--fuse COMMAND] [--trace COMMAND] [--proximity COMMAND] [options] [JOURNAL ..]
 //!
-//! COMMAND is a path with arguments after blanks. With files, those journals are compared; else generated ones:
+//! COMMAND is a path with arguments after blanks. A program has to print what the reference does and nothing on standard
+//! error, and to end with status 0. With files, those journals are compared; else generated ones:
 //!     --seeds N      so many seeds (20)
 //!     --first S      from this one on (1)
 //!     --profile P    this profile alone (may be repeated)
@@ -80,6 +81,7 @@ fn options() -> Result<Options, String> {
         match arg.as_str() {
             "--fuse" => given.subjects.push(subject(Program::Fuse, &value()?)),
             "--trace" => given.subjects.push(subject(Program::Trace, &value()?)),
+            "--proximity" => given.subjects.push(subject(Program::Proximity, &value()?)),
             "--seeds" => given.seeds = number(value()?)?,
             "--first" => given.first = number(value()?)?,
             "--profile" => {
@@ -113,13 +115,14 @@ fn options() -> Result<Options, String> {
             given.left_out.iter().map(|name| Field { name: name.clone(), lines: Cell::new(0) }).collect();
     }
     if given.subjects.is_empty() && given.write.is_none() && !given.show {
-        return Err("nothing to compare: give --fuse or --trace".into());
+        return Err("nothing to compare: give --fuse, --trace or --proximity".into());
     }
     Ok(given)
 }
 
 fn subject(program: Program, command: &str) -> Subject {
-    Subject { program, command: command.split_whitespace().map(String::from).collect(), left_out: Vec::new() }
+    let command = command.split_whitespace().map(String::from).collect();
+    Subject { program, command, left_out: Vec::new(), lines: Cell::new(0) }
 }
 
 fn main() -> ExitCode {
@@ -214,9 +217,16 @@ impl Run {
             let found = if i == 0 {
                 let found = subject.compare(journal, &mut self.coverage)?;
                 self.applied.iter_mut().zip(RULES).for_each(|(n, (rule, ..))| *n += u64::from(rules::applied(rule)));
-                let nan = rules::on(Rule::MaxIgnoresNan) && self.coverage.met_nan();
-                if rules::applied(Rule::MaxIgnoresNan) != nan && found.is_none() {
-                    return Err(io::Error::other(format!("{name}: the rule of max applied where no NaN was met, or did not")));
+                let met = [
+                    (Rule::MaxIgnoresNan, self.coverage.met_nan()),
+                    (Rule::ResetKeepsNonces, self.coverage.carried_nonces()),
+                ];
+                for (rule, met) in met {
+                    if rules::applied(rule) != (rules::on(rule) && met) && found.is_none() {
+                        let what =
+                            format!("{name}: {rule:?} applied where it has no case, or did not where it has one");
+                        return Err(io::Error::other(what));
+                    }
                 }
                 found
             } else {
@@ -279,6 +289,15 @@ impl Run {
             "NaNs that max met: as s in {} ticks, as the z of a live channel in {}, as the brake factor in {}",
             nan.s, nan.live_z, nan.factor
         );
+        let acks = self.coverage.ack_ticks();
+        println!(
+            "acknowledgements: {} consumed, {} of them a second time; spent before a reset, and new again without the rule: \
+             {}, of which {} would be consumed",
+            acks.consumed, acks.twice, acks.stopped, acks.unconsumed
+        );
+        if rules::on(Rule::ResetKeepsNonces) && acks.twice > 0 {
+            return Err(io::Error::other("an acknowledgement was consumed twice"));
+        }
         for (i, name) in self.given.left_out.iter().enumerate() {
             let lines: u64 = self.given.subjects.iter().map(|subject| subject.left_out[i].lines.get()).sum();
             if lines == 0 {
@@ -286,6 +305,8 @@ impl Run {
             }
             println!("left out: {name} in {lines} lines");
         }
+        let lines = self.given.subjects.iter().map(|subject| format!("{} {:?}", subject.lines.get(), subject.program));
+        println!("lines that are the same: {}", lines.collect::<Vec<_>>().join(", "));
         println!(
             "{} ticks in {} journals of {} bytes, {} programs, {seconds:.1} s ({:.0} ticks/s), {} differences",
             self.coverage.ticks,

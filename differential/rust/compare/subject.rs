@@ -19,6 +19,8 @@ pub struct Subject {
     pub program: Program,
     pub command: Vec<String>,
     pub left_out: Vec<Field>,
+    /// how many lines it printed in journals that show no difference
+    pub lines: Cell<u64>,
 }
 
 /// A field of the trace that is left out on both sides, and how many lines of the program that were.
@@ -52,14 +54,19 @@ impl Subject {
             .args(&self.command[1..])
             .stdin(Stdio::piped())
             .stdout(Stdio::piped())
-            .stderr(Stdio::null())
+            .stderr(Stdio::piped())
             .spawn()
             .map_err(|what| io::Error::new(what.kind(), format!("{}: {what}", self.command[0])))?;
         let stdin = child.stdin.take().expect("piped");
         let mut stdout = child.stdout.take().expect("piped");
+        let mut stderr = child.stderr.take().expect("piped");
         let (alive, watch) = mpsc::channel();
         thread::scope(|scope| {
             scope.spawn(|| feed(stdin, journal));
+            let errors = scope.spawn(move || {
+                let mut said = Vec::new();
+                stderr.read_to_end(&mut said).map(|_| said)
+            });
             let watcher = scope.spawn(move || {
                 let silent = loop {
                     match watch.recv_timeout(PATIENCE) {
@@ -82,7 +89,11 @@ impl Subject {
                 return Ok(Some(self.ended("nothing for a minute, and was stopped".into())));
             }
             let found = compared?;
-            if found.is_none() && status.code().is_none() {
+            let said = errors.join().expect("reading does not panic")?;
+            if found.is_none() && !said.is_empty() {
+                return Ok(Some(self.ended(format!("on standard error: {}", said.escape_ascii()))));
+            }
+            if found.is_none() && !status.success() {
                 return Ok(Some(self.ended(format!("all lines, but ended with {status}"))));
             }
             Ok(found)
@@ -104,13 +115,14 @@ impl Subject {
         let mut answer = Answer::new(self.program, journal);
         let mut expected = Vec::new();
         let mut at = 0;
-        let mut equal = 0;
+        let (mut equal, mut lines) = (0, 0);
         let mut buffer = vec![0; 1 << 16];
         let (mut come, mut kept) = (Vec::new(), Vec::new());
         loop {
             let n = stdout.read(&mut buffer)?;
             alive();
             let mut got = &buffer[..n];
+            lines += got.iter().filter(|b| **b == b'\n').count() as u64;
             if !self.left_out.is_empty() {
                 come.extend_from_slice(got);
                 kept.clear();
@@ -139,6 +151,9 @@ impl Subject {
             }
             if n == 0 {
                 let all = at == expected.len();
+                if all {
+                    self.lines.set(self.lines.get() + lines);
+                }
                 return Ok(if all { None } else { Some(self.locate(journal, equal, b"")) });
             }
         }

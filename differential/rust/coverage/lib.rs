@@ -8,14 +8,17 @@ use std::io::{self, Write};
 use lictor_core::{fmath, AckDecision, ActionSource, FuseState, ReasonCode, TripMask};
 use oracle::{
     journal::{Observer, Ticked},
-    records::Settings,
+    records::{self, Settings, WIDTH},
 };
 
 mod counts;
 mod points;
+mod spent;
 
 use counts::{product, Counts, Grid, Group, Named, Point};
 use points::*;
+pub use spent::AckTicks;
+use spent::Spent;
 
 /// A fact that later ticks of an episode need.
 #[derive(Default)]
@@ -30,6 +33,22 @@ struct Memory {
     nan_s: bool,
     /// a tick of the journal had a NaN in one of the three places
     nan: bool,
+    width: Option<f64>,
+    fault_ticks: u32,
+    walls: Walls,
+}
+
+/// What the walls' points need of the ticks before.
+#[derive(Default)]
+struct Walls {
+    /// the position at the clean tick before, since the reset
+    clean: Option<Vec<f64>>,
+    /// and the last one before the reset
+    before_reset: Option<Vec<f64>>,
+    /// positions of the fault ticks since that clean tick
+    faults: Vec<Vec<f64>>,
+    /// by component, whether `out` was its last line
+    out: [bool; 8],
 }
 
 /// In how many ticks each maximum met a NaN.
@@ -58,6 +77,7 @@ pub struct Coverage {
     pairs: Grid,
     acks: Grid,
     ack_more: Counts<AckMore>,
+    spent: Spent,
     ends: Counts<End>,
     limits: Counts<Limit>,
     odd: Counts<Odd>,
@@ -65,6 +85,8 @@ pub struct Coverage {
     velocity: Counts<Velocity>,
     scored: Counts<Scored>,
     shapes: Counts<Shape>,
+    widths: Counts<Width>,
+    walls: Counts<Wall>,
     now: Memory,
 }
 
@@ -107,6 +129,7 @@ impl Coverage {
                     row < 3 && class == AckClass::NonceBelow as usize
                 }),
             ack_more: Counts::new("acknowledgements against other lines"),
+            spent: Spent::new(),
             ends: Counts::new("counters at their ends"),
             limits: Counts::new("limits and masks"),
             odd: Counts::new("odd floats"),
@@ -114,11 +137,13 @@ impl Coverage {
             velocity: Counts::new("velocity"),
             scored: Counts::new("window, scores, chunks, marks"),
             shapes: Counts::new("journals"),
+            widths: Counts::new("kind 8"),
+            walls: Counts::new("walls of the box"),
             now: Memory::default(),
         }
     }
 
-    fn groups(&self) -> [&Group; 21] {
+    fn groups(&self) -> [&Group; 25] {
         [
             &self.rows.group,
             &self.states.group,
@@ -134,6 +159,8 @@ impl Coverage {
             &self.pairs.group,
             &self.acks.group,
             &self.ack_more.group,
+            &self.spent.by_state.group,
+            &self.spent.more.group,
             &self.ends.group,
             &self.limits.group,
             &self.odd.group,
@@ -141,6 +168,8 @@ impl Coverage {
             &self.velocity.group,
             &self.scored.group,
             &self.shapes.group,
+            &self.widths.group,
+            &self.walls.group,
         ]
     }
 
@@ -148,6 +177,16 @@ impl Coverage {
     pub fn begin(&mut self) {
         self.journals += 1;
         self.now = Memory::default();
+        self.spent.begin();
+    }
+
+    pub fn ack_ticks(&self) -> AckTicks {
+        self.spent.ticks
+    }
+
+    /// Whether a reset of this journal came when a nonce was spent.
+    pub fn carried_nonces(&self) -> bool {
+        self.spent.carried()
     }
 
     /// Whether a tick of this journal had a NaN as s, as the z of a live channel or as the brake factor's share.
@@ -282,6 +321,10 @@ impl Coverage {
         let length = pos.len() == usize::from(k.settings.pos_dim);
         let finite = pos.iter().all(|x| x.is_finite());
         self.now.fault_position = length && finite;
+        self.now.fault_ticks += 1;
+        if length && finite {
+            self.now.walls.faults.push(pos.to_vec());
+        }
         let guard = &mut self.guard;
         guard.hit_if(Guard::PosTaken, length && finite);
         guard.hit_if(Guard::PosNotFinite, length && !finite);
@@ -302,6 +345,7 @@ impl Coverage {
             "the guard finds a fault where this file finds none"
         );
         self.guard_passes(k);
+        self.at_walls(k);
         self.motion(k);
         self.scores(k);
         self.window(k);
@@ -316,6 +360,7 @@ impl Coverage {
         } else {
             self.by_state(k, kept);
             self.ack(k);
+            self.spent.acknowledged(k);
         }
     }
 
@@ -517,7 +562,7 @@ impl Coverage {
         limits.hit_if(Limit::ChunkNotOk, due && blocked);
         let budget = v.reason == ReasonCode::EscalateRearmBudget;
         limits.hit_if(Limit::MaxRearms0, budget && s.max_rearms == 0);
-        limits.hit_if(Limit::Budget, budget && s.max_rearms > 0 && k.after.last_nonce != [0; 8]);
+        limits.hit_if(Limit::Budget, budget && s.max_rearms > 0 && self.spent.since_reset());
         limits.hit_if(Limit::AckOnlyBudget, budget && s.rearm == 1);
         limits.hit_if(Limit::H0, s.hold == 0 && v.state == FuseState::Escalated);
         if v.reason == ReasonCode::RearmedAuto {
@@ -648,6 +693,112 @@ impl Coverage {
         }
     }
 
+    fn refused_width(&mut self, body: Option<&[u8]>, causes: &[u8]) {
+        let w = body.map_or(0.0, |body| records::Width::read(body).w);
+        let points = &mut self.widths;
+        match causes[0] {
+            6 => points.hit(Width::Cut),
+            8 => points.hit(Width::BeforeSettings),
+            9 => {
+                let Memory { ticks, fault_ticks, resets, .. } = self.now;
+                match (self.now.width.is_some(), resets, ticks - fault_ticks, fault_ticks) {
+                    (true, 0, 0, 0) => points.hit(Width::Again),
+                    (false, 1.., 0, 0) => points.hit(Width::AfterReset),
+                    (false, 0, 1.., _) => points.hit(Width::AfterTick),
+                    (false, 0, 0, 1..) => points.hit(Width::AfterFaultTick),
+                    _ => {}
+                }
+                points.hit_if(Width::LateAndBad, causes.contains(&3));
+            }
+            _ if w.is_nan() => points.hit(Width::Nan),
+            _ if w == f64::INFINITY => points.hit(Width::Infinite),
+            _ if w == f64::NEG_INFINITY => points.hit(Width::MinusInfinite),
+            _ => points.hit(Width::BelowZero),
+        }
+    }
+
+    /// The walls of the box on a clean tick, by this file's own reading of Ask 7.
+    fn at_walls(&mut self, k: &Ticked) {
+        let (s, now) = (k.settings, k.input.obs.pos);
+        let memory = std::mem::take(&mut self.now.walls);
+        let mut next = Walls { clean: Some(now.to_vec()), ..Walls::default() };
+        let mut lines = [0, 0];
+        for c in 0..usize::from(s.pos_dim) {
+            let line = self.at_wall(k, c, now[c], &memory);
+            next.out[c] = line == Some(1) || line.is_none() && memory.out[c];
+            line.into_iter().for_each(|which: usize| lines[which] += 1);
+        }
+        let walls = &mut self.walls;
+        let any = lines[0] + lines[1] > 0;
+        if self.now.width.is_none() {
+            walls.hit_if(Wall::NoWidth, any);
+        } else {
+            walls.hit_if(Wall::One, any && s.pos_dim == 1);
+            walls.hit_if(Wall::Eight, lines[0] + lines[1] == 8);
+            walls.hit_if(Wall::Both, lines[0] > 0 && lines[1] > 0);
+            walls.hit_if(Wall::Beyond, (usize::from(s.pos_dim)..8).any(|c| zero_is_near(s, c, self.now.width)));
+            walls.hit_if(Wall::Observe, lines[1] > 0 && s.mode == 0);
+            walls.hit_if(Wall::BeforeReset, lines[0] > 0 && self.now.resets == 0);
+            walls.hit_if(Wall::InFault, lines[0] > 0 && k.before.state == FuseState::Fault);
+            walls.hit_if(Wall::InTerminated, lines[0] > 0 && k.before.state == FuseState::Terminated);
+            walls.hit_if(Wall::OutcomeFault, lines[0] > 0 && fault_bit(k.input.outcome.trips));
+        }
+        self.now.walls = next;
+    }
+
+    /// One component: 0 where it is within (of width 1 where none came), 1 where it is out.
+    fn at_wall(&mut self, k: &Ticked, c: usize, x: f64, memory: &Walls) -> Option<usize> {
+        let (lo, hi) = (k.settings.box_lo[c], k.settings.box_hi[c]);
+        let w = self.now.width;
+        let is_in = |x: f64| lo <= x && x <= hi;
+        let was_in = |pos: &Option<Vec<f64>>| pos.as_ref().is_some_and(|pos| is_in(pos[c]));
+        let fault_at = |inside: bool| memory.faults.iter().any(|pos| is_in(pos[c]) == inside);
+        let (to_hi, to_lo) = (hi - x, x - lo);
+        let out = !is_in(x) && was_in(&memory.clean);
+        let Some(w) = w else {
+            return if is_in(x) { (to_hi < 1.0 || to_lo < 1.0).then_some(0) } else { out.then_some(1) };
+        };
+        let walls = &mut self.walls;
+        let beside = |face: f64| [floats_down(face), floats_up(face)];
+        walls.hit_if(Wall::NextInHi, is_in(x) && x == beside(hi)[0]);
+        walls.hit_if(Wall::NextInLo, is_in(x) && x == beside(lo)[1]);
+        walls.hit_if(Wall::NextOutHi, x == beside(hi)[1]);
+        walls.hit_if(Wall::NextOutLo, x == beside(lo)[0]);
+        if !is_in(x) {
+            walls.hit_if(Wall::OutHi, out && x > hi);
+            walls.hit_if(Wall::OutLo, out && x < lo);
+            walls.hit_if(Wall::ZeroOut, out && w == 0.0);
+            walls.hit_if(Wall::PastFault, out && !memory.faults.is_empty());
+            walls.hit_if(Wall::FaultElsewhere, out && fault_at(false));
+            walls.hit_if(Wall::FaultInside, !out && fault_at(true));
+            walls.hit_if(Wall::FirstOutside, memory.clean.is_none());
+            walls.hit_if(Wall::PastReset, memory.clean.is_none() && was_in(&memory.before_reset));
+            walls.hit_if(Wall::StillOutside, memory.clean.is_some() && !out);
+            return out.then_some(1);
+        }
+        let (by_hi, by_lo) = (to_hi < w, to_lo < w);
+        walls.hit(match (by_hi, by_lo) {
+            (true, false) => Wall::WithinHi,
+            (false, true) => Wall::WithinLo,
+            (true, true) => Wall::WithinBoth,
+            (false, false) => Wall::NotWithin,
+        });
+        let within = by_hi || by_lo;
+        walls.hit_if(Wall::OnHi, x == hi);
+        walls.hit_if(Wall::OnLo, x == lo);
+        walls.hit_if(Wall::WidthIsHi, to_hi == w && w > 0.0 && !within);
+        walls.hit_if(Wall::WidthIsLo, to_lo == w && w > 0.0 && !within);
+        let rest = [(hi, x, to_hi), (x, lo, to_lo)].map(|(a, b, d)| (d, lost(a, b, d)));
+        walls.hit_if(Wall::RoundedUp, rest.iter().any(|(d, lost)| *d == w && *lost < 0.0) && !within);
+        walls.hit_if(Wall::RoundedDown, rest.iter().any(|(d, lost)| *d == w && *lost > 0.0) && !within);
+        walls.hit_if(Wall::Overflows, to_hi.is_infinite() || to_lo.is_infinite());
+        walls.hit_if(Wall::Flat, lo == hi);
+        walls.hit_if(Wall::MinusZeroApart, is_neg_zero(to_hi) || is_neg_zero(to_lo));
+        walls.hit_if(Wall::ZeroOnFace, w == 0.0 && (x == hi || x == lo));
+        walls.hit_if(Wall::Back, memory.out[c]);
+        within.then_some(0)
+    }
+
     fn row(&mut self, k: &Ticked) {
         use FuseState::*;
         let (from, v) = (k.before.state, k.verdict);
@@ -701,13 +852,18 @@ impl Observer for Coverage {
 
     fn reset(&mut self, waiting: bool) {
         self.shapes.hit_if(Shape::ThrownAway, waiting);
-        let Memory { ticks, resets, nan, .. } = self.now;
-        self.now = Memory { ticks, resets: resets + 1, settings: true, nan, ..Memory::default() };
+        self.spent.reset();
+        let Memory { ticks, resets, nan, width, fault_ticks, .. } = self.now;
+        let clean = std::mem::take(&mut self.now.walls.clean);
+        let walls = Walls { before_reset: clean, ..Walls::default() };
+        self.now =
+            Memory { ticks, resets: resets + 1, settings: true, nan, width, fault_ticks, walls, ..Memory::default() };
     }
 
     fn ticked(&mut self, k: &Ticked) {
         self.ticks += 1;
         self.now.ticks += 1;
+        self.spent.ticked(k);
         let (s, v) = (k.settings, k.verdict);
         let mode = usize::from(s.mode);
         self.row(k);
@@ -734,7 +890,18 @@ impl Observer for Coverage {
         }
     }
 
-    fn refused(&mut self, causes: &[u8]) {
+    fn width(&mut self, w: f64, waiting: bool) {
+        self.now.width = Some(w);
+        self.widths.hit(Width::Accepted);
+        self.widths.hit_if(Width::Zero, w.to_bits() == 0);
+        self.widths.hit_if(Width::MinusZero, is_neg_zero(w));
+        self.widths.hit_if(Width::Waiting, waiting);
+    }
+
+    fn refused(&mut self, kind: u8, body: Option<&[u8]>, causes: &[u8]) {
+        if kind == WIDTH {
+            self.refused_width(body, causes);
+        }
         self.numbers.hit_nth(Refused::R1, usize::from(causes[0]) - 1);
         for later in &causes[1..] {
             let pair = PAIRS.iter().position(|p| *p == (causes[0], *later));
@@ -754,6 +921,32 @@ impl Observer for Coverage {
 
 fn is_neg_zero(x: f64) -> bool {
     x == 0.0 && x.is_sign_negative()
+}
+
+/// Whether a position of 0, as a run state has where none is given, would be within.
+fn zero_is_near(s: &Settings, c: usize, w: Option<f64>) -> bool {
+    let (lo, hi) = (s.box_lo[c], s.box_hi[c]);
+    lo <= 0.0 && hi >= 0.0 && w.is_some_and(|w| hi < w || -lo < w)
+}
+
+/// The next doubles above and below.
+fn floats_up(x: f64) -> f64 {
+    match x.to_bits() {
+        _ if x == 0.0 => f64::from_bits(1),
+        bits if x > 0.0 => f64::from_bits(bits + 1),
+        bits => f64::from_bits(bits - 1),
+    }
+}
+
+fn floats_down(x: f64) -> f64 {
+    -floats_up(-x)
+}
+
+/// What rounding took from a - b, where it gave d: its sign is right (the two-sum of doubles, exact if nothing overflows).
+fn lost(a: f64, b: f64, d: f64) -> f64 {
+    let back = d + b;
+    let part = d - back;
+    (a - back) + -(b + part)
 }
 
 fn fault_bit(trips: u32) -> bool {

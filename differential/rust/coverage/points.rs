@@ -87,6 +87,14 @@ points!(AckMore {
     HandoffAbove255 "handoff number above 255",
 });
 
+points!(Replay {
+    ResetsBetween "spent, and two or more resets since", OtherDecision "spent, with another decision",
+    OtherSlot "the same nonce from another slot: consumed", LastNonce "a slot whose last nonce was spent before the reset",
+    KeptArmed "reset with a stored nonce, in Armed", KeptWatching "in Watching", KeptClamped "in Clamped",
+    KeptBraking "in Braking", KeptHeld "in Held", KeptEscalated "in Escalated", KeptFault "in Fault",
+    KeptTerminated "in Terminated",
+});
+
 points!(End {
     CleanRun "clean_run stays at 65535", Clamps "clamps stay at 65535", ClampsOver "clamps above limit 65534",
     Rearms "rearms stay at 255", Streak "clamp_streak 255", Stopped "stopped_ticks 254",
@@ -157,11 +165,38 @@ points!(Refused {
     R1 "1", R2 "2", R3 "3", R4 "4", R5 "5", R6 "6", R7 "7", R8 "8", R9 "9", R10 "10",
 });
 
+points!(Width {
+    Accepted "accepted", Zero "+0 accepted", MinusZero "-0 accepted", Waiting "accepted while records wait",
+    Cut "cut by the end: 6", BeforeSettings "before settings: 8", Again "again: 9", AfterReset "after a reset: 9",
+    AfterTick "after a tick: 9", AfterFaultTick "after a fault tick: 9", LateAndBad "late and bad: 9",
+    Nan "NaN: 3", Infinite "infinite: 3", MinusInfinite "minus infinite: 3", BelowZero "below zero: 3",
+});
+
+// Of clean ticks under a width, by component.
+points!(Wall {
+    WithinHi "within by hi alone", WithinLo "within by lo alone", WithinBoth "within by both faces",
+    NotWithin "inside and not within", OutHi "out above hi", OutLo "out below lo",
+    OnHi "on hi", OnLo "on lo", NextInHi "next to hi, inside", NextInLo "next to lo, inside",
+    NextOutHi "next to hi, outside", NextOutLo "next to lo, outside",
+    WidthIsHi "W is the distance to hi: not within", WidthIsLo "W is the distance to lo: not within",
+    RoundedUp "the distance is less than W and rounds to it: not within", RoundedDown "the distance is more and rounds to W",
+    Overflows "a distance overflows", Flat "lo = hi, on it", MinusZeroApart "lo +0, hi -0: the distance is -0",
+    ZeroOnFace "W = 0 on a face: not within", ZeroOut "W = 0: out",
+    PastFault "out, a fault tick between", FaultElsewhere "out, a fault tick's position was outside too",
+    FaultInside "no out: inside at a fault tick alone", FirstOutside "no out: the first clean tick",
+    PastReset "no out: inside before the reset", StillOutside "no out: outside at the clean tick before",
+    Back "inside again after out", BeforeReset "within before any reset", InFault "within in Fault",
+    InTerminated "within in Terminated", OutcomeFault "within, with a fault bit of the outcome", Observe "out in Observe",
+    One "a line with pos_dim 1", Eight "eight lines of one tick", Beyond "a component from pos_dim on would have a line",
+    Both "within and out in one tick", NoWidth "no width, where a line would be",
+});
+
 /// The pairs of causes that one record can have, in the table's order.
-pub const PAIRS: [(u8, u8); 15] = [
+pub const PAIRS: [(u8, u8); 16] = [
     (6, 8),
     (6, 9),
     (8, 1),
+    (8, 3),
     (8, 10),
     (9, 1),
     (9, 2),

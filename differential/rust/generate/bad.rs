@@ -7,7 +7,7 @@ use crate::{
     floats,
     rng::Rng,
     settings::{roomy, small},
-    walk::{self, walk, CALM},
+    walk::{self, walk, Mix, CALM},
 };
 
 /// A journal of a few ticks.
@@ -31,7 +31,7 @@ fn bytes_of(kind: u8, write: impl Fn(&mut Vec<u8>)) -> Vec<u8> {
 fn any_record(rng: &Rng, bad_code: bool) -> Vec<u8> {
     let past = |rng: &Rng, last: u8| rng.pick(&[last + 1, last + 2, 128, 255]);
     let draft = Draft::new(small(rng));
-    match rng.range(1, 7) as u8 {
+    match rng.range(1, 8) as u8 {
         SETTINGS => {
             let mut s = small(rng);
             spoil(&mut s, rng, [bad_code, false, false, false]);
@@ -60,6 +60,10 @@ fn any_record(rng: &Rng, bad_code: bool) -> Vec<u8> {
                 outcome.feasible = past(rng, 1);
             }
             bytes_of(OUTCOME, |to| outcome.write(to))
+        }
+        WIDTH if !bad_code => {
+            let w = if rng.chance(300) { floats::bad_width(rng) } else { floats::width(rng) };
+            bytes_of(WIDTH, |to| Width { w }.write(to))
         }
         _ => {
             let mut tick = Tick { t: rng.bits() as u32, idx: 0, missed: 0, schema: 0, velocity: 0 };
@@ -132,7 +136,7 @@ pub fn refusals(rng: &Rng) -> Vec<Vec<u8>> {
     for journal in &mut journals {
         // Bytes after a refused record are not looked at.
         for _ in 0..rng.pick(&[0, 0, 3, 300]) {
-            journal.push(rng.below(9) as u8);
+            journal.push(rng.below(10) as u8);
         }
     }
     journals
@@ -140,7 +144,7 @@ pub fn refusals(rng: &Rng) -> Vec<Vec<u8>> {
 
 fn unknown_kind(rng: &Rng) -> Vec<u8> {
     let mut bytes = if some(rng) { short(rng).bytes } else { Vec::new() };
-    bytes.push(rng.pick(&[0, 8, 9, 10, 11, 128, 255]));
+    bytes.push(rng.pick(&[0, 9, 10, 11, 12, 128, 255]));
     bytes
 }
 
@@ -318,6 +322,80 @@ fn far_along(rng: &Rng) -> Vec<u8> {
     draft.bytes
 }
 
+/// What makes a width late: another one, a reset, a clean tick, a fault tick.
+const LATE: [fn(&mut Draft, &Rng); 4] = [
+    |draft, rng| draft.width(floats::width(rng)),
+    |draft, _| draft.reset(),
+    |draft, rng| {
+        let plan = draft.good(0, rng);
+        draft.send(&plan, rng);
+    },
+    |draft, rng| walk(draft, rng, &Mix { guard: 1000, reset_other: 0, ..CALM }, 1),
+];
+
+/// A late width, as good as the first or bad, alone and with another cause before.
+fn late_widths(rng: &Rng) -> Vec<Vec<u8>> {
+    let one = |late: &fn(&mut Draft, &Rng)| {
+        let mut draft = Draft::new(small(rng));
+        if rng.chance(200) {
+            draft.width(floats::width(rng));
+        }
+        late(&mut draft, rng);
+        draft.width(if some(rng) { floats::bad_width(rng) } else { floats::width(rng) });
+        walk(&mut draft, rng, &CALM, 2);
+        draft.bytes
+    };
+    LATE.iter().map(one).collect()
+}
+
+/// A width anywhere: good or bad, cut, before the settings, while records wait, again, after a reset or a tick. Ticks
+/// follow.
+pub fn widths(rng: &Rng) -> Vec<Vec<u8>> {
+    let mut journals = Vec::new();
+    for _ in 0..8 {
+        let mut draft = Draft::new(small(rng));
+        let mut plan = draft.good(0, rng);
+        plan.ack = some(rng).then(|| walk::ack(&draft, rng, 500));
+        let [waiting, reset] = std::array::from_fn(|_| some(rng));
+        if waiting {
+            plan.ack.take().into_iter().for_each(|ack| draft.ack(ack));
+            plan.pos.drain(..).for_each(|x| draft.value(POS, x));
+            plan.head.take().into_iter().for_each(|head| draft.head(head));
+        }
+        draft.width(match rng.below(8) {
+            0 => floats::bad_width(rng),
+            1 => rng.pick(&[0.0, -0.0]),
+            _ => floats::width(rng),
+        });
+        if rng.chance(100) {
+            draft.width(floats::width(rng));
+        }
+        if reset {
+            draft.reset();
+            plan = draft.good(0, rng);
+        }
+        draft.send(&plan, rng);
+        walk(&mut draft, rng, &CALM, rng.pick(&[0, 1, 5]));
+        if rng.chance(200) {
+            draft.width(floats::width(rng));
+        }
+        journals.push(draft.bytes);
+    }
+    for w in [f64::INFINITY, f64::NEG_INFINITY, floats::any_nan(rng), -f64::from_bits(1), floats::plain(rng, 1.0), -0.0]
+    {
+        let mut draft = Draft::new(small(rng));
+        draft.width(w);
+        walk(&mut draft, rng, &CALM, 1);
+        journals.push(draft.bytes);
+    }
+    journals.extend(late_widths(rng));
+    let alone = bytes_of(WIDTH, |to| Width { w: rng.pick(&[0.25, -1.0, f64::NAN]) }.write(to));
+    let cut = &alone[..rng.range(1, alone.len() - 1)];
+    let settings = bytes_of(SETTINGS, |to| small(rng).write(to));
+    journals.extend([cut.to_vec(), [&settings[..], cut].concat(), alone]);
+    journals
+}
+
 /// Every code, flag, size and settings float by itself: values on both sides of what is accepted.
 pub fn codes(rng: &Rng) -> Vec<Vec<u8>> {
     const BYTES: [u8; 18] = [0, 1, 2, 3, 4, 5, 6, 7, 8, 9, 10, 16, 64, 127, 128, 129, 254, 255];
@@ -352,9 +430,13 @@ pub fn codes(rng: &Rng) -> Vec<Vec<u8>> {
             [&waiting, &*bytes_of(TICK, |to| Tick { schema: x, ..tick }.write(to))].concat(),
             [&waiting, &*bytes_of(TICK, |to| Tick { velocity: x, ..tick }.write(to))].concat(),
             vec![x],
+            bytes_of(x, |to| Width { w: 0.5 }.write(to)),
         ] {
             journals.push([&*start.bytes, &*record].concat());
         }
+    }
+    for w in floats {
+        journals.push([&*start.bytes, &*bytes_of(WIDTH, |to| Width { w }.write(to))].concat());
     }
     journals
 }
@@ -363,7 +445,7 @@ pub fn bytes(rng: &Rng) -> Vec<Vec<u8>> {
     let mut journals = Vec::new();
     for _ in 0..2 {
         journals.push((0..rng.below(700)).map(|_| rng.bits() as u8).collect());
-        journals.push((0..rng.below(700)).map(|_| rng.below(9) as u8).collect());
+        journals.push((0..rng.below(700)).map(|_| rng.below(10) as u8).collect());
     }
     for _ in 0..6 {
         let mut bytes = short(rng).bytes;
@@ -375,7 +457,7 @@ pub fn bytes(rng: &Rng) -> Vec<Vec<u8>> {
                 2 => {
                     bytes.remove(at);
                 }
-                3 => bytes.insert(at, rng.below(9) as u8),
+                3 => bytes.insert(at, rng.below(10) as u8),
                 _ => {
                     let end = (at + rng.below(300)).min(bytes.len());
                     let part = bytes[at..end].to_vec();
@@ -399,6 +481,7 @@ fn all_kinds(rng: &Rng) -> Vec<u8> {
     s.dim = 1;
     s.pos_dim = 1;
     let mut draft = Draft::new(s);
+    draft.width(floats::width(rng));
     draft.reset();
     let mut plan = draft.good(0, rng);
     plan.ack = Some(walk::ack(&draft, rng, 500));

@@ -117,6 +117,12 @@ impl Draft {
         self.record(HEAD, &body);
     }
 
+    pub fn width(&mut self, w: f64) {
+        let mut body = Vec::with_capacity(Width::LEN);
+        Width { w }.write(&mut body);
+        self.record(WIDTH, &body);
+    }
+
     pub fn outcome(&mut self, outcome: &Outcome) {
         let mut body = Vec::with_capacity(Outcome::LEN);
         outcome.write(&mut body);

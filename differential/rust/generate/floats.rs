@@ -77,6 +77,24 @@ pub fn down(x: f64) -> f64 {
     -up(-x)
 }
 
+/// A width that is accepted: ordinary, zero of both signs, the smallest and the largest.
+pub fn width(rng: &Rng) -> f64 {
+    match rng.below(6) {
+        0 => rng.pick(&[0.0, -0.0, f64::from_bits(1), f64::MIN_POSITIVE, f64::MAX]),
+        1 => odd_finite(rng).abs(),
+        2 => rng.pick(&[0.25, 0.5, 1.0, 2.0]),
+        _ => plain(rng, 1.0).abs(),
+    }
+}
+
+/// A width that is refused: not finite, or below zero by much or little.
+pub fn bad_width(rng: &Rng) -> f64 {
+    match rng.below(3) {
+        0 => rng.pick(&[-f64::from_bits(1), -1.0, f64::MIN, -f64::MIN_POSITIVE]),
+        _ => not_finite(rng),
+    }
+}
+
 /// A margin: near a half millimetre, near the ends of the printed range, near zero, or odd.
 pub fn margin(rng: &Rng) -> f64 {
     let size = match rng.below(9) {

@@ -8,3 +8,4 @@ pub mod profiles;
 pub mod rng;
 pub mod settings;
 pub mod walk;
+pub mod walls;

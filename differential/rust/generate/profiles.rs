@@ -10,6 +10,7 @@ use crate::{
     rng::Rng,
     settings::{self, *},
     walk::{self, walk, Mix, CALM},
+    walls,
 };
 
 /// How often a profile is run: with every seed, or with the first one alone.
@@ -41,7 +42,7 @@ const fn once(name: &'static str, what: &'static str, make: fn(&Rng) -> Vec<Vec<
     Profile { name, what, often: Often::Once, make }
 }
 
-pub const PROFILES: [Profile; 33] = [
+pub const PROFILES: [Profile; 37] = [
     each("mixed", "a bit of everything under small limits", |rng| {
         let s = small(rng);
         run(s, rng, &CALM, 300)
@@ -145,6 +146,7 @@ pub const PROFILES: [Profile; 33] = [
     each("clock", "missed ticks, the clock at its end, nonsense times", clock),
     each("idle", "ticks before any reset", idle),
     each("resets", "resets anywhere, with records waiting", resets),
+    each("replays", "acknowledgements of the episodes before, after resets", replays),
     each("observe", "Observe: stops that pass the policy's row", |rng| {
         let mut s = small(rng);
         s.mode = OBSERVE;
@@ -153,6 +155,9 @@ pub const PROFILES: [Profile; 33] = [
         run(s, rng, &mix, 300)
     }),
     each("triples", "every three events in a row, from a state that the seed chooses", triples),
+    each("walls", "positions about the walls of the box, with fault ticks and resets", walls::walls),
+    each("faces", "on each face and next to it, and every width about the distance", walls::faces),
+    each("widths", "kind 8 good and bad, late, again, cut, while records wait", bad::widths),
     each("refusals", "each cause of refusal, alone and with others", bad::refusals),
     each("bytes", "random bytes, and good journals damaged", bad::bytes),
     each("cuts", "a good journal cut anywhere", bad::cuts),
@@ -449,6 +454,53 @@ fn resets(rng: &Rng) -> Vec<Vec<u8>> {
         walk(&mut draft, rng, &mix, 5);
     }
     vec![draft.bytes]
+}
+
+fn replays(rng: &Rng) -> Vec<Vec<u8>> {
+    let mut s = small(rng);
+    s.brake = 30;
+    s.confirm = rng.pick(&[0, 1, 2]);
+    s.rearm = rng.pick(&[AUTO, ACK_ONLY, ACK_ONLY]);
+    s.hold = rng.pick(&[0, 1, 4]);
+    s.handoff = rng.pick(&[3, 30]);
+    let mix = Mix { infeasible: 400, still: 950, ack: 0, ack_elsewhere: 0, guard: 2, ..CALM };
+    let mut draft = Draft::new(s);
+    let mut came: Vec<Ack> = Vec::new();
+    draft.reset();
+    for _ in 0..300 {
+        let over = matches!(draft.state(), FuseState::Fault | FuseState::Terminated);
+        if rng.chance(if over { 700 } else { 40 }) {
+            draft.reset();
+        }
+        let mut plan = walk::next(&draft, rng, &mix);
+        let heard = matches!(draft.state(), FuseState::Held | FuseState::Escalated);
+        if rng.chance(if heard { 700 } else { 100 }) {
+            plan.ack = Some(replay(&came, &draft, rng));
+            came.extend(plan.ack);
+        }
+        draft.send(&plan, rng);
+    }
+    vec![draft.bytes]
+}
+
+/// An acknowledgement that came before, as it was or with something changed, or a new one.
+fn replay(came: &[Ack], draft: &Draft, rng: &Rng) -> Ack {
+    if came.is_empty() || rng.chance(250) {
+        return walk::ack(draft, rng, 900);
+    }
+    let rt = draft.rt();
+    let old = came[rng.below(came.len())];
+    let mut ack = Ack { handoff: rt.handoff_seq, ..old };
+    let stored = rt.last_nonce.get(usize::from(old.slot)).copied().unwrap_or(0);
+    match rng.below(9) {
+        0 => return old,
+        1 => ack.decision = rng.below(3) as u8,
+        2 | 3 => ack.nonce = stored.saturating_add(1),
+        4 => ack.nonce = stored.saturating_sub(1),
+        5 => ack.slot = rng.below(8) as u8,
+        _ => {}
+    }
+    ack
 }
 
 /// One event of a short sequence.

@@ -164,10 +164,15 @@ fn score(s: &Settings, rng: &Rng, mix: &Mix) -> f64 {
 /// An acknowledgement: acceptable so many times in a thousand, else wrong in one or several ways.
 pub fn ack(draft: &Draft, rng: &Rng, good: u32) -> Ack {
     let rt = draft.rt();
-    let used = rt.last_nonce.iter().position(|nonce| *nonce > 0);
-    let slot = used.filter(|_| rng.chance(500)).unwrap_or(rng.below(8)) as u8;
+    // Nonces are kept over resets, so large steps are rare, and a slot at its last nonce gives way to one that is not.
+    let used = rt.last_nonce.iter().position(|nonce| *nonce > 0 && *nonce < u64::MAX);
+    let mut slot = used.filter(|_| rng.chance(500)).unwrap_or(rng.below(8)) as u8;
+    if rt.last_nonce[usize::from(slot)] == u64::MAX && rng.chance(800) {
+        slot = rt.last_nonce.iter().position(|nonce| *nonce < u64::MAX).map_or(slot, |open| open as u8);
+    }
     let stored = rt.last_nonce[usize::from(slot)];
-    let more = stored.saturating_add(rng.pick(&[1, 1, 1, 2, 1000, 1 << 40, 1 << 63, u64::MAX]));
+    let step = if rng.chance(60) { rng.pick(&[1 << 40, 1 << 63, u64::MAX]) } else { rng.pick(&[1, 1, 1, 2, 1000]) };
+    let more = stored.saturating_add(step);
     let mut ack = Ack { decision: rng.pick(&[0, 0, 1, 2]), slot, nonce: more, handoff: rt.handoff_seq };
     if rng.chance(good) {
         return ack;

@@ -1,11 +1,12 @@
-//! The journal machine: reads records, refuses as the table of 01-scope.md says, and calls the Rust's `decide`.
+//! The journal machine: reads records, refuses as the table of 01-scope.md says, with the rows that Ask 7 of
+//! 02-change-requests.md adds to, and calls the Rust's `decide`.
 
 use lictor_core::{
     AckDecision, ActionKind, BrakeKind, BrakeModel, CalibrationC, ChunkView, ClampMode, EpisodeInit, ExecMode,
     FuseConfig, FuseMode, FuseState, Hysteresis, ObsView, RearmPolicy, SafetyVerdict, VerifiedAck,
 };
 use lictor_fuse::{
-    fuse::{decide, FuseRt, TickInput},
+    fuse::{decide, guard, FuseRt, TickInput},
     tally::Tally,
 };
 use rules::Rule;
@@ -26,6 +27,8 @@ pub struct Ticked<'a> {
     pub input: &'a TickInput<'a>,
     pub verdict: &'a SafetyVerdict,
     pub after: &'a FuseRt,
+    /// the bits that the guard found, none of them on a clean tick; only where the observer asks for them
+    pub guard: Option<u32>,
 }
 
 /// The parts of the run state before a tick that observers look at.
@@ -75,19 +78,55 @@ impl Before {
 }
 
 pub trait Observer {
+    /// Whether it looks at what the guard found.
+    const ASKS_GUARD: bool = false;
+
     fn settings(&mut self, _settings: &Settings) {}
+    /// Kind 8, which nothing in this file uses; `waiting`: records were collected before it.
+    fn width(&mut self, _w: f64, _waiting: bool) {}
     /// `waiting`: collected records were thrown away.
     fn reset(&mut self, _waiting: bool) {}
     fn ticked(&mut self, _tick: &Ticked) {}
     /// The end of input; `waiting`: collected records were left over.
     fn ended(&mut self, _waiting: bool, _ticks: u32) {}
-    /// `causes` are all rows of the table that apply, in its order; the first one is the refusal's.
-    fn refused(&mut self, _causes: &[u8]) {}
+    /// `causes` are all rows of the table that apply, in its order; the first one is the refusal's. There is no body where
+    /// the end cuts it, or where there is no such kind.
+    fn refused(&mut self, _kind: u8, _body: Option<&[u8]>, _causes: &[u8]) {}
 }
 
 /// Looks at nothing.
 pub struct Unobserved;
 impl Observer for Unobserved {}
+
+/// Two observers at once.
+impl<A: Observer, B: Observer> Observer for (&mut A, &mut B) {
+    const ASKS_GUARD: bool = A::ASKS_GUARD || B::ASKS_GUARD;
+
+    fn settings(&mut self, settings: &Settings) {
+        self.0.settings(settings);
+        self.1.settings(settings);
+    }
+    fn width(&mut self, w: f64, waiting: bool) {
+        self.0.width(w, waiting);
+        self.1.width(w, waiting);
+    }
+    fn reset(&mut self, waiting: bool) {
+        self.0.reset(waiting);
+        self.1.reset(waiting);
+    }
+    fn ticked(&mut self, tick: &Ticked) {
+        self.0.ticked(tick);
+        self.1.ticked(tick);
+    }
+    fn ended(&mut self, waiting: bool, ticks: u32) {
+        self.0.ended(waiting, ticks);
+        self.1.ended(waiting, ticks);
+    }
+    fn refused(&mut self, kind: u8, body: Option<&[u8]>, causes: &[u8]) {
+        self.0.refused(kind, body, causes);
+        self.1.refused(kind, body, causes);
+    }
+}
 
 /// A journal up to some record.
 pub struct Journal {
@@ -98,6 +137,9 @@ pub struct Journal {
     head: Option<Head>,
     outcome: Option<Outcome>,
     lists: [Vec<f64>; 5],
+    /// a width came, and whether a reset or a tick did
+    has_width: bool,
+    begun: bool,
     place: u64,
 }
 
@@ -117,6 +159,8 @@ impl Journal {
             head: None,
             outcome: None,
             lists: Default::default(),
+            has_width: false,
+            begun: false,
             place: 0,
         }
     }
@@ -132,7 +176,7 @@ impl Journal {
         let record = Record { kind, body: body_len(kind).and_then(|n| rest.get(1..1 + n)) };
         if let Some(number) = record.refusals(self).next() {
             let causes: Vec<u8> = record.refusals(self).collect();
-            observer.refused(&causes);
+            observer.refused(kind, record.body, &causes);
             return Err(Refusal { number, place: self.place });
         }
         let body = record.body.expect("refused if there is no body");
@@ -160,6 +204,7 @@ impl Journal {
                     self.rt.last_nonce = nonces;
                 }
                 self.empty();
+                self.begun = true;
             }
             ACK => self.ack = Some(Ack::read(body)),
             HEAD => self.head = Some(Head::read(body)),
@@ -168,6 +213,10 @@ impl Journal {
                 self.lists[value.list as usize].push(value.x);
             }
             OUTCOME => self.outcome = Some(Outcome::read(body)),
+            WIDTH => {
+                observer.width(Width::read(body).w, self.waiting());
+                self.has_width = true;
+            }
             _ => return Some(self.tick(Tick::read(body), observer)),
         }
         None
@@ -192,7 +241,7 @@ impl Journal {
         self.lists.iter_mut().for_each(Vec::clear);
     }
 
-    fn tick(&mut self, tick: Tick, observer: &mut impl Observer) -> SafetyVerdict {
+    fn tick<O: Observer>(&mut self, tick: Tick, observer: &mut O) -> SafetyVerdict {
         let settings = self.settings.as_ref().expect("refused before settings");
         let cfg = self.cfg.as_ref().expect("refused before settings");
         let outcome = detected(self.outcome.as_ref().expect("refused without an outcome"));
@@ -214,9 +263,12 @@ impl Journal {
             outcome: &outcome,
         };
         let before = Before::of(&self.rt);
+        let guard = O::ASKS_GUARD.then(|| guard(cfg, &self.rt, &input));
         let verdict = decide(cfg, &mut self.rt, &input);
-        observer.ticked(&Ticked { settings, before: &before, input: &input, verdict: &verdict, after: &self.rt });
+        let after = &self.rt;
+        observer.ticked(&Ticked { settings, before: &before, input: &input, verdict: &verdict, after, guard });
         self.empty();
+        self.begun = true;
         verdict
     }
 }
@@ -234,17 +286,18 @@ type Row = (u8, fn(&Record, &Journal) -> bool);
 const TABLE: [Row; 10] = [
     (5, |r, _| body_len(r.kind).is_none()),
     (6, |r, _| body_len(r.kind).is_some() && r.body.is_none()),
-    (8, |r, j| (RESET..=TICK).contains(&r.kind) && j.settings.is_none()),
+    (8, |r, j| (RESET..=WIDTH).contains(&r.kind) && j.settings.is_none()),
     (9, |r, j| match r.kind {
         SETTINGS => j.settings.is_some(),
         ACK => j.ack.is_some(),
         HEAD => j.head.is_some(),
         OUTCOME => j.outcome.is_some(),
+        WIDTH => j.has_width || j.begun,
         _ => false,
     }),
     (1, |r, _| r.body.is_some_and(|body| code_wrong(r.kind, body))),
     (2, |r, _| r.settings().is_some_and(sizes_wrong)),
-    (3, |r, _| r.settings().is_some_and(float_wrong)),
+    (3, |r, _| r.settings().is_some_and(float_wrong) || r.width().is_some_and(width_wrong)),
     (4, |r, _| r.settings().is_some_and(box_wrong)),
     (7, |r, j| r.of_kind(VALUE).is_some_and(|body| list_full(&Value::read(body), j))),
     (10, |r, j| r.of_kind(TICK).is_some_and(|body| tick_lacks(&Tick::read(body), j))),
@@ -262,6 +315,10 @@ impl<'a> Record<'a> {
 
     fn settings(&self) -> Option<Settings> {
         self.of_kind(SETTINGS).map(Settings::read)
+    }
+
+    fn width(&self) -> Option<f64> {
+        self.of_kind(WIDTH).map(|body| Width::read(body).w)
     }
 }
 
@@ -294,6 +351,11 @@ fn float_wrong(s: Settings) -> bool {
     let finite = [s.dt, s.inv_dt, s.a_max, s.v_stop_eps, s.warn_margin];
     let mut all = finite.iter().chain(&s.box_lo).chain(&s.box_hi);
     all.any(|x| !x.is_finite()) || s.tau.is_nan()
+}
+
+/// Not finite, or below zero, which -0 is not.
+fn width_wrong(w: f64) -> bool {
+    !w.is_finite() || w < 0.0
 }
 
 fn box_wrong(s: Settings) -> bool {

@@ -5,6 +5,7 @@
 pub mod answer;
 pub mod journal;
 pub mod lines;
+pub mod proximity;
 pub mod records;
 
 use rules::Rule;

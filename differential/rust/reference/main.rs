@@ -1,9 +1,9 @@
 //! The reference program.
 //!
-//!     reference [--rule NAME ..] [fuse|trace] < journal
+//!     reference [--rule NAME ..] [fuse|trace|proximity] < journal
 //!     reference root|margin < doubles
 //!
-//! Prints what `fuse` or `trace` prints for a journal. `root` and `margin` take doubles, 16 hexadecimal digits a line, and
+//! Prints what `fuse`, `trace` or `proximity` prints for a journal. `root` and `margin` take doubles, 16 hexadecimal digits a line, and
 //! print each with its square root (by its bits) or with its margin text. `--rule` turns a rule of rust/rules on.
 
 use std::{
@@ -28,9 +28,10 @@ fn main() -> ExitCode {
     let done = match words.first().map_or("fuse", String::as_str) {
         "fuse" => journal(Program::Fuse),
         "trace" => journal(Program::Trace),
+        "proximity" => journal(Program::Proximity),
         "root" => doubles(|out, x| lines::float(out, lictor_core::fmath::sqrt(x))),
         "margin" => doubles(lines::margin),
-        other => Err(io::Error::other(format!("{other} is none of fuse, trace, root, margin"))),
+        other => Err(io::Error::other(format!("{other} is none of fuse, trace, proximity, root, margin"))),
     };
     match done {
         Ok(()) => ExitCode::SUCCESS,

@@ -1,4 +1,5 @@
-//! The records of a journal (01-scope.md, "Journal"): the kind byte tells how long the body behind it is.
+//! The records of a journal (01-scope.md, "Journal", and Ask 7 of 02-change-requests.md): the kind byte tells how long
+//! the body after it is.
 
 pub const SETTINGS: u8 = 1;
 pub const RESET: u8 = 2;
@@ -7,6 +8,7 @@ pub const HEAD: u8 = 4;
 pub const VALUE: u8 = 5;
 pub const OUTCOME: u8 = 6;
 pub const TICK: u8 = 7;
+pub const WIDTH: u8 = 8;
 
 /// The length of the body of a kind, if there is such a kind.
 pub fn body_len(kind: u8) -> Option<usize> {
@@ -18,6 +20,7 @@ pub fn body_len(kind: u8) -> Option<usize> {
         VALUE => Some(Value::LEN),
         OUTCOME => Some(Outcome::LEN),
         TICK => Some(Tick::LEN),
+        WIDTH => Some(Width::LEN),
         _ => None,
     }
 }
@@ -132,9 +135,14 @@ record! {
     Tick { t: u32, idx: u16, missed: u8, schema: u8, velocity: u8 }
 }
 
-// The lengths that 01-scope.md states.
+record! {
+    /// Kind 8.
+    Width { w: f64 }
+}
+
+// The lengths that the papers state.
 const _: () = assert!(Settings::LEN == 220 && Ack::LEN == 14 && Head::LEN == 14);
-const _: () = assert!(Value::LEN == 9 && Outcome::LEN == 257 && Tick::LEN == 9);
+const _: () = assert!(Value::LEN == 9 && Outcome::LEN == 257 && Tick::LEN == 9 && Width::LEN == 8);
 
 /// A journal in words, one record a line with its place, for a reader.
 pub fn describe(journal: &[u8]) -> String {
@@ -154,6 +162,7 @@ pub fn describe(journal: &[u8]) -> String {
             VALUE => format!("{:?}", Value::read(body)),
             OUTCOME => format!("{:?}", Outcome::read(body)),
             TICK => format!("{:?}", Tick::read(body)),
+            WIDTH => format!("{:?}", Width::read(body)),
             _ => "Reset".into(),
         };
         text += &format!("{at} {record}\n");

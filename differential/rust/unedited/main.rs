@@ -43,6 +43,8 @@ struct Seen {
     infeasible: u64,
     fired: u64,
     uncalibrated: u64,
+    /// an acknowledgement that is new again after the Rust's own reset, and is not with its nonces kept
+    replayed: u64,
 }
 
 fn main() -> ExitCode {
@@ -70,7 +72,7 @@ fn main() -> ExitCode {
     }
     println!(
         "{} ticks equal ({} fault ticks; {} with trips, {} clamped, {} infeasible, {} with a fired score, {} with \
-         calibration mask 0; by end state {:?})",
+         calibration mask 0, {} with an acknowledgement whose nonce was spent before the reset; by end state {:?})",
         seen.ticks,
         seen.fault_ticks,
         seen.tripped,
@@ -78,6 +80,7 @@ fn main() -> ExitCode {
         seen.infeasible,
         seen.fired,
         seen.uncalibrated,
+        seen.replayed,
         seen.ended
     );
     ExitCode::SUCCESS
@@ -126,6 +129,7 @@ fn episode(seed: u64, seen: &mut Seen) -> (Vec<u8>, Vec<u8>) {
     let (mut journal, mut trace) = (Vec::new(), Vec::new());
     journal.push(records::SETTINGS);
     world.settings().write(&mut journal);
+    let mut kept = rt.last_nonce;
     for _ in 0..200 {
         if world.ends_episode(&rt, &rng) {
             let nonces = rt.last_nonce;
@@ -133,6 +137,7 @@ fn episode(seed: u64, seen: &mut Seen) -> (Vec<u8>, Vec<u8>) {
             if rules::applies(rules::Rule::ResetKeepsNonces) {
                 rt.last_nonce = nonces;
             }
+            kept = rt.last_nonce;
             journal.push(records::RESET);
             world.reset();
         }
@@ -152,6 +157,11 @@ fn episode(seed: u64, seen: &mut Seen) -> (Vec<u8>, Vec<u8>) {
             ack: tick.ack,
             schema_fault: tick.schema,
         };
+        seen.replayed += u64::from(tick.ack.is_some_and(|ack| {
+            let stored = |nonces: &[u64; 8]| nonces.get(usize::from(ack.operator_slot)).copied();
+            let since = stored(&rt.last_nonce) != stored(&kept);
+            !since && ack.nonce > 0 && stored(&kept).is_some_and(|nonce| ack.nonce <= nonce)
+        }));
         lictor_detect::take();
         let verdict = decide(&world.cfg, &mut rt, &input);
         let outcome = world.outcome(lictor_detect::take(), &rt, tick.idx, &rng);

@@ -240,7 +240,9 @@ impl World {
 }
 
 fn ack(rt: &FuseRt, rng: &Rng) -> VerifiedAck {
-    let slot = rng.below(9) as u8;
+    // Often a slot that has a nonce stored: it is kept over resets, and then comes again.
+    let used = rt.last_nonce.iter().position(|nonce| *nonce > 0);
+    let slot = used.filter(|_| rng.chance(400)).unwrap_or(rng.below(9)) as u8;
     let stored = rt.last_nonce.get(usize::from(slot)).copied().unwrap_or(0);
     VerifiedAck {
         decision: rng.pick(&[AckDecision::Resume, AckDecision::Resume, AckDecision::Abort, AckDecision::Retune]),

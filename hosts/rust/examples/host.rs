@@ -132,6 +132,8 @@ struct Waiting {
 struct Recorded {
     fuse: Fuse,
     record: Option<Recorder<io::BufWriter<File>>>,
+    /// A width, a reset or a tick came: no width may come any more.
+    width_late: bool,
 }
 
 /// The host: its fuse, once the settings have come, what waits, and where the calls are recorded.
@@ -167,7 +169,7 @@ impl Recorded {
             Some(file) => Some(Recorder::new(io::BufWriter::new(file), fuse.settings())?),
             None => None,
         };
-        Ok(Recorded { fuse, record })
+        Ok(Recorded { fuse, record, width_late: false })
     }
 
     fn reset(&mut self) -> io::Result<()> {
@@ -175,6 +177,22 @@ impl Recorded {
             record.reset()?;
         }
         self.fuse.reset();
+        self.width_late = true;
+        Ok(())
+    }
+
+    /// A width is for the program `proximity`: it is checked, recorded and not used.
+    fn width(&mut self, w: f64) -> Result<(), Stop> {
+        if self.width_late {
+            return Err(Stop::Refused(9));
+        }
+        if !w.is_finite() || w < 0.0 {
+            return Err(Stop::Refused(3));
+        }
+        if let Some(record) = &mut self.record {
+            record.width(w)?;
+        }
+        self.width_late = true;
         Ok(())
     }
 
@@ -182,6 +200,7 @@ impl Recorded {
         if let Some(record) = &mut self.record {
             record.tick(tick)?;
         }
+        self.width_late = true;
         Ok(self.fuse.tick(tick))
     }
 }
@@ -190,7 +209,7 @@ impl Host {
     /// Takes one record off the front: its length, and the verdict where it was a tick.
     fn record(&mut self, bytes: &[u8]) -> Result<(usize, Option<Verdict>), Stop> {
         let kind = bytes[0];
-        let length = *[220, 0, 14, 14, 9, 257, 9].get(usize::from(kind).wrapping_sub(1)).ok_or(5)?;
+        let length = *[220, 0, 14, 14, 9, 257, 9, 8].get(usize::from(kind).wrapping_sub(1)).ok_or(5)?;
         let body = bytes.get(1..1 + length).ok_or(6)?;
         let verdict = match &mut self.fuse {
             None if kind != 1 => return Err(Stop::Refused(8)),
@@ -220,6 +239,7 @@ impl Waiting {
                 *self = Waiting::default();
                 return Ok(Some(verdict));
             }
+            8 => fuse.width(Body(body).f64())?,
             _ => return Err(Stop::Refused(9)),
         }
         Ok(None)

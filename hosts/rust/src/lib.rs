@@ -86,7 +86,8 @@ pub struct Fuse {
 }
 
 impl Fuse {
-    /// A fuse for which no episode has begun, or what is wrong with the settings. A tick before `reset` faults.
+    /// A fuse for which no episode has begun and no nonce is spent, or what is wrong with the settings. A tick before `reset` faults. To be made where the
+    /// host starts or takes new settings, and not for a reset.
     pub fn new(settings: Settings) -> Result<Fuse, Refused> {
         // The number of a refusal depends on the settings alone, so a tick of a run state that is thrown away tells it.
         match tick_lent(&mut new(), &settings, &Input::default(), &Outcome::default(), &Lists::default()).number {
@@ -95,7 +96,7 @@ impl Fuse {
         }
     }
 
-    /// Starts an episode.
+    /// Starts an episode. Spent nonces stay spent; everything else is forgotten.
     pub fn reset(&mut self) {
         reset(&mut self.state);
     }
@@ -125,14 +126,14 @@ impl Fuse {
 // ---- the library's functions. Each asks for memory alone, and references bring it: `&mut` is not shared, `&` and a slice are aligned and not null, and
 // nothing writes them while they are borrowed.
 
-/// A run state for which no episode has begun.
+/// A run state for which no episode has begun and no nonce is spent.
 #[inline]
 pub fn new() -> RunState {
     // SAFETY: takes nothing.
     unsafe { ffi::disklorva_new() }
 }
 
-/// Starts an episode in a run state.
+/// Starts an episode in a run state: its nonces stay, and everything else is forgotten.
 #[inline]
 pub fn reset(state: &mut RunState) {
     // SAFETY: a `&mut` is valid and not shared.

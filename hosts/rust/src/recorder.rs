@@ -1,7 +1,8 @@
 //! Writes a host's calls as a journal, which the program `fuse` replays to the same verdicts.
 //!
 //! Settings that were accepted come first, then each reset and each tick.
-//! New settings need a new journal.
+//! A width is no call: it is for the program `proximity`.
+//! New settings need a new journal, and a journal a new run state: a replay begins with no nonce spent.
 //! Where writing fails the journal is cut within a record, and all before it is good.
 
 use crate::{Input, Lists, Outcome, Settings, Tick};
@@ -14,6 +15,7 @@ const CHUNK_HEAD: u8 = 4;
 const VALUE: u8 = 5;
 const OUTCOME: u8 = 6;
 const TICK: u8 = 7;
+const WIDTH: u8 = 8;
 
 /// A journal that is being written, with one `write_all` a call; the host decides when to flush.
 #[derive(Debug)]
@@ -67,6 +69,12 @@ impl<W: Write> Recorder<W> {
         put_floats(page, &s.box_hi);
         it.write_out()?;
         Ok(it)
+    }
+
+    /// Once at most, before the first reset and tick; finite and not below zero.
+    pub fn width(&mut self, w: f64) -> io::Result<()> {
+        put!(self.page, WIDTH, w);
+        self.write_out()
     }
 
     pub fn reset(&mut self) -> io::Result<()> {

@@ -296,6 +296,43 @@ fn tick_has_what_was_given() {
     assert_eq!((v.state, v.reason, v.trips, v.action_src), (7, 17, 128, 3));
 }
 
+/// A reset keeps the eight nonces of whatever bytes it is lent, and leaves all else as that of a new run state.
+#[test]
+fn a_reset_keeps_the_nonces_alone() {
+    let mut numbers = Numbers(3);
+    for _ in 0..1000 {
+        let (mut any, mut begun) = (numbers.any::<RunState>(), new());
+        assert_eq!(begun.control.last_nonce, [0; 8]);
+        reset(&mut begun);
+        begun.control.last_nonce = any.control.last_nonce;
+        reset(&mut any);
+        assert_eq!(fields(&any), fields(&begun));
+    }
+}
+
+/// An acknowledgement that was consumed is spent in the episodes that follow, and not in a new run state.
+#[test]
+fn a_spent_nonce_stays_spent() {
+    let chunk = Chunk { horizon: 1, dim: 1, exec_steps: 1, ..Chunk::default() };
+    let outcome = Outcome { feasible: 1, ..Outcome::default() };
+    let lists = Lists { pos: &[0.5], chunk: &[0.25], ..Lists::default() };
+    let consumes = |state: &mut RunState, operator_slot: u8, nonce: u64| {
+        reset(state);
+        state.control.state = 6;
+        let ack = Ack { nonce, operator_slot, ..Ack::default() };
+        let input = Input { has_chunk: 1, chunk, has_ack: 1, ack, ..Input::default() };
+        tick_lent(state, &settings(), &input, &outcome, &lists).verdict.ack_consumed == 1
+    };
+    let mut arm = new();
+    assert!(consumes(&mut arm, 7, 1));
+    assert!(!consumes(&mut arm, 7, 1) && !consumes(&mut arm, 8, 2));
+    assert!(consumes(&mut arm, 3, 1) && consumes(&mut arm, 7, 2));
+    assert!(consumes(&mut arm, 7, u64::MAX));
+    assert!([0, 1, 2, 3, u64::MAX].iter().all(|nonce| !consumes(&mut arm, 7, *nonce)));
+    assert!(!consumes(&mut arm, 3, 1) && consumes(&mut arm, 3, 2));
+    assert!(consumes(&mut new(), 7, 1));
+}
+
 /// A fuse whose tally is taken goes on as one that is left alone, and the joined tally is the other's.
 #[test]
 fn a_cut_changes_nothing() {

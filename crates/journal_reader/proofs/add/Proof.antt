@@ -46,7 +46,7 @@ returns-3 c = added-value _ _ _ _ _ _ _ _ _ (c .before .before .before .before .
 returns-4 : tie.Need-returns-4
 returns-4 c =
     let x = c .before .before .args .x in
-    added-none _ _ _ _ _ (in-arm R.enum isSmall false x (c .match .keys4) (search (keyed R.enum isSmall false x)))
+    added-none _ _ _ _ _ (in-arm R.enum isSmall false x (c .match .keys4) (search (keyed R.enum isSmall false x) depth 12))
 
 pub add-spec : {M : Type 1} → statement M
 add-spec =

@@ -8,7 +8,7 @@ use Rattle.journal_records.proofs.Record as R
 use Rattle.stream.proofs.Stream.{impossible}
 use Rattle.journal_reader.specs.Steps.{isSmall}
 use Rattle.journal_reader.proofs.Arms.{keyed, in-arm}
-use Rattle.journal_reader.proofs.Steps.{body-part, instructs-outcome, instructs-settings, instructs-reset, instructs-tick}
+use Rattle.journal_reader.proofs.Steps.{body-part, instructs-outcome, instructs-settings, instructs-reset, instructs-tick, instructs-width}
 use Rattle.journal_reader.proofs.instruct.Statement.{statement}
 use Rattle.journal_reader.proofs.instruct.Tie as tie
 
@@ -39,6 +39,21 @@ read-outcome-requires c κs = search needs
 with-outcome-requires : tie.Need-with-outcome-requires
 with-outcome-requires c κs = search needs
 
+comes-to-requires : tie.Need-comes-to-requires
+comes-to-requires c κs = search needs
+
+comes-to-requires-2 : tie.Need-comes-to-requires-2
+comes-to-requires-2 c κs = search needs
+
+comes-to-requires-3 : tie.Need-comes-to-requires-3
+comes-to-requires-3 c κs = search needs
+
+comes-to-requires-4 : tie.Need-comes-to-requires-4
+comes-to-requires-4 c κs = search needs
+
+comes-to-requires-5 : tie.Need-comes-to-requires-5
+comes-to-requires-5 c κs = search needs
+
 enum-told-2 : tie.Need-enum-told-2
 enum-told-2 c = search needs
 
@@ -51,25 +66,31 @@ enum-known-x c = search needs
 input-of-requires : tie.Need-input-of-requires
 input-of-requires c κs = search needs
 
+enum-known-x-2 : tie.Need-enum-known-x-2
+enum-known-x-2 c = search needs
+
 returns : tie.Need-returns
 returns c =
     let a = c .before .before .before .before .before .before .before .args in
     instructs-outcome _ _ _ _ _ _ _ _ (c .before .before .before .enum-told .given .1) (c .before .read-outcome .ensures ∙ ap outcomeOf (body-part (a .s .now) (a .at) (a .n))) (c .with-outcome .ensures)
 
 returns-2 : tie.Need-returns-2
-returns-2 c = instructs-settings _ _ _ _ _ _ (c .enum-told2 .given .1)
+returns-2 c = rw (c .comes-to .ensures) (instructs-settings _ _ _ _ _ _ (c .before .enum-told2 .given .1))
 
 returns-3 : tie.Need-returns-3
-returns-3 c = instructs-reset _ _ _ _ _ _ (c .enum-told3 .given .1)
+returns-3 c = rw (c .comes-to2 .ensures) (instructs-reset _ _ _ _ _ _ (c .before .enum-told3 .given .1))
 
 returns-4 : tie.Need-returns-4
-returns-4 c = instructs-tick _ _ _ _ _ _ _ _ (c .before .before .x .given .1) (c .input-of .ensures)
+returns-4 c = rw (c .comes-to3 .ensures) (instructs-tick _ _ _ _ _ _ _ _ (c .before .before .before .x .given .1) (c .before .input-of .ensures))
 
 returns-5 : tie.Need-returns-5
-returns-5 c =
-    let start = c .before .before .before in
+returns-5 c = rw (c .comes-to4 .ensures) (instructs-width _ _ _ _ _ _ _ (c .before .before .x2 .given .1))
+
+returns-6 : tie.Need-returns-6
+returns-6 c =
+    let start = c .before .before .before .before in
     let x = start .args .x in
-    absurd (never _ (start .pre .1) (in-arm R.enum isSmall true x (c .match .keys5) (search (keyed R.enum isSmall true x))))
+    absurd (never _ (start .pre .1) (in-arm R.enum isSmall true x (c .before .match .keys6) (search (keyed R.enum isSmall true x) depth 12)))
 
 pub instruct-spec : {M : Type 1} → statement M
 instruct-spec =
@@ -84,11 +105,18 @@ instruct-spec =
     read-outcome-requires
     with-outcome-requires
     enum-told-2
+    comes-to-requires
     enum-told-3
+    comes-to-requires-2
     enum-known-x
     input-of-requires
+    comes-to-requires-3
+    enum-known-x-2
+    comes-to-requires-4
+    comes-to-requires-5
     returns
     returns-2
     returns-3
     returns-4
-    returns-5)
+    returns-5
+    returns-6)

@@ -19,17 +19,23 @@ instruct-requires c κs =
 enum-told : tie.Need-enum-told
 enum-told c = search needs
 
+comes-to-requires : tie.Need-comes-to-requires
+comes-to-requires c κs = search needs
+
 enum-known-look-2 : tie.Need-enum-known-look-2
 enum-known-look-2 c = search needs
+
+comes-to-requires-2 : tie.Need-comes-to-requires-2
+comes-to-requires-2 c κs = search needs
 
 returns : tie.Need-returns
 returns c = turned-found _ _ _ _ _ _ _ _ (c .before .before .before .before .before .before .collect .ensures) _ _ (c .before .before .before .look .given .1) _ (c .instruct .ensures)
 
 returns-2 : tie.Need-returns-2
-returns-2 c = turned-waits _ _ _ _ _ _ _ _ (c .before .before .before .collect .ensures) (c .enum-told .given .1)
+returns-2 c = rw (c .comes-to .ensures) (turned-waits _ _ _ _ _ _ _ _ (c .before .before .before .before .collect .ensures) (c .before .enum-told .given .1))
 
 returns-3 : tie.Need-returns-3
-returns-3 c = turned-refuses _ _ _ _ _ _ _ _ (c .before .before .before .before .collect .ensures) _ (c .before .look2 .given .1)
+returns-3 c = rw (c .comes-to2 .ensures) (turned-refuses _ _ _ _ _ _ _ _ (c .before .before .before .before .before .collect .ensures) _ (c .before .before .look2 .given .1))
 
 pub take-stretch-spec : {M : Type 1} → statement M
 take-stretch-spec =
@@ -39,7 +45,9 @@ take-stretch-spec =
     enum-known-look
     instruct-requires
     enum-told
+    comes-to-requires
     enum-known-look-2
+    comes-to-requires-2
     returns
     returns-2
     returns-3)

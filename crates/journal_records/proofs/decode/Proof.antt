@@ -1,6 +1,6 @@
 -- An arm of the match knows its kind, and the definition at that kind computes.
 use mathlib.Core.Path.{refl, ap, ap₂, _∙_}
-use Rattle.journal_records.specs.declared.Record.the-variants.{Ack, Head, Value, Tick}
+use Rattle.journal_records.specs.declared.Record.the-variants.{Ack, Head, Value, Tick, Width}
 use Rattle.journal_records.specs.Body.{decodeOf}
 use Rattle.journal_records.proofs.Decoded.{decoded-at, decoded-last}
 use borrow.Author.Needs.{needs}
@@ -18,6 +18,9 @@ byte-requires c κs = search needs
 
 f64-at-requires : tie.Need-f64-at-requires
 f64-at-requires c κs = search needs
+
+f64-at-requires-2 : tie.Need-f64-at-requires-2
+f64-at-requires-2 c κs = search needs
 
 read-tick-requires : tie.Need-read-tick-requires
 read-tick-requires c κs = search needs
@@ -47,7 +50,11 @@ unfolding decodeOf
 returns-6 c = decoded-at _ _ _ _ (c .match .keys6) refl
 
 returns-7 : tie.Need-returns-7
-returns-7 c = ap Tick (c .read-tick .ensures) ∙ decoded-last _ _ (search needs)
+unfolding decodeOf
+returns-7 c = decoded-at _ _ _ _ (c .before .match .keys7) (ap Width (c .f64-at2 .ensures))
+
+returns-8 : tie.Need-returns-8
+returns-8 c = ap Tick (c .read-tick .ensures) ∙ decoded-last _ _ (search needs)
 
 pub decode-spec : {M : Type 1} → statement M
 decode-spec =
@@ -57,6 +64,7 @@ decode-spec =
     read-head-requires
     byte-requires
     f64-at-requires
+    f64-at-requires-2
     read-tick-requires
     returns
     returns-2
@@ -64,4 +72,5 @@ decode-spec =
     returns-4
     returns-5
     returns-6
-    returns-7)
+    returns-7
+    returns-8)

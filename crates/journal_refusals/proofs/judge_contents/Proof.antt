@@ -18,6 +18,9 @@ judge-outcome-requires c κs = search needs
 judge-tick-requires : tie.Need-judge-tick-requires
 judge-tick-requires c κs = search needs
 
+judge-width-requires : tie.Need-judge-width-requires
+judge-width-requires c κs = search needs
+
 returns : tie.Need-returns
 returns c = contents-at _ _ _ _ _ (c .before .match .keys1) (c .judge-settings .ensures)
 
@@ -34,7 +37,10 @@ returns-5 : tie.Need-returns-5
 returns-5 c = contents-at _ _ _ _ _ (c .before .match .keys5) (c .judge-tick .ensures)
 
 returns-6 : tie.Need-returns-6
-returns-6 c = contents-none _ _ _ (search needs)
+returns-6 c = contents-at _ _ _ _ _ (c .before .match .keys6) (c .judge-width .ensures)
+
+returns-7 : tie.Need-returns-7
+returns-7 c = contents-none _ _ _ (search needs)
 
 pub judge-contents-spec : {M : Type 1} → statement M
 judge-contents-spec =
@@ -45,9 +51,11 @@ judge-contents-spec =
     judge-value-requires
     judge-outcome-requires
     judge-tick-requires
+    judge-width-requires
     returns
     returns-2
     returns-3
     returns-4
     returns-5
-    returns-6)
+    returns-6
+    returns-7)

@@ -2,7 +2,7 @@ use mathlib.Core.Path.{refl, sym}
 use native.Mathlib.Omega.{arith}
 use borrow.Author.Needs.{needs}
 use Rattle.printer.specs.Printer.{showsBy}
-use Rattle.player.proofs.Feeding.{on-waits, on-refuses, on-begins, on-resets, on-ticks, end-within, body-within}
+use Rattle.player.proofs.Feeding.{on-waits, on-refuses, on-begins, on-resets, on-ticks, on-width, end-within, body-within}
 use Rattle.player.proofs.play_on.Statement.{statement}
 use Rattle.player.proofs.play_on.Tie as tie
 
@@ -106,6 +106,14 @@ tick-requires c κs =
     let read = c .before .before .before .before .before .before .before .before .before in
     read .before .before .before .before .before .before .pre .1
 
+enum-known-what-3 : tie.Need-enum-known-what-3
+enum-known-what-3 c = search needs
+
+give-width-requires : tie.Need-give-width-requires
+give-width-requires c κs =
+    let read = c .before .before .before .before .before .before .before .before in
+    read .before .before .before .before .before .before .pre .1
+
 returns : tie.Need-returns
 returns c =
     let told = c .before in
@@ -159,6 +167,18 @@ returns-5 c =
     let q = read .read .ensures in
     on-ticks _ _ (start .args .p) _ (start .args .s .now) (start .pre .0) _ _ (q .0) (q .1) _ (start .pre .1) _ (told .what2 .given .1) _ _ (ticked .tick .ensures)
 
+same-length-4 : tie.Need-same-length-4
+same-length-4 c = search needs
+
+returns-6 : tie.Need-returns-6
+returns-6 c =
+    let given = c .before .before in
+    let told = given .before .before .before in
+    let read = told .before .before .before .before .before .before in
+    let start = read .before .before .before .before .before .before in
+    let q = read .read .ensures in
+    on-width _ _ (start .args .p) _ (start .args .s .now) (start .pre .0) _ _ (q .0) (q .1) _ (start .pre .1) _ (told .what3 .given .1) _ _ (given .give-width .ensures)
+
 pub play-on-spec : {M : Type 1} → statement M
 play-on-spec =
     tie.close
@@ -184,6 +204,8 @@ play-on-spec =
     restart-requires
     enum-known-what-2
     tick-requires
+    enum-known-what-3
+    give-width-requires
     returns
     returns-2
     same-length
@@ -191,4 +213,6 @@ play-on-spec =
     same-length-2
     returns-4
     same-length-3
-    returns-5)
+    returns-5
+    same-length-4
+    returns-6)

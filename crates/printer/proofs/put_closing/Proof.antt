@@ -19,7 +19,7 @@ returns c = let put = c .before .before in rw (shows-pages _ (put .before .befor
 returns-2 : tie.Need-returns-2
 returns-2 c =
     let m = c .before .before .args .notes in
-    rw (unless-pages _ (c .if1 .left) (λ (w : Shows). closingText w m ≡ []) refl refl) (put-none _ _)
+    rw (unless-pages _ (c .if1 .left) (λ (w : Shows). closingText w m ≡ []) refl refl refl) (put-none _ _)
 
 pub put-closing-spec : {M : Type 1} → statement M
 put-closing-spec = tie.close (tie.spec put-closing-requires same-length returns returns-2)

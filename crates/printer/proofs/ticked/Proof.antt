@@ -21,7 +21,7 @@ same-length c = search needs
 returns : tie.Need-returns
 unfolding shownText remembered
 returns c =
-    let put = c .before .before .before in
+    let put = c .before .before .before .before in
     let asked = put .before .before in
     rw (c .remember-tick .ensures) (is-shown _ _ _ _ (sym (asked .before .has-room .ensures) ∙ asked .if1 .taken) _ _ (put .put-ticked .ensures))
 

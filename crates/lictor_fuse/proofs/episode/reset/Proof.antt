@@ -1,4 +1,4 @@
-use Rattle.lictor_core.specs.Initial.{resetOf}
+use Rattle.lictor_core.specs.Initial.{freshControl, resetOf}
 use borrow.Author.Needs.{needs}
 use Rattle.lictor_fuse.proofs.episode.reset.Statement.{statement}
 use Rattle.lictor_fuse.proofs.episode.reset.Tie as tie
@@ -7,7 +7,7 @@ fresh-requires : tie.Need-fresh-requires
 fresh-requires c κs = search needs
 
 returns : tie.Need-returns
-unfolding resetOf
+unfolding resetOf freshControl
 returns c = rw (c .fresh .ensures)
 
 pub reset-spec : {M : Type 1} → statement M

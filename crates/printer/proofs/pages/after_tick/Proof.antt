@@ -15,13 +15,13 @@ next-page-requires : tie.Need-next-page-requires
 next-page-requires c κs = search needs
 
 returns : tie.Need-returns
-returns c = let asked = c .before in after-full (asked .before .before .args .notes) _ (sym (asked .before .fills-page .ensures) ∙ asked .if1 .taken) (c .next-page .ensures)
+returns c = let asked = c .before in after-full (asked .before .before .before .args .notes) _ (sym (asked .before .fills-page .ensures) ∙ asked .if1 .taken) (c .next-page .ensures)
 
 add-rows : tie.Need-add-rows
-add-rows c = let asked = c .before in omega (arith, leb-false pageRows (asked .before .before .args .notes .rows + 1) (sym (asked .before .fills-page .ensures) ∙ asked .if1 .left))
+add-rows c = let asked = c .before in omega (arith, leb-false pageRows (asked .before .before .before .args .notes .rows + 1) (sym (asked .before .fills-page .ensures) ∙ asked .if1 .left))
 
 returns-2 : tie.Need-returns-2
-returns-2 c = let asked = c .before in after-more (asked .before .before .args .notes) (sym (asked .before .fills-page .ensures) ∙ asked .if1 .left)
+returns-2 c = let asked = c .before in after-more (asked .before .before .before .args .notes) (sym (asked .before .fills-page .ensures) ∙ asked .if1 .left)
 
 pub after-tick-spec : {M : Type 1} → statement M
 after-tick-spec =

@@ -4,7 +4,7 @@ use Rattle.printer.proofs.pages.put_closing.Statement.{statement}
 use Rattle.printer.proofs.pages.put_closing.Tie as tie
 
 returns : tie.Need-returns
-returns c = closed-none _ _ (c .if1 .taken)
+returns c = closed-none (c .before .before .before .args .notes) _ (c .if1 .taken)
 
 show-page-requires : tie.Need-show-page-requires
 show-page-requires c κs = search needs

@@ -1,0 +1,98 @@
+-- Every journal is printed so.
+use mathlib.Core.Bool.{true, false}
+use mathlib.Core.List.{List, [], _∷_, _++_}
+use mathlib.Core.Path.{_≡_, refl, sym, ap, ap₂, _∙_}
+use Prim.Native.Nat.{ℕ, _≤_}
+use lib.Ieee.{Float}
+use Rattle.lictor_core.specs.declared.envelope.FuseConfig.{FuseConfig}
+use Rattle.lictor_core.specs.declared.envelope.Settings.{Settings}
+use Rattle.lictor_core.specs.Sizes.{maxPos}
+use Rattle.lictor_settings.specs.Settings.{configOf}
+use Rattle.claims.specs.Runs.{All}
+use Rattle.journal_reader.specs.Reading.{Instruction, begin, restart, tick, width}
+use Rattle.journal.specs.declared.tick.Run.{Run}
+use Rattle.journal.specs.Events.{begunOf, restartedOf, tickedOf, decidedOf, reportOf, Event, began, widthGiven, eventsFrom}
+use Rattle.journal.specs.Journal.{Ending, startRun, journalOf}
+use Rattle.journal_claims.specs.Instructions.{toldIn}
+use Rattle.journal_claims.specs.JournalStops.{GoesOn}
+use Rattle.proximity_text.specs.Near.{noneInside}
+use Rattle.proximity_text.specs.History.{putFrom, PutListed}
+use Rattle.proximity_text.proofs.History.{lines-listed}
+use Rattle.printer.specs.Printer.{Printer, proximity, atStart, proximityPrinter, shownText, remembered, printed, printerAfterAll, endingText, meaningFor, kindsTaken, textOf}
+use Rattle.printer.specs.Fifties.{refusalText}
+use Rattle.printer.proofs.Parts.{shows-stay, proximity-on-output}
+use Rattle.proximity_claims.specs.EveryLine.{eventsIn, endingIn, historyOf, NoWidth, Unmeasured, Under, Measured, Told, without, with-width, EveryLine}
+use Rattle.proximity_claims.proofs.Order.{Goes, plain, measured, Course, nothing, under, course}
+use Rattle.proximity_claims.proofs.Lines.{near-printed, none-printed, ending-is}
+
+-- ---- the events
+
+-- of all that a journal tells
+events-are : (s : List ℕ) → eventsIn s ≡ eventsFrom startRun (toldIn (kindsTaken proximity) s)
+unfolding journalOf toldIn
+events-are s = refl
+
+-- resets and ticks keep the configuration, and give no width
+all-under : (cfg : FuseConfig) (r : Run) (is : List Instruction) → r .config ≡ cfg → All GoesOn is → All (Under cfg) (eventsFrom r is)
+unfolding restartedOf tickedOf reportOf
+all-under cfg r [] e g = tt
+all-under cfg r (begin s ∷ is) e g = absurd (g .0)
+all-under cfg r (restart ∷ is) e g = (tt, all-under cfg (restartedOf r) is e (g .1))
+all-under cfg r (tick c ∷ is) e g = (e, all-under cfg (tickedOf r (decidedOf r c)) is e (g .1))
+all-under cfg r (width x ∷ is) e g = absurd (g .0)
+
+no-widths : (r : Run) (is : List Instruction) → All GoesOn is → All NoWidth (eventsFrom r is)
+no-widths r [] g = tt
+no-widths r (begin s ∷ is) g = absurd (g .0)
+no-widths r (restart ∷ is) g = (refl, no-widths (restartedOf r) is (g .1))
+no-widths r (tick c ∷ is) g = (refl, no-widths (tickedOf r (decidedOf r c)) is (g .1))
+no-widths r (width x ∷ is) g = absurd (g .0)
+
+-- ---- the text
+
+text-is : (s : List ℕ) → textOf proximityPrinter s ≡ printed proximityPrinter (eventsIn s) ++ refusalText (endingIn s)
+text-is s =
+    let after = printerAfterAll proximityPrinter (eventsIn s) in
+    proximity-on-output s .text
+    ∙ ap (λ (x : List ℕ). printed proximityPrinter (eventsIn s) ++ x) (ending-is after (meaningFor proximityPrinter s .left .run) (endingIn s) (shows-stay proximityPrinter (eventsIn s)))
+
+no-lines : (s : List ℕ) → All NoWidth (eventsIn s) → Unmeasured s
+no-lines s n = record {
+  none = n;
+  text = text-is s ∙ ap (λ (x : List ℕ). x ++ refusalText (endingIn s)) (none-printed (eventsIn s) n atStart refl);
+}
+
+-- the settings and the width print nothing, and the width is kept
+with-lines : (s : List ℕ) (w : Settings) (x : Float) (rest : List Event) → eventsIn s ≡ began (begunOf w) ∷ (widthGiven (begunOf w) x ∷ rest) → w .«pos_dim» ≤ maxPos → All (Under (configOf w)) rest → Measured s
+unfolding printed shownText remembered configOf
+with-lines s w x rest e small u =
+    let l : PutListed (configOf w) x (historyOf rest) = lines-listed (configOf w) small x (historyOf rest) in
+    let put : printed proximityPrinter (eventsIn s) ≡ putFrom (configOf w) x noneInside (historyOf rest) = ap (printed proximityPrinter) e ∙ near-printed (configOf w) x atStart rest u noneInside in
+    record {
+      settings = w;
+      width = x;
+      rest = rest;
+      events = e;
+      under = u;
+      entries = l .entries;
+      text = text-is s ∙ ap (λ (t : List ℕ). t ++ refusalText (endingIn s)) (put ∙ l .text);
+      listed = rw (ap historyOf e) (l .listed);
+    }
+
+-- ---- by what the journal tells
+
+goes-told : (s : List ℕ) (w : Settings) (rest : List Instruction) → toldIn (kindsTaken proximity) s ≡ begin w ∷ rest → w .«pos_dim» ≤ maxPos → Goes rest → Told s
+unfolding begunOf
+goes-told s w rest e small (plain g) =
+    let is : eventsIn s ≡ began (begunOf w) ∷ eventsFrom (begunOf w) rest = events-are s ∙ ap (eventsFrom startRun) e in
+    without (no-lines s (rw is (refl, no-widths (begunOf w) rest g)))
+goes-told s w rest e small (measured x later q g) =
+    let is : eventsIn s ≡ began (begunOf w) ∷ (widthGiven (begunOf w) x ∷ eventsFrom (begunOf w) later) = events-are s ∙ ap (eventsFrom startRun) (e ∙ ap (λ (l : List Instruction). begin w ∷ l) q) in
+    with-width (with-lines s w x (eventsFrom (begunOf w) later) is small (all-under (configOf w) (begunOf w) later refl g))
+
+told-by : (s : List ℕ) → Course (toldIn (kindsTaken proximity) s) → Told s
+told-by s (nothing e) = let is : eventsIn s ≡ [] = events-are s ∙ ap (eventsFrom startRun) e in without (no-lines s (rw is tt))
+told-by s (under w rest e small g) = goes-told s w rest e small g
+
+pub every-line : EveryLine
+every-line s = record { told = told-by s (course (kindsTaken proximity) s); beside = proximity-on-output s .beside }

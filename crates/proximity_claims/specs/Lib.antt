@@ -1,0 +1,2 @@
+-- The claim, and the words that it is written with.
+pub mod EveryLine
