@@ -13,6 +13,7 @@ use crate::Form;
 use journal_records::OUTCOME;
 use journal_records::SETTINGS;
 use journal_records::VALUE;
+use journal_records::WIDTH;
 use journal_records::little::le32;
 use journal_records::little::le64;
 
@@ -30,6 +31,7 @@ pub(crate) fn runs_of(kind: u8) -> [Run; 2]
         SETTINGS => [Run { copied: 44, floats: 22 }, Run { copied: 0, floats: 0 }],
         VALUE => [Run { copied: 1, floats: 1 }, Run { copied: 0, floats: 0 }],
         OUTCOME => [Run { copied: 9, floats: 2 }, Run { copied: 8, floats: 28 }],
+        WIDTH => [Run { copied: 0, floats: 1 }, Run { copied: 0, floats: 0 }],
         _ => [Run { copied: 0, floats: 0 }, Run { copied: 0, floats: 0 }],
     }
 }

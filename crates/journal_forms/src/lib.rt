@@ -14,6 +14,7 @@ use crate::body::is_held;
 use crate::body::put_body;
 use crate::body::runs_of;
 use journal_frames::Frame;
+use journal_records::KINDS;
 use text::memory::has_room;
 
 pub enum Form {
@@ -41,12 +42,12 @@ pub fn number(cause: Cause) -> u8
 }
 
 // How long the bodies of kinds 1, 2 and so on are in a form.
-pub fn kinds_of(form: Form) -> [u16; 7]
+pub fn kinds_of(form: Form) -> [u16; KINDS]
     ensures { λ r. ⌜ r ≡ kindsOf form ⌝ }
 {
     match form {
         Form::Wide => journal_records::journal_kinds(),
-        Form::Narrow => [132, 0, 14, 14, 5, 137, 9],
+        Form::Narrow => [132, 0, 14, 14, 5, 137, 9, 4],
     }
 }
 

@@ -19,7 +19,11 @@ returns-3 c = rw (c .match .keys3) refl
 
 returns-4 : tie.Need-returns-4
 unfolding runsOf
-returns-4 c = no-floats (c .before .args .kind) (search needs)
+returns-4 c = rw (c .match .keys4) refl
+
+returns-5 : tie.Need-returns-5
+unfolding runsOf
+returns-5 c = no-floats (c .before .args .kind) (search needs)
 
 pub runs-of-spec : {M : Type 1} → statement M
-runs-of-spec = tie.close (tie.spec returns returns-2 returns-3 returns-4)
+runs-of-spec = tie.close (tie.spec returns returns-2 returns-3 returns-4 returns-5)
