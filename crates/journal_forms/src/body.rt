@@ -8,8 +8,8 @@ ghost use lib.Ieee.{binary32, binary64, ofBits, toBits, fits};
 ghost use Rattle.text.specs.Memory.{Put};
 ghost use Rattle.journal_forms.specs.Forms.{other, formatOf, floatBytes, runsOf};
 ghost use Rattle.journal_forms.specs.Body.{leBytes, floatIn, floatsIn, floatsTo, allPass, runBytes, runsBytes, runFloats, runTo, bodyTo, bodyHeld};
-use binary32::Narrowed;
 use crate::Form;
+use binary32::Narrowed;
 use journal_records::OUTCOME;
 use journal_records::SETTINGS;
 use journal_records::VALUE;
@@ -28,11 +28,56 @@ pub(crate) fn runs_of(kind: u8) -> [Run; 2]
     ensures { λ r. ⌜ r ≡ runsOf kind ⌝ }
 {
     match kind {
-        SETTINGS => [Run { copied: 44, floats: 22 }, Run { copied: 0, floats: 0 }],
-        VALUE => [Run { copied: 1, floats: 1 }, Run { copied: 0, floats: 0 }],
-        OUTCOME => [Run { copied: 9, floats: 2 }, Run { copied: 8, floats: 28 }],
-        WIDTH => [Run { copied: 0, floats: 1 }, Run { copied: 0, floats: 0 }],
-        _ => [Run { copied: 0, floats: 0 }, Run { copied: 0, floats: 0 }],
+        SETTINGS => [
+            Run {
+                copied: 44,
+                floats: 22,
+            },
+            Run {
+                copied: 0,
+                floats: 0,
+            },
+        ],
+        VALUE => [
+            Run {
+                copied: 1,
+                floats: 1,
+            },
+            Run {
+                copied: 0,
+                floats: 0,
+            },
+        ],
+        OUTCOME => [
+            Run {
+                copied: 9,
+                floats: 2,
+            },
+            Run {
+                copied: 8,
+                floats: 28,
+            },
+        ],
+        WIDTH => [
+            Run {
+                copied: 0,
+                floats: 1,
+            },
+            Run {
+                copied: 0,
+                floats: 0,
+            },
+        ],
+        _ => [
+            Run {
+                copied: 0,
+                floats: 0,
+            },
+            Run {
+                copied: 0,
+                floats: 0,
+            },
+        ],
     }
 }
 
@@ -186,7 +231,14 @@ fn put_run(from: Form, run: Run, s: &[u8], at: usize, out: &mut [u8], n: usize) 
 }
 
 // A body.
-pub(crate) fn put_body(from: Form, first: Run, second: Run, body: &[u8], out: &mut [u8], n: usize) -> usize
+pub(crate) fn put_body(
+    from: Form,
+    first: Run,
+    second: Run,
+    body: &[u8],
+    out: &mut [u8],
+    n: usize,
+) -> usize
     requires { ⌜ (runsBytes from (first ∷ second ∷ []) ≤ length (now body)) × (n + length (bodyTo from (other from) (first ∷ second ∷ []) (now body)) ≤ length (now out)) × (bodyHeld from (other from) (first ∷ second ∷ []) (now body) ≡ true) ⌝ }
     ensures { λ r. ⌜ Put (now (out .entry)) n (bodyTo from (other from) (first ∷ second ∷ []) (now (body .entry))) r (now (out .exit)) ⌝ }
 {

@@ -14,7 +14,6 @@ Inv-loop from buf₀ out₀ round₀ more₀ buf out round more =
 abbrev μ-loop : tie.MeasureT-loop
 μ-loop from buf₀ out₀ round₀ more₀ buf out round more = toDo round
 
-
 no-reads-requires : tie.Need-no-reads-requires Inv-loop μ-loop
 no-reads-requires c κs = tt
 

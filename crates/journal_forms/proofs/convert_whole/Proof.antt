@@ -32,10 +32,11 @@ put-body-requires c κs =
     let tested = c .before in
     let looked = tested .before .before .before .before in
     let start = looked .before .before .before in
-    let a = start .args in
-    (whole-inside (a .from) (a .kind) (a .body .now) (start .pre .0) (start .pre .1) _ (looked .runs-of .ensures),
+    let a = start .args in (
+      whole-inside (a .from) (a .kind) (a .body .now) (start .pre .0) (start .pre .1) _ (looked .runs-of .ensures),
       whole-room (a .from) (a .kind) (a .body .now) (start .pre .0) (start .pre .1) _ (looked .runs-of .ensures) (a .out .now) (a .p .n) (start .pre .3),
-      sym (tested .before .is-held .ensures) ∙ tested .if1 .taken)
+      sym (tested .before .is-held .ensures) ∙ tested .if1 .taken,
+    )
 
 add-at : tie.Need-add-at
 add-at c = search needs
