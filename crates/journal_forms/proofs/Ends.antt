@@ -98,7 +98,7 @@ module _ (a b : Form) (k : ℕ) (body : List ℕ) where
   unfolding judgedOf causes firstThat
   judged-not-held e h i = rw (e, le-ltb (length body) (bodyLen (kindsOf a) k) h, i) refl
 
--- the bytes of a whole record, and those after it
+-- of the record at place p, by its frame
 module _ (a b : Form) (s : List ℕ) (p : ℕ) (h : p < length s) where
   abbrev k : ℕ
   k = getD s p 0

@@ -23,61 +23,22 @@ pub struct Run {
     pub floats: usize,
 }
 
+fn run_of(copied: usize, floats: usize) -> Run
+    ensures { λ r. ⌜ r ≡ record { copied = copied; floats = floats } ⌝ }
+{
+    Run { copied, floats }
+}
+
 // Where the floats of a kind are: two runs, and after them bytes that are no float.
 pub(crate) fn runs_of(kind: u8) -> [Run; 2]
     ensures { λ r. ⌜ r ≡ runsOf kind ⌝ }
 {
     match kind {
-        SETTINGS => [
-            Run {
-                copied: 44,
-                floats: 22,
-            },
-            Run {
-                copied: 0,
-                floats: 0,
-            },
-        ],
-        VALUE => [
-            Run {
-                copied: 1,
-                floats: 1,
-            },
-            Run {
-                copied: 0,
-                floats: 0,
-            },
-        ],
-        OUTCOME => [
-            Run {
-                copied: 9,
-                floats: 2,
-            },
-            Run {
-                copied: 8,
-                floats: 28,
-            },
-        ],
-        WIDTH => [
-            Run {
-                copied: 0,
-                floats: 1,
-            },
-            Run {
-                copied: 0,
-                floats: 0,
-            },
-        ],
-        _ => [
-            Run {
-                copied: 0,
-                floats: 0,
-            },
-            Run {
-                copied: 0,
-                floats: 0,
-            },
-        ],
+        SETTINGS => [run_of(44, 22), run_of(0, 0)],
+        VALUE => [run_of(1, 1), run_of(0, 0)],
+        OUTCOME => [run_of(9, 2), run_of(8, 28)],
+        WIDTH => [run_of(0, 1), run_of(0, 0)],
+        _ => [run_of(0, 0), run_of(0, 0)],
     }
 }
 
