@@ -198,6 +198,7 @@ typedef struct {
     double max_s;                            /* the largest s that is no NaN; -infinity where none came */
     double max_z[12];                        /* the same of z of each feature that is in calib_mask and valid */
     uint8_t terminal_state;                  /* code: the state that the last tick ended in; Idle before the first */
+    uint32_t stop_actions;                   /* ticks that ended in a stop state (4 to 8) and whose action was the brake or the hold one: `stopped` of `end` */
 } disklorva_tally;
 
 typedef struct {

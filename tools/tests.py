@@ -167,6 +167,14 @@ def explain_story():
     expect(text == (TOP / "examples/story.words").read_text(), "other words than examples/story.words:\n" + text)
 
 
+def explain_modes():
+    """The same records in both modes: the states are the same, what stopped the arm is not."""
+    for name, words in [("observe", "2 of them stopped: in Observe the guard's fault ticks alone"), ("enforce", "13 of them in a stop state")]:
+        status, text, said = explain((TOP / f"examples/{name}.journal").read_bytes())
+        expect(status == 0 and not said, f"status {status}, said {said}")
+        has(text, f"end: 14 ticks since the last reset, {words}\n")
+
+
 def explain_every_reason():
     journal = (TOP / "crates/trace/stdin").read_bytes()
     status, text, said = explain(journal)

@@ -3,7 +3,7 @@
  *     host [--trace] [--record FILE] [JOURNAL]       from standard input where no file is named
  *
  * Prints the lines of the program `fuse`.
- * With --trace, after each tick, every field of the verdict and of the lent run state.
+ * With --trace, after each tick, every field of the verdict and of the lent run state but the tally's stop_actions, which is in the last line.
  * With --record the calls are written to FILE as a journal (recorder.h).
  * The exit status is 2 where reading, printing or recording failed.
  * A controller has its sensors where this host has a journal; journal.c calls the library. */
@@ -58,8 +58,7 @@ static void print_tick(const disklorva_verdict *v) {
 }
 
 static void print_end(const disklorva_tally *t) {
-    uint64_t stopped = (uint64_t)t->braking + t->held + t->escalated + t->fault + t->terminated;
-    printf("end %" PRIu32 " %" PRIu64 "\n", t->ticks, stopped);
+    printf("end %" PRIu32 " %" PRIu32 "\n", t->ticks, t->stop_actions);
 }
 
 /* ---- the trace */

@@ -5,7 +5,7 @@
  *
  * FIRST is a journal that ends after some tick, and SECOND has the records that come next, without settings and without a reset. The first is run to its
  * end and its tally taken; then the second goes on with the same run state, under the same settings, with an empty tally.
- * Prints the joined tally, in the lines that the host has in its trace (host.c). The exit status is 1 where a record is refused.
+ * Prints the joined tally, in the lines that the host has in its trace (host.c), and stop_actions, which a trace does not have. The exit status is 1 where a record is refused.
  *
  * With one JOURNAL each of its episodes is run whole, and then once for every place at which it can be cut: before its first tick, after each, and after
  * its last. The joined tally has to be that of the whole run in every field, and the verdicts after the cut have to be those of the whole run.
@@ -59,6 +59,7 @@ static const field tally_fields[] = {
     TALLY(F64, max_s, 1),
     TALLY(F64, max_z, 12),
     TALLY(U8, terminal_state, 1),
+    TALLY(U32, stop_actions, 1),
 };
 
 static const field verdict_fields[] = {

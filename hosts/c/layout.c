@@ -159,6 +159,7 @@ static void tally(const char *name) {
     FIELD(disklorva_tally, max_s);
     FIELD(disklorva_tally, max_z);
     FIELD(disklorva_tally, terminal_state);
+    FIELD(disklorva_tally, stop_actions);
     printf("%s size %zu\n", name, sizeof(disklorva_tally));
 }
 

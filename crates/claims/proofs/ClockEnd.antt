@@ -54,7 +54,7 @@ schema-stays false true = tt
 schema-stays false false = tt
 
 -- a fault bit leads to Fault and adds none of its own
-row-one : (cfg : FuseConfig) (rt : Control) (pos : List Float) (inp : FsmInput) → anyOf (inp .trips) faultBits ≡ true
+pub row-one : (cfg : FuseConfig) (rt : Control) (pos : List Float) (inp : FsmInput) → anyOf (inp .trips) faultBits ≡ true
     → (nextOf cfg rt pos inp .state ≡ Fault) × (nextOf cfg rt pos inp .extra ≡ 0)
 unfolding nextOf nextFrom settledOf firstThat table
 row-one cfg rt pos inp e = rw e (refl, refl)

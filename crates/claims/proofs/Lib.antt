@@ -9,6 +9,7 @@ pub mod Flag
 pub mod ClockEnd
 pub mod Tallies
 pub mod Maxima
+pub mod StopActions
 pub mod Limit
 pub mod Witness
 pub mod Counters

@@ -44,7 +44,7 @@ use Rattle.claims.proofs.Tallies.{tally-told}
 
 -- ---- a tick: what the tally takes in is what the mask and the verdict say
 
-and-false : (b : Bool) → (b && false) ≡ false
+pub and-false : (b : Bool) → (b && false) ≡ false
 and-false true = refl
 and-false false = refl
 

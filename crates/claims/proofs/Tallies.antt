@@ -40,7 +40,7 @@ tally-after r (c ∷ cs) =
 
 -- the verdicts of the history are the list of verdicts
 module _ (p : SafetyVerdict → Bool) where
-  abbrev inItem : Item → Bool
+  abbrev pub inItem : Item → Bool
   inItem x = p (x .verdict)
 
   one-more : (b : Bool) (r : FuseRt) (c : Call) (a : Ticked) (cs : List Call) → H.number inItem (historyFrom (a .rt) cs) ≡ howMany p (verdictsFrom (a .rt) cs)
@@ -49,7 +49,7 @@ module _ (p : SafetyVerdict → Bool) where
   one-more true r c a cs e = ap (λ n. cond (p (a .verdict)) 1 0 + n) e
   one-more false r c a cs e = e
 
-  same-number : (r : FuseRt) (cs : List Call) → H.number inItem (historyFrom r cs) ≡ howMany p (verdictsFrom r cs)
+  pub same-number : (r : FuseRt) (cs : List Call) → H.number inItem (historyFrom r cs) ≡ howMany p (verdictsFrom r cs)
   same-number r [] = refl
   same-number r (c ∷ cs) = one-more (isAccepted (tickAnswer r c .check)) r c (tickAnswer r c) cs (same-number (tickAnswer r c .rt) cs)
 

@@ -150,6 +150,7 @@ tally-back c = λ j. record {
   «max_s» = c .«max_s»;
   «max_z» = c .«max_z»;
   «terminal_state» = state-back (c .«terminal_state») j;
+  «stop_actions» = c .«stop_actions»;
 }
 
 pub stored-back : (r : FuseRt) → stateIn (stateOut r) ≡ r

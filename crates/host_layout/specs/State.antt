@@ -137,6 +137,7 @@ tallyIn c = record {
   «max_s» = c .«max_s»;
   «max_z» = c .«max_z»;
   «terminal_state» = stateOf (c .«terminal_state»);
+  «stop_actions» = c .«stop_actions»;
 }
 
 unfoldable pub stateIn : RunState → FuseRt
@@ -214,6 +215,7 @@ tallyOut c = record {
   «max_s» = c .«max_s»;
   «max_z» = c .«max_z»;
   «terminal_state» = stateCode (c .«terminal_state»);
+  «stop_actions» = c .«stop_actions»;
 }
 
 unfoldable pub stateOut : FuseRt → RunState

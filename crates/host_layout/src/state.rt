@@ -100,6 +100,7 @@ pub struct Tally {
     pub max_s: f64,
     pub max_z: [f64; NFEAT],
     pub terminal_state: u8,
+    pub stop_actions: u32,
 }
 
 #[repr(C)]
@@ -308,6 +309,7 @@ pub fn tally_in(given: Tally) -> lictor_core::tally::Tally
         max_s: given.max_s,
         max_z,
         terminal_state,
+        stop_actions: given.stop_actions,
     }
 }
 
@@ -414,6 +416,7 @@ pub fn tally_out(tally: lictor_core::tally::Tally) -> Tally
         max_s: tally.max_s,
         max_z,
         terminal_state,
+        stop_actions: tally.stop_actions,
     }
 }
 

@@ -33,15 +33,11 @@ use Rattle.journal_reader.specs.Reading.{Instruction, width, broughtOf, withRea
 use Rattle.journal_reader.proofs.Reading.{Move, machine, next-frame, next-accepted}
 use Rattle.journal.specs.Events.{runAfterAll, eventsFrom}
 use Rattle.journal.specs.Journal.{startState, startRun, ended, refused, Meaning, endingOf, journalOf}
-use Rattle.journal.specs.Widths.{isWidth, forFuse, ofFuse, withWidth, OneWidth, further, FurtherOn, AsWithout}
+use Rattle.journal.specs.Widths.{isWidth, forFuse, ofFuse, withWidth, WidthTaken, OneWidth, further, measured, FurtherOn, AsWithout}
 use Rattle.journal.proofs.Parts.{meaning-by, meaning-is}
 use Rattle.journal.proofs.Widths.{widths-idle, except-append}
 
 -- ---- what a width changes in a reader
-
--- the same reader, which has seen a width
-abbrev measured : State → State
-measured st = withReader st (widthCame (st .reader))
 
 abbrev moved : Move → Move
 moved wait = wait
@@ -178,45 +174,45 @@ refused-ending : (p : ℕ) (rest : List ℕ) (r : Refusal) → endingOf p rest (
 refused-ending p [] r = refl
 refused-ending p (k ∷ u) r = refl
 
--- ---- the claim
+-- ---- where a width is taken
 
-module _ (kinds front body back : List ℕ) (o : OneWidth kinds front body back) where
-  abbrev first : Settled State Instruction Refusal
+module _ (kinds front body back : List ℕ) (t : WidthTaken kinds front body) where
+  abbrev pub first : Settled State Instruction Refusal
   first = settled (onBytes kinds) startState front
 
-  abbrev st : State
+  abbrev pub st : State
   st = first .state
 
   first-empty : first .rest ≡ []
   unfolding journalOf
-  first-empty = ended-empty (length front - length (first .rest)) (first .rest) (first .end) (o .before)
+  first-empty = ended-empty (length front - length (first .rest)) (first .rest) (first .end) (t .before)
 
   -- after `front` the reader goes on
-  goes-on : (t : List ℕ) → settled (onBytes kinds) startState (front ++ t) ≡ telling (first .told) (settled (onBytes kinds) st t)
-  goes-on t =
-      joined (onBytes kinds) (machine kinds) startState front t
-      ∙ ap (λ (u : List ℕ). telling (first .told) (settled (onBytes kinds) st (u ++ t))) first-empty
+  goes-on : (s : List ℕ) → settled (onBytes kinds) startState (front ++ s) ≡ telling (first .told) (settled (onBytes kinds) st s)
+  goes-on s =
+      joined (onBytes kinds) (machine kinds) startState front s
+      ∙ ap (λ (u : List ℕ). telling (first .told) (settled (onBytes kinds) st (u ++ s))) first-empty
 
   -- and takes the width
   abbrev w : Instruction
   w = width (floatAt body 0)
 
   body-is : take (bodyLen kinds widthKind) (body ++ back) ≡ body
-  body-is = take-at body back (bodyLen kinds widthKind) (o .whole)
+  body-is = take-at body back (bodyLen kinds widthKind) (t .whole)
 
   back-is : drop (suc (bodyLen kinds widthKind)) (widthKind ∷ (body ++ back)) ≡ back
-  back-is = drop-at body back (bodyLen kinds widthKind) (o .whole)
+  back-is = drop-at body back (bodyLen kinds widthKind) (t .whole)
 
   takes-width : onBytes kinds st (widthKind ∷ (body ++ back)) ≡ tell (measured st) (suc (bodyLen kinds widthKind)) w
   unfolding journalOf onRecord decodeOf
   takes-width =
-      next-accepted kinds st widthKind (body ++ back) (ap (judgedOf kinds (seenIn st) widthKind) body-is ∙ o .accepted)
+      next-accepted kinds st widthKind (body ++ back) (ap (judgedOf kinds (seenIn st) widthKind) body-is ∙ t .accepted)
       ∙ ap (λ (b : List ℕ). onRecord st b (suc (bodyLen kinds widthKind)) (decodeOf widthKind b)) body-is
 
   abbrev then : Settled State Instruction Refusal
   then = settled (onBytes kinds) st back
 
-  abbrev then-measured : Settled State Instruction Refusal
+  abbrev pub then-measured : Settled State Instruction Refusal
   then-measured = settled (onBytes kinds) (measured st) back
 
   with-is : settled (onBytes kinds) startState (withWidth front body back) ≡ telling (first .told) (telling (w ∷ []) then-measured)
@@ -225,6 +221,11 @@ module _ (kinds front body back : List ℕ) (o : OneWidth kinds front body back)
       ∙ ap (telling (first .told))
       (settled-tell (onBytes kinds) (machine kinds .there) st (widthKind ∷ (body ++ back)) (measured st) (suc (bodyLen kinds widthKind)) w takes-width
       ∙ ap (λ (u : List ℕ). telling (w ∷ []) (settled (onBytes kinds) (measured st) u)) back-is)
+
+  -- a width that is taken is told
+  pub width-told : settled (onBytes kinds) startState (withWidth front body back) .told
+      ≡ settled (onBytes kinds) startState front .told ++ (width (floatAt body 0) ∷ then-measured .told)
+  width-told = ap (λ (a : Settled State Instruction Refusal). a .told) with-is
 
   -- the place where it settles
   abbrev bytes : List ℕ
@@ -239,16 +240,7 @@ module _ (kinds front body back : List ℕ) (o : OneWidth kinds front body back)
   place-is : length bytes - length (then-measured .rest) ≡ settles .place
   place-is = omega (arith, ap length rest-is, length-drop (settles .place) bytes, settles .within)
 
-  -- no other width is come to
-  no-width : NoWidth kinds then-measured
-  no-width r e q =
-      o .last r (settles .place)
-      (ap (λ (m : Meaning). m .ending) (meaning-is kinds bytes _ with-is)
-      ∙ ap₂ (λ (p : ℕ) (x : End Refusal). endingOf p (then-measured .rest) x) place-is e
-      ∙ refused-ending (settles .place) (then-measured .rest) r)
-      (place-byte bytes (settles .place) ∙ ap (λ (u : List ℕ). byteAt u 0) (sym rest-is) ∙ q)
-
-  -- so the instructions are those without it, and the width
+  -- the instructions with the record, and without it
   abbrev told-with : List Instruction
   told-with = first .told ++ (w ∷ then .told)
 
@@ -257,10 +249,6 @@ module _ (kinds front body back : List ℕ) (o : OneWidth kinds front body back)
 
   same-told : forFuse told-with ≡ forFuse told-without
   same-told = except-append isWidth (first .told) (w ∷ then .told) ∙ sym (except-append isWidth (first .told) (then .told))
-
-  means-with : journalOf kinds bytes
-      ≡ meaning-by (length bytes) (record { state = measured (then .state); rest = then .rest; told = told-with; end = then .end })
-  means-with = meaning-is kinds bytes _ (with-is ∙ ap (λ (a : Settled State Instruction Refusal). telling (first .told) (telling (w ∷ []) a)) (all-same kinds st back no-width))
 
   means-without : journalOf kinds (front ++ back)
       ≡ meaning-by (length (front ++ back)) (record { state = then .state; rest = then .rest; told = told-without; end = then .end })
@@ -272,26 +260,43 @@ module _ (kinds front body back : List ℕ) (o : OneWidth kinds front body back)
   places : length bytes - length (then .rest) ≡ length (front ++ back) - length (then .rest) + suc (length body)
   places = omega (arith, rest-fits, length-append front (widthKind ∷ (body ++ back)), length-append body back, length-append front back)
 
-  alike : FurtherOn (suc (length body)) (journalOf kinds bytes) (journalOf kinds (front ++ back))
-  alike = record {
-    events =
-        ap (λ (m : Meaning). ofFuse (m .events)) means-with
-        ∙ widths-idle startRun told-with .events
-        ∙ ap (eventsFrom startRun) same-told
-        ∙ sym (widths-idle startRun told-without .events)
-        ∙ sym (ap (λ (m : Meaning). ofFuse (m .events)) means-without);
-    run =
-        ap (λ (m : Meaning). m .left .run) means-with
-        ∙ widths-idle startRun told-with .run
-        ∙ ap (runAfterAll startRun) same-told
-        ∙ sym (widths-idle startRun told-without .run)
-        ∙ sym (ap (λ (m : Meaning). m .left .run) means-without);
-    ending =
-        ap (λ (m : Meaning). m .ending) means-with
-        ∙ ap (λ (p : ℕ). endingOf p (then .rest) (then .end)) places
-        ∙ further-by (suc (length body)) (length (front ++ back) - length (then .rest)) (then .rest) (then .end)
-        ∙ sym (ap (λ (m : Meaning). further (suc (length body)) (m .ending)) means-without);
-  }
+  -- ---- the claim
+
+  module _ (o : OneWidth kinds front body back) where
+    -- no second width is come to
+    no-width : NoWidth kinds then-measured
+    no-width r e q =
+        o .no-second r (settles .place)
+        (ap (λ (m : Meaning). m .ending) (meaning-is kinds bytes _ with-is)
+        ∙ ap₂ (λ (p : ℕ) (x : End Refusal). endingOf p (then-measured .rest) x) place-is e
+        ∙ refused-ending (settles .place) (then-measured .rest) r)
+        (place-byte bytes (settles .place) ∙ ap (λ (u : List ℕ). byteAt u 0) (sym rest-is) ∙ q)
+
+    means-with : journalOf kinds bytes
+        ≡ meaning-by (length bytes) (record { state = measured (then .state); rest = then .rest; told = told-with; end = then .end })
+    means-with = meaning-is kinds bytes _ (with-is ∙ ap (λ (a : Settled State Instruction Refusal). telling (first .told) (telling (w ∷ []) a)) (all-same kinds st back no-width))
+
+    alike : FurtherOn (suc (length body)) (journalOf kinds bytes) (journalOf kinds (front ++ back))
+    alike = record {
+      events =
+          ap (λ (m : Meaning). ofFuse (m .events)) means-with
+          ∙ widths-idle startRun told-with .events
+          ∙ ap (eventsFrom startRun) same-told
+          ∙ sym (widths-idle startRun told-without .events)
+          ∙ sym (ap (λ (m : Meaning). ofFuse (m .events)) means-without);
+      run =
+          ap (λ (m : Meaning). m .left .run) means-with
+          ∙ widths-idle startRun told-with .run
+          ∙ ap (runAfterAll startRun) same-told
+          ∙ sym (widths-idle startRun told-without .run)
+          ∙ sym (ap (λ (m : Meaning). m .left .run) means-without);
+      state = ap (λ (m : Meaning). m .left .state) means-with ∙ sym (ap (λ (m : Meaning). measured (m .left .state)) means-without);
+      ending =
+          ap (λ (m : Meaning). m .ending) means-with
+          ∙ ap (λ (p : ℕ). endingOf p (then .rest) (then .end)) places
+          ∙ further-by (suc (length body)) (length (front ++ back) - length (then .rest)) (then .rest) (then .end)
+          ∙ sym (ap (λ (m : Meaning). further (suc (length body)) (m .ending)) means-without);
+    }
 
 pub as-without : AsWithout
-as-without kinds front body back o = alike kinds front body back o
+as-without kinds front body back o = alike kinds front body back (o .taken) o

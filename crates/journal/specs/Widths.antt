@@ -13,8 +13,8 @@ use Rattle.journal_records.specs.Kinds.{widthKind}
 use Rattle.journal_refusals.specs.declared.Refusal.{Refusal}
 use Rattle.journal_refusals.specs.declared.Judged.the-variants.{Accepted}
 use Rattle.journal_refusals.specs.Table.{judgedOf}
-use Rattle.journal_reader.specs.State.{seenIn}
-use Rattle.journal_reader.specs.Reading.{Instruction, begin, restart, tick, width}
+use Rattle.journal_reader.specs.State.{State, seenIn, widthCame}
+use Rattle.journal_reader.specs.Reading.{Instruction, begin, restart, tick, width, withReader}
 use Rattle.journal.specs.declared.tick.Run.{Run}
 use Rattle.journal.specs.Events.{runAfterAll, Event, began, restarted, ticked, widthGiven, eventsFrom}
 use Rattle.journal.specs.Journal.{Ending, ended, refused, Meaning, journalOf}
@@ -59,12 +59,17 @@ WidthsIdle = (r : Run) (is : List Instruction) → Idle r is
 abbrev pub withWidth : List ℕ → List ℕ → List ℕ → List ℕ
 withWidth front body back = front ++ (widthKind ∷ (body ++ back))
 
--- the record is whole, and after `front` it is accepted; `back` has no other that is come to
-pub record OneWidth (kinds front body back : List ℕ) : Type 0 where
+-- `front` is a journal that ends with nothing refused; after it a width with this body is whole, and
+-- is accepted
+pub record WidthTaken (kinds front body : List ℕ) : Type 0 where
   pub before : journalOf kinds front .ending ≡ ended
   pub whole : length body ≡ bodyLen kinds widthKind
   pub accepted : judgedOf kinds (seenIn (journalOf kinds front .left .state)) widthKind body ≡ Accepted
-  pub last : (r : Refusal) (p : ℕ) → journalOf kinds (withWidth front body back) .ending ≡ refused r p
+
+-- and no second width is come to
+pub record OneWidth (kinds front body back : List ℕ) : Type 0 where
+  pub taken : WidthTaken kinds front body
+  pub no-second : (r : Refusal) (p : ℕ) → journalOf kinds (withWidth front body back) .ending ≡ refused r p
       → byteAt (withWidth front body back) p ≡ widthKind → ⊥
 
 -- an ending whose place is n bytes further on
@@ -72,10 +77,16 @@ abbrev pub further : ℕ → Ending → Ending
 further n ended = ended
 further n (refused r p) = refused r (p + n)
 
--- m has the events and the fuse of m', and its ending, the place by n bytes further on
+-- the same collected records and lists, of a reader that has seen a width
+abbrev pub measured : State → State
+measured st = withReader st (widthCame (st .reader))
+
+-- m has the events and the fuse of m', what it collected, and its ending, the place by n bytes
+-- further on
 pub record FurtherOn (n : ℕ) (m m' : Meaning) : Type 0 where
   pub events : ofFuse (m .events) ≡ ofFuse (m' .events)
   pub run : m .left .run ≡ m' .left .run
+  pub state : m .left .state ≡ measured (m' .left .state)
   pub ending : m .ending ≡ further n (m' .ending)
 
 abbrev pub AsWithout : Type 0

@@ -1,4 +1,5 @@
--- The proof, layer by layer.
+-- The proofs, layer by layer.
 pub mod Order
 pub mod Episodes
 pub mod JournalStops
+pub mod JournalStopActions

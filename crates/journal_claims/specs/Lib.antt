@@ -1,3 +1,4 @@
--- The claim, and the words that it is written with.
+-- The claims, and the words that they are written with.
 pub mod Instructions
 pub mod JournalStops
+pub mod JournalStopActions

@@ -61,7 +61,7 @@ abbrev pub withReader : State → Reader → State
 withReader st r = record { reader = r; lists = st .lists }
 
 -- A record of n bytes, with body b, that is not refused. Settings, a reset and a tick instruct the
--- fuse, and a width whoever shows what it does; a reset and a tick empty what was collected; the
+-- fuse, and a width is for whoever shows the events; a reset and a tick empty what was collected; the
 -- others wait.
 unfoldable pub onRecord : State → List ℕ → ℕ → Record → Next State Instruction Refusal
 onRecord st b n Settings = tell (withReader st (settingsCame (st .reader))) n (begin (settingsOf b))

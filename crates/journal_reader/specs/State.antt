@@ -84,8 +84,8 @@ seenValue n c = withCollected n (n .ack) (n .head) (n .outcome) (set (n .counts)
 
 -- A reset or a tick came, and nothing waits any more: the counts are 0. The values in the lent
 -- memory stay as they were, and so do the places of an ack, a head and an outcome.
-abbrev pub seenNone : Seen → Seen
-seenNone n = withCollected (withCame n (n .settings) (n .width) true) false false false (replicate (length capacities) 0)
+abbrev pub seenEmptied : Seen → Seen
+seenEmptied n = withCollected (withCame n (n .settings) (n .width) true) false false false (replicate (length capacities) 0)
 
 -- ---- what waits
 
@@ -118,7 +118,7 @@ unfoldable pub widthCame : Reader → Reader
 widthCame r = withWaiting r (withSeen (r .waiting) (seenWidth (r .waiting .seen)))
 
 unfoldable pub emptied : Reader → Reader
-emptied r = withWaiting r (withSeen (r .waiting) (seenNone (r .waiting .seen)))
+emptied r = withWaiting r (withSeen (r .waiting) (seenEmptied (r .waiting .seen)))
 
 -- before the first byte: nothing was seen; the places of an ack, a head and an outcome hold zeros
 unfoldable pub startReader : Reader

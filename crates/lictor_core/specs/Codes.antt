@@ -3,7 +3,7 @@
 -- For codes that come in, the case of each number too, which undoes the first (proofs/Codes). A
 -- number that is not listed is refused before: in settings by their check, in an acknowledgement by
 -- the journal's refusal table or, of a host's call, as none. Its case here is the last.
-use mathlib.Core.Bool.{Bool, cond}
+use mathlib.Core.Bool.{Bool, cond, _||_}
 use Prim.Native.Nat.{ℕ}
 use lib.Dec.{eqb, leb}
 use Rattle.lictor_core.specs.declared.state.FuseState.{FuseState}
@@ -167,6 +167,14 @@ isReason q w = eqb (reasonCode q) (reasonCode w)
 
 abbrev pub isPolicy : ActionSource → Bool
 isPolicy s = eqb (sourceCode s) (sourceCode A.Policy)
+
+abbrev pub isSource : ActionSource → ActionSource → Bool
+isSource q s = eqb (sourceCode q) (sourceCode s)
+
+-- the actions by which the fuse stops the robot, the brake and the hold one: no row of the outcome
+-- (02-change-requests.md, Ask 8)
+abbrev pub isStopAction : ActionSource → Bool
+isStopAction s = isSource s A.Brake || isSource s A.Hold
 
 abbrev pub isObserve : FuseMode → Bool
 isObserve m = eqb (modeCode m) (modeCode Observe)

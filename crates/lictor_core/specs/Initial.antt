@@ -1,6 +1,6 @@
 -- The initial values: an empty tally, the run state of `FuseRt::new`, and what `reset` leaves,
 -- every field as fuse.rs and tally.rs have it, but that a reset keeps the stored nonces
--- (02-change-requests.md, Ask 6).
+-- (02-change-requests.md, Ask 6); `stop_actions`, which they do not have, is Ask 8's.
 use mathlib.Core.Bool.{true, false}
 use mathlib.Core.List.{List}
 use Prim.Native.Nat.{ℕ}
@@ -59,6 +59,7 @@ emptyTally = record {
   «max_s» = inf true;
   «max_z» = replicate features (inf true);
   «terminal_state» = Idle;
+  «stop_actions» = 0;
 }
 
 -- nothing is stored: no slot has a nonce above 0

@@ -44,4 +44,7 @@ pub struct Tally {
     pub max_s: f64,
     pub max_z: [f64; NFEAT],
     pub terminal_state: FuseState,
+    // Ticks of a stop state whose action is the brake or the hold one, no row of the outcome
+    // (request 8). The Rust does not have it.
+    pub stop_actions: u32,
 }

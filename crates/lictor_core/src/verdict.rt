@@ -1,6 +1,6 @@
 // The verdict of a tick and the trip bits (verdict.rs).
 ghost use mathlib.Core.Path.{_≡_};
-ghost use Rattle.lictor_core.specs.Codes.{statusCode, sourceCode, isPolicy};
+ghost use Rattle.lictor_core.specs.Codes.{statusCode, sourceCode, isPolicy, isStopAction};
 ghost use Rattle.lictor_core.specs.Masks.{anyOf};
 use crate::chunk::MAX_D;
 use crate::reason::ReasonCode;
@@ -138,4 +138,16 @@ pub fn is_policy(s: ActionSource) -> bool
     ensures { λ r. ⌜ r ≡ isPolicy s ⌝ }
 {
     source_code(s) == POLICY
+}
+
+// Whether the action is the fuse's own, which stops the arm: the others are rows of the outcome.
+pub fn is_stop_action(s: ActionSource) -> bool
+    ensures { λ r. ⌜ r ≡ isStopAction s ⌝ }
+{
+    match s {
+        ActionSource::Policy => false,
+        ActionSource::Clamped => false,
+        ActionSource::Brake => true,
+        ActionSource::Hold => true,
+    }
 }

@@ -21,7 +21,7 @@ use Rattle.lictor_core.specs.declared.tally.ReasonMark.{ReasonMark}
 use Rattle.lictor_core.specs.declared.tally.ReasonMark.the-variants.{NoReason, For}
 use Rattle.lictor_core.specs.declared.tally.Tally.{Tally}
 use Rattle.lictor_tally.specs.Tally.{count, countBit, countBits, first, firstReason, mostAt, mostLive, recordOf, recordChunk, withChunks}
-use Rattle.lictor_tally.specs.History.{Item, recorded, tallyFrom, tallyOf, Count, ticksCount, nominalCount, watchingCount, clampedCount, brakingCount, heldCount, escalatedCount, faultCount, terminatedCount, substitutedCount, violationsCount, chunksSeenCount, chunksRejectedCount, clampsCount, holdsCount, rearmsCount, escalationsCount, tripsCount, firedCount, valueOf, counts, number, overStates, hasTrips, stops, handsOver, Maximum, ofS, ofZ, maximumIn, takes, scoreOf, firstIn, firstReasonOf, lastIn, OfHistory}
+use Rattle.lictor_tally.specs.History.{Item, recorded, tallyFrom, tallyOf, Count, ticksCount, nominalCount, watchingCount, clampedCount, brakingCount, heldCount, escalatedCount, faultCount, terminatedCount, substitutedCount, violationsCount, chunksSeenCount, chunksRejectedCount, clampsCount, holdsCount, rearmsCount, escalationsCount, stopActionsCount, tripsCount, firedCount, valueOf, counts, number, overStates, hasTrips, stops, handsOver, Maximum, ofS, ofZ, maximumIn, takes, scoreOf, firstIn, firstReasonOf, lastIn, OfHistory}
 use Rattle.lictor_tally.proofs.Places.{length-each}
 use Rattle.lictor_tally.proofs.CountsLaws.{count-fits, bits-at, most-at}
 
@@ -79,6 +79,7 @@ moves clampsCount t x z = refl
 moves holdsCount t x z = refl
 moves rearmsCount t x z = refl
 moves escalationsCount t x z = refl
+moves stopActionsCount t x z = refl
 moves (tripsCount b) t x z = bits-at (x .verdict .trips) (t .«trips_by_bit») 16 b (z .trips)
 moves (firedCount j) t x z = bits-at (x .verdict .scores .fired) (t .«fired_by_feat») 12 j (z .fired)
 
@@ -198,6 +199,7 @@ none-yet clampsCount = refl
 none-yet holdsCount = refl
 none-yet rearmsCount = refl
 none-yet escalationsCount = refl
+none-yet stopActionsCount = refl
 none-yet (tripsCount b) = all-same tripBits b 0
 none-yet (firedCount j) = all-same features j 0
 

@@ -112,6 +112,7 @@ module _ (a b : Tally) (p : Sized a) (q : Sized b) where
         «max_s» = max-most true (a .«max_s») (b .«max_s») (v .scores .s) i;
         «max_z» = max-live (x .events .«live_z») (v .scores .z) (a .«max_z») (b .«max_z») (p .maxima ∙ sym (q .maxima)) i;
         «terminal_state» = last-later (b .ticks) (a .«terminal_state») (v .state) i;
+        «stop_actions» = sums x H.stopActionsCount i;
       }
 
   joined-tick : (x : Item) → joinOf a (recorded b x) ≡ recorded (joinOf a b) x
@@ -179,6 +180,7 @@ join-none t o =
       «max_s» = max-to-lowest (t .«max_s») (o .numbers ofS) i;
       «max_z» = each-with-none maxOf nan (inf true) (inf true) features (t .«max_z») (o .sized .maxima) (λ k h. max-to-lowest (maximumIn (ofZ k) t) (o .numbers (ofZ k))) i;
       «terminal_state» = t .«terminal_state»;
+      «stop_actions» = n H.stopActionsCount i;
     }
 
 -- ---- the tallies of histories are such

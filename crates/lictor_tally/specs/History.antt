@@ -20,7 +20,7 @@ use Rattle.lictor_core.specs.declared.tally.ReasonMark.{ReasonMark}
 use Rattle.lictor_core.specs.declared.tally.ReasonMark.the-variants.{NoReason, For}
 use Rattle.lictor_core.specs.declared.tally.Tally.{Tally}
 use Rattle.lictor_tally.specs.declared.TickEvents.{TickEvents}
-use Rattle.lictor_tally.specs.Tally.{bitOf, isNominal, recordOf, recordChunk}
+use Rattle.lictor_tally.specs.Tally.{bitOf, isNominal, stopsArm, recordOf, recordChunk}
 
 -- what the tally takes in of a tick
 pub record Item : Type 0 where
@@ -46,7 +46,7 @@ tallyOf h = tallyFrom emptyTally h
 
 pub data Count : Type 0 where
   ticksCount nominalCount watchingCount clampedCount brakingCount heldCount escalatedCount faultCount terminatedCount : Count
-  substitutedCount violationsCount chunksSeenCount chunksRejectedCount clampsCount holdsCount rearmsCount escalationsCount : Count
+  substitutedCount violationsCount chunksSeenCount chunksRejectedCount clampsCount holdsCount rearmsCount escalationsCount stopActionsCount : Count
   -- one for each place of the two lists
   tripsCount firedCount : ℕ → Count
 
@@ -68,6 +68,7 @@ valueOf clampsCount t = t .clamps
 valueOf holdsCount t = t .holds
 valueOf rearmsCount t = t .rearms
 valueOf escalationsCount t = t .escalations
+valueOf stopActionsCount t = t .«stop_actions»
 valueOf (tripsCount b) t = getD (t .«trips_by_bit») b 0
 valueOf (firedCount j) t = getD (t .«fired_by_feat») j 0
 
@@ -89,6 +90,7 @@ counts clampsCount x = x .events .clamped
 counts holdsCount x = x .events .«entered_hold»
 counts rearmsCount x = x .events .rearmed
 counts escalationsCount x = x .events .«entered_escalated»
+counts stopActionsCount x = stopsArm (x .verdict)
 counts (tripsCount b) x = ltb b tripBits && bitOf (x .verdict .trips) b
 counts (firedCount j) x = ltb j features && bitOf (x .verdict .scores .fired) j
 

@@ -75,4 +75,5 @@ joinOf a b = record {
   «max_s» = maxOf (a .«max_s») (b .«max_s»);
   «max_z» = maxEach (a .«max_z») (b .«max_z»);
   «terminal_state» = lastBy (b .ticks) (a .«terminal_state») (b .«terminal_state»);
+  «stop_actions» = sumOf (a .«stop_actions») (b .«stop_actions»);
 }

@@ -1,10 +1,10 @@
 -- What a tick makes of the tally (tally.rs). Each field goes by one of four rules: a count, a mark,
 -- a maximum (lictor_tally, specs/Counts), the last state.
-use mathlib.Core.Bool.{Bool, not}
+use mathlib.Core.Bool.{Bool, not, _&&_}
 use Prim.Native.Nat.{ℕ}
 use lib.Dec.{eqb}
 use Rattle.fmath.specs.Float.{maxOf}
-use Rattle.lictor_core.specs.Codes.{isState, isStop}
+use Rattle.lictor_core.specs.Codes.{isState, isStop, isStopAction}
 use Rattle.lictor_core.specs.Num.{satUp}
 use Rattle.lictor_core.specs.declared.state.FuseState.the-variants as S
 use Rattle.lictor_core.specs.declared.verdict.SafetyVerdict.{SafetyVerdict}
@@ -12,6 +12,11 @@ use Rattle.lictor_core.specs.declared.tally.Tally.{Tally}
 use Rattle.lictor_tally.specs.declared.TickEvents.{TickEvents}
 unfoldable pub use Rattle.lictor_tally.specs.Counts.{count, bitOf, countBit, eachFrom, countBits, first, firstReason, mostAt, mostLive}
 pub use Rattle.lictor_tally.specs.Counts.{isNominal, isNever}
+
+-- the tick stops the arm: it ends in a stop state, and its action is the brake or the hold one, no
+-- row of the outcome (02-change-requests.md, Ask 8)
+abbrev pub stopsArm : SafetyVerdict → Bool
+stopsArm v = isStop (v .state) && isStopAction (v .«action_src»)
 
 -- ---- Tally::record
 
@@ -49,6 +54,8 @@ recordOf t v ev = record {
   «max_s» = maxOf (t .«max_s») (v .scores .s);
   «max_z» = mostLive (ev .«live_z») (v .scores .z) (t .«max_z»);
   «terminal_state» = v .state;
+  -- not in tally.rs
+  «stop_actions» = count (stopsArm v) (t .«stop_actions»);
 }
 
 -- ---- Tally::record_chunk
@@ -82,6 +89,7 @@ withChunks seen rejected t = record {
   «max_s» = t .«max_s»;
   «max_z» = t .«max_z»;
   «terminal_state» = t .«terminal_state»;
+  «stop_actions» = t .«stop_actions»;
 }
 
 unfoldable pub recordChunk : Tally → Bool → Tally

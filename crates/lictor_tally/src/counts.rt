@@ -5,7 +5,7 @@ ghost use mathlib.Core.Bool.{cond, _&&_};
 ghost use Prim.Native.Nat.{_<_, _≤_};
 ghost use lib.ListN.{length};
 ghost use Rattle.fmath.specs.Float.{maxOf};
-ghost use Rattle.lictor_core.specs.Codes.{isState, isStop};
+ghost use Rattle.lictor_core.specs.Codes.{isState, isStop, isStopAction};
 ghost use Rattle.lictor_tally.specs.Counts.{count, isNominal, bitOf, countBit, countBits, isNever, first, firstReason, mostLive};
 use lictor_core::num::sat_u32;
 use lictor_core::reason::ReasonCode;
@@ -17,7 +17,9 @@ use lictor_core::state::is_stop;
 use lictor_core::tally::Mark;
 use lictor_core::tally::ReasonMark;
 use lictor_core::tally::Tally;
+use lictor_core::verdict::ActionSource;
 use lictor_core::verdict::TRIP_BITS;
+use lictor_core::verdict::is_stop_action;
 
 // ---- counts
 
@@ -45,6 +47,20 @@ pub fn count_nominal(s: FuseState, n: u32) -> u32
     ensures { λ r. ⌜ r ≡ count (isNominal s) n ⌝ }
 {
     let moves = is_nominal(s);
+    count_if(moves, n)
+}
+
+// A tick stops the arm where it ends in a stop state and its action is the brake or the hold one.
+fn stops_arm(s: FuseState, src: ActionSource) -> bool
+    ensures { λ r. ⌜ r ≡ (isStop s && isStopAction src) ⌝ }
+{
+    is_stop(s) && is_stop_action(src)
+}
+
+pub fn count_stop_action(s: FuseState, src: ActionSource, n: u32) -> u32
+    ensures { λ r. ⌜ r ≡ count (isStop s && isStopAction src) n ⌝ }
+{
+    let moves = stops_arm(s, src);
     count_if(moves, n)
 }
 

@@ -12,6 +12,7 @@ use crate::counts::count_fired;
 use crate::counts::count_if;
 use crate::counts::count_in;
 use crate::counts::count_nominal;
+use crate::counts::count_stop_action;
 use crate::counts::count_trips;
 use crate::counts::first_at;
 use crate::counts::first_reason;
@@ -84,6 +85,7 @@ pub fn empty() -> Tally
         max_s: lowest,
         max_z,
         terminal_state: FuseState::Idle,
+        stop_actions: 0,
     }
 }
 
@@ -97,6 +99,7 @@ pub fn record(tally: Tally, verdict: SafetyVerdict, ev: TickEvents) -> Tally
 {
     let state = verdict.state;
     let reason = verdict.reason;
+    let source = verdict.action_src;
     let trip = tally.first_trip_tick;
     let trip_reason = tally.first_trip_reason;
     let stop = tally.first_stop_tick;
@@ -132,6 +135,7 @@ pub fn record(tally: Tally, verdict: SafetyVerdict, ev: TickEvents) -> Tally
         max_s: fmath::max(tally.max_s, verdict.scores.s),
         max_z: most_live(tally, standardised, ev.live_z),
         terminal_state: state,
+        stop_actions: count_stop_action(state, source, tally.stop_actions),
     }
 }
 
@@ -186,5 +190,6 @@ pub fn join(earlier: Tally, later: Tally) -> Tally
         max_s: fmath::max(earlier.max_s, later.max_s),
         max_z: larger_z(most, later_most),
         terminal_state: last_state(earlier, later),
+        stop_actions: sum(earlier.stop_actions, later.stop_actions),
     }
 }

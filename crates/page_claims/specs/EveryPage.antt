@@ -1,8 +1,9 @@
 -- The pages of every journal (02-change-requests.md, Ask 1): whatever bytes are played, each line
 -- of a tick and of a page has 55 characters, and each field of a tick reads back to what `fuse`
 -- prints for it. The claim is at the end of this file; `every-page` in proofs/EveryPage proves it.
--- Of other files it names: what the program prints (printer, specs/Printer, textOf); its lines
--- (printer, specs/Fifties, pagesOf); a row and its fields (page_text, specs/Rows).
+-- Of other files it names: what the program prints (printer, specs/Printer, textOf), of which the line
+-- of a refusal (refusalText); its lines (printer, specs/Fifties, pagesOf); a row and its fields
+-- (page_text, specs/Rows).
 use mathlib.Core.List.{List, [], _∷_, _++_}
 use mathlib.Core.Path.{_≡_}
 use Prim.Native.Nat.{ℕ, _≤_}
@@ -15,8 +16,8 @@ use Rattle.journal.specs.Journal.{Ending, journalOf}
 use Rattle.journal_claims.specs.JournalStops.{Bytes}
 use Rattle.report.specs.Lines.{tickText}
 use Rattle.page_text.specs.Rows.{pageWidth, ReadBack}
-use Rattle.printer.specs.Printer.{fusePrinter, pagesPrinter, endingText, textOf}
-use Rattle.printer.specs.Fifties.{verdictsOf, pagesOf, linesText, refusalText}
+use Rattle.printer.specs.Printer.{fusePrinter, pagesPrinter, endingText, refusalText, textOf}
+use Rattle.printer.specs.Fifties.{verdictsOf, pagesOf, linesText}
 
 -- the verdicts of a journal's ticks, and how it ends
 abbrev pub ticksIn : List ℕ → List SafetyVerdict

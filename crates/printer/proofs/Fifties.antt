@@ -17,8 +17,8 @@ use Rattle.journal.specs.Journal.{Ending, ended, refused}
 use Rattle.report.specs.Lines.{refusedText}
 use Rattle.page_text.specs.Rows.{tickRow, pageRow, asLine}
 use Rattle.printer.specs.declared.Notes.{Notes}
-use Rattle.printer.specs.Printer.{Shows, pages, Printer, atStart, pagesPrinter, pageRows, lastPage, nextPage, fills, afterTick, tickOnPage, pageClosed, shownText, remembered, closingText, endShown, endingText, printed, printerAfter, printerAfterAll, textFrom, textOf, kindsTaken, meaningFor}
-use Rattle.printer.specs.Fifties.{verdictsOf, ticksOn, pageNumber, pageOf, pageCount, pagesUpTo, pagesOf, linesText, refusalText, pagesText, NoTicks}
+use Rattle.printer.specs.Printer.{Shows, pages, Printer, atStart, pagesPrinter, pageRows, lastPage, nextPage, fills, afterTick, tickOnPage, pageClosed, shownText, remembered, closingText, endShown, endingText, refusalText, printed, printerAfter, printerAfterAll, textFrom, textOf, kindsTaken, meaningFor}
+use Rattle.printer.specs.Fifties.{verdictsOf, ticksOn, pageNumber, pageOf, pageCount, pagesUpTo, pagesOf, linesText, pagesText, NoTicks}
 
 -- ---- lists
 
@@ -87,7 +87,7 @@ module _ (vs : List SafetyVerdict) (m : Notes) (text : List ℕ) (p : Printed vs
   longer : length more ≡ length vs + 1
   longer = length-append vs (v ∷ [])
 
-  on-page : fills m ≡ false → Printed more (record { rows = m .rows + 1; page = m .page; near = m .near }) (text ++ (asLine (tickRow v) ++ []))
+  on-page : fills m ≡ false → Printed more (record { rows = m .rows + 1; page = m .page; measure = m .measure }) (text ++ (asLine (tickRow v) ++ []))
   on-page b = record {
     whole = w;
     counted = (let e : length more ≡ w * pageRows + (m .rows + 1) = omega (arith, longer, p .counted) in e);
@@ -113,7 +113,7 @@ module _ (vs : List SafetyVerdict) (m : Notes) (text : List ℕ) (p : Printed vs
       ∙ ap₂ (λ (x y : List (List ℕ)). x ++ y) stays page
       ∙ sym (append-assoc before (part-rows ++ (tickRow v ∷ [])) (pageRow (m .page) ∷ []))
 
-  fills-page : fills m ≡ true → Printed more (record { rows = 0; page = nextPage (m .page); near = m .near }) (text ++ (asLine (tickRow v) ++ asLine (pageRow (m .page))))
+  fills-page : fills m ≡ true → Printed more (record { rows = 0; page = nextPage (m .page); measure = m .measure }) (text ++ (asLine (tickRow v) ++ asLine (pageRow (m .page))))
   unfolding linesText
   fills-page b =
       let e : m .rows ≡ 49 = omega (arith, p .part, leb-true pageRows (m .rows + 1) b) in
@@ -133,7 +133,7 @@ module _ (vs : List SafetyVerdict) (m : Notes) (text : List ℕ) (p : Printed vs
       }
 
   one-more : (b : Bool) → fills m ≡ b
-      → Printed more (cond b (record { rows = 0; page = nextPage (m .page); near = m .near }) (record { rows = m .rows + 1; page = m .page; near = m .near })) (text ++ (asLine (tickRow v) ++ cond b (asLine (pageRow (m .page))) []))
+      → Printed more (cond b (record { rows = 0; page = nextPage (m .page); measure = m .measure }) (record { rows = m .rows + 1; page = m .page; measure = m .measure })) (text ++ (asLine (tickRow v) ++ cond b (asLine (pageRow (m .page))) []))
   one-more true e = fills-page e
   one-more false e = on-page e
 

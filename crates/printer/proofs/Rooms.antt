@@ -36,10 +36,10 @@ use Rattle.proximity_text.specs.Lines.{linesOf, linesRoom, LinesShown}
 use Rattle.proximity_text.proofs.Laws.{lines-fit}
 use Rattle.printer.specs.declared.Channel.{Channel}
 use Rattle.printer.specs.declared.Channel.the-variants.{Output}
-use Rattle.printer.specs.declared.Near.{Near}
+use Rattle.printer.specs.declared.Measure.{Measure}
 use Rattle.printer.specs.declared.Notes.{Notes}
 use Rattle.printer.specs.declared.Shown.{Shown}
-use Rattle.printer.specs.Printer.{Shows, lines, trace, pages, proximity, traceCode, pagesCode, proximityCode, showsBy, Printer, pageRows, nextPage, fills, afterTick, tickOnPage, pageClosed, isClean, tickNear, withInside, nearAfter, tickShown, shownText, remembered, closingText, endShown, endingText, endingOn, endingBy, channelBy, eventRoom, endingRoom, silentShown, shownAt, memoryAt, ShownIn, EndedIn}
+use Rattle.printer.specs.Printer.{Shows, lines, trace, pages, proximity, traceCode, pagesCode, proximityCode, showsBy, Printer, pageRows, nextPage, fills, afterTick, tickOnPage, pageClosed, isClean, tickLines, withInside, measureAfter, tickShown, shownText, remembered, closingText, endShown, endingText, endingOn, endingBy, channelBy, eventRoom, endingRoom, silentShown, shownAt, memoryAt, ShownIn, EndedIn}
 
 -- ---- room
 
@@ -55,9 +55,9 @@ page-maybe-fits true n = page-row-fits n
 page-maybe-fits false n = omega arith
 
 -- the lines of components, where there are some
-near-fits : (b : Bool) (cfg : FuseConfig) (x : Before) (t : ℕ) (pos : List Float) → length (cond b (linesOf cfg x t pos) []) ≤ linesRoom
-near-fits true cfg x t pos = omega (arith, lines-fit x t (cfg .«box_lo») (cfg .«box_hi») pos (dimsOf cfg))
-near-fits false cfg x t pos = omega arith
+tick-lines-fit : (b : Bool) (cfg : FuseConfig) (x : Before) (t : ℕ) (pos : List Float) → length (cond b (linesOf cfg x t pos) []) ≤ linesRoom
+tick-lines-fit true cfg x t pos = omega (arith, lines-fit x t (cfg .«box_lo») (cfg .«box_hi») pos (dimsOf cfg))
+tick-lines-fit false cfg x t pos = omega arith
 
 tick-shown-fits : (w : Shows) (m : Notes) (pos : List Float) (guard : ℕ) (v : SafetyVerdict) (run : Run) → length (tickShown w m pos guard v run) ≤ eventRoom
 tick-shown-fits lines m pos guard v run = omega (arith, tick-fits v)
@@ -65,8 +65,8 @@ tick-shown-fits trace m pos guard v run =
     let rt = run .rt in
     omega (arith, tick-fits v, trace-fits traceCount v rt, length-append (tickText v) (traceUpTo traceCount v rt))
 tick-shown-fits proximity m pos guard v run =
-    let x = m .near in
-    omega (arith, near-fits (isClean guard && x .given) (run .config) (x .before) (v .t) pos)
+    let x = m .measure in
+    omega (arith, tick-lines-fit (isClean guard && x .given) (run .config) (x .before) (v .t) pos)
 tick-shown-fits pages m pos guard v run =
     omega (arith, tick-row-fits v, page-maybe-fits (fills m) (m .page), length-append (asLine (tickRow v)) (cond (fills m) (asLine (pageRow (m .page))) []))
 
@@ -197,10 +197,10 @@ fills-by m = go (decLe 49 (m .rows))
     go (yes h) = le-leb 49 (m .rows) h ∙ sym (le-leb pageRows (m .rows + 1) (omega arith))
     go (no h) = lt-leb 49 (m .rows) (omega arith) ∙ sym (lt-leb pageRows (m .rows + 1) (omega arith))
 
-pub after-full : (m : Notes) (k : ℕ) → fills m ≡ true → k ≡ nextPage (m .page) → record { rows = 0; page = k; near = m .near } ≡ afterTick m
+pub after-full : (m : Notes) (k : ℕ) → fills m ≡ true → k ≡ nextPage (m .page) → record { rows = 0; page = k; measure = m .measure } ≡ afterTick m
 after-full m k b e = rw (b, e) refl
 
-pub after-more : (m : Notes) → fills m ≡ false → record { rows = m .rows + 1; page = m .page; near = m .near } ≡ afterTick m
+pub after-more : (m : Notes) → fills m ≡ false → record { rows = m .rows + 1; page = m .page; measure = m .measure } ≡ afterTick m
 after-more m b = rw b refl
 
 pub closed-none : (m : Notes) (out : List ℕ) → m .rows ≡ 0 → Put out 0 (pageClosed m) 0 out
@@ -211,21 +211,21 @@ closed-page m out e h r out' p = rw (ne-eqb (m .rows) 0 e) (put-with lineRoom ou
 
 -- ---- components, tick by tick
 
-module _ (x : Near) (pos : List Float) (guard : ℕ) (v : SafetyVerdict) (cfg : FuseConfig) (out : List ℕ) (n : ℕ) where
+module _ (x : Measure) (pos : List Float) (guard : ℕ) (v : SafetyVerdict) (cfg : FuseConfig) (out : List ℕ) (n : ℕ) where
   -- a fault tick, or no width yet: nothing is put
-  pub near-none : (isClean guard && x .given) ≡ false → Put out n (tickNear x pos guard v cfg) n out
-  near-none e = rw e (put-none out n)
+  pub no-tick-lines : (isClean guard && x .given) ≡ false → Put out n (tickLines x pos guard v cfg) n out
+  no-tick-lines e = rw e (put-none out n)
 
-  pub near-lines : (isClean guard && x .given) ≡ true → n + eventRoom ≤ length out → (r : ℕ) (out' : List ℕ) → LinesShown cfg (x .before) (v .t) pos out n r out'
-      → Put out n (tickNear x pos guard v cfg) r out'
-  near-lines e h r out' q = rw e (put-with linesRoom out n (linesOf cfg (x .before) (v .t) pos) (omega (arith, h)) r out' (q .ends, q .memory))
+  pub some-tick-lines : (isClean guard && x .given) ≡ true → n + eventRoom ≤ length out → (r : ℕ) (out' : List ℕ) → LinesShown cfg (x .before) (v .t) pos out n r out'
+      → Put out n (tickLines x pos guard v cfg) r out'
+  some-tick-lines e h r out' q = rw e (put-with linesRoom out n (linesOf cfg (x .before) (v .t) pos) (omega (arith, h)) r out' (q .ends, q .memory))
 
 -- what is remembered of a clean tick, and of a fault tick
-module _ (x : Near) (pos : List Float) (guard : ℕ) (cfg : FuseConfig) where
-  pub after-clean : isClean guard ≡ true → (y : Near) → y ≡ withInside x (insideOf cfg pos) → y ≡ nearAfter x pos guard cfg
+module _ (x : Measure) (pos : List Float) (guard : ℕ) (cfg : FuseConfig) where
+  pub after-clean : isClean guard ≡ true → (y : Measure) → y ≡ withInside x (insideOf cfg pos) → y ≡ measureAfter x pos guard cfg
   after-clean e y q = rw e q
 
-  pub after-fault : isClean guard ≡ false → x ≡ nearAfter x pos guard cfg
+  pub after-fault : isClean guard ≡ false → x ≡ measureAfter x pos guard cfg
   after-fault e = rw e refl
 
 -- ---- a line in memory

@@ -9,10 +9,10 @@ use Rattle.journal_records.specs.Kinds.{journalKinds}
 use Rattle.journal_refusals.specs.declared.Refusal.{Refusal}
 use Rattle.journal_refusals.specs.Table.{numberOf}
 use Rattle.journal.specs.Events.{Event, began, restarted, ticked, widthGiven}
-use Rattle.journal.specs.Journal.{Ending, ended, refused, journalOf}
+use Rattle.journal.specs.Journal.{ended, refused, journalOf}
 use Rattle.report.specs.Lines.{refusedText}
 use Rattle.page_text.specs.Rows.{tickRow, pageRow, asLine}
-use Rattle.printer.specs.Printer.{pagesPrinter, textOf, pageRows, lastPage}
+use Rattle.printer.specs.Printer.{pagesPrinter, refusalText, textOf, pageRows, lastPage}
 
 -- the verdicts of the ticks, one after the other
 abbrev pub verdictsOf : List Event → List SafetyVerdict
@@ -57,12 +57,7 @@ unfoldable pub linesText : List (List ℕ) → List ℕ
 linesText [] = []
 linesText (r ∷ rs) = asLine r ++ linesText rs
 
--- after the pages: nothing, or the line of the refusal
-abbrev pub refusalText : Ending → List ℕ
-refusalText ended = []
-refusalText (refused r place) = refusedText (numberOf r) place
-
--- all that is printed for the journal s
+-- all that is printed for the journal s: after the pages nothing, or the line of a refusal
 unfoldable pub pagesText : List ℕ → List ℕ
 pagesText s = let m = journalOf journalKinds s in linesText (pagesOf (verdictsOf (m .events))) ++ refusalText (m .ending)
 

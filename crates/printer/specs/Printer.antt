@@ -29,14 +29,14 @@ use Rattle.proximity_text.specs.Near.{insideOf, noneInside}
 use Rattle.proximity_text.specs.Lines.{linesOf}
 use Rattle.printer.specs.declared.Channel.{Channel}
 use Rattle.printer.specs.declared.Channel.the-variants.{Output, Errors}
-use Rattle.printer.specs.declared.Near.{Near}
+use Rattle.printer.specs.declared.Measure.{Measure}
 use Rattle.printer.specs.declared.Notes.{Notes}
 use Rattle.printer.specs.declared.Shown.{Shown}
 
 -- ---- a printer
 
 -- what is shown: of a tick its line; or its line and every field of the verdict, the run state and
--- the tally; or its row on a page; or the components that are close to a face or have left the box
+-- the tally that the Rust has; or its row on a page; or the components that are close to a face or have left the box
 pub data Shows : Type 0 where
   lines : Shows
   trace : Shows
@@ -73,11 +73,11 @@ abbrev pub printerBy : ℕ → Notes → Printer
 printerBy code m = showing (showsBy code) m
 
 -- before the first event: no row, on page 1; no width, and no clean tick
-abbrev pub nearAtStart : Near
-nearAtStart = record { given = false; before = record { width = zeroFloat; inside = noneInside } }
+abbrev pub measureAtStart : Measure
+measureAtStart = record { given = false; before = record { width = zeroFloat; inside = noneInside } }
 
 abbrev pub atStart : Notes
-atStart = record { rows = 0; page = 1; near = nearAtStart }
+atStart = record { rows = 0; page = 1; measure = measureAtStart }
 
 -- the printers of `fuse`, `trace`, `pages` and `proximity`
 abbrev pub fusePrinter : Printer
@@ -112,8 +112,8 @@ fills m = leb pageRows (m .rows + 1)
 abbrev pub afterTick : Notes → Notes
 afterTick m =
     cond (fills m)
-    (record { rows = 0; page = nextPage (m .page); near = m .near })
-    (record { rows = m .rows + 1; page = m .page; near = m .near })
+    (record { rows = 0; page = nextPage (m .page); measure = m .measure })
+    (record { rows = m .rows + 1; page = m .page; measure = m .measure })
 
 -- the row of a tick, and after the last of a page the line with its number
 abbrev pub tickOnPage : Notes → SafetyVerdict → List ℕ
@@ -130,27 +130,27 @@ abbrev pub isClean : ℕ → Bool
 isClean guard = eqb guard 0
 
 -- the lines of a clean tick, once a width was given
-abbrev pub tickNear : Near → List Float → ℕ → SafetyVerdict → FuseConfig → List ℕ
-tickNear m pos guard v cfg = cond (isClean guard && m .given) (linesOf cfg (m .before) (v .t) pos) []
+abbrev pub tickLines : Measure → List Float → ℕ → SafetyVerdict → FuseConfig → List ℕ
+tickLines m pos guard v cfg = cond (isClean guard && m .given) (linesOf cfg (m .before) (v .t) pos) []
 
-abbrev pub withInside : Near → List Bool → Near
+abbrev pub withInside : Measure → List Bool → Measure
 withInside m is = record { given = m .given; before = record { width = m .before .width; inside = is } }
 
 -- a clean tick says which components are inside; a fault tick is passed over
-abbrev pub nearAfter : Near → List Float → ℕ → FuseConfig → Near
-nearAfter m pos guard cfg = cond (isClean guard) (withInside m (insideOf cfg pos)) m
+abbrev pub measureAfter : Measure → List Float → ℕ → FuseConfig → Measure
+measureAfter m pos guard cfg = cond (isClean guard) (withInside m (insideOf cfg pos)) m
 
 -- after a reset there is no clean tick before
-abbrev pub nearCleared : Near → Near
-nearCleared m = withInside m noneInside
+abbrev pub measureCleared : Measure → Measure
+measureCleared m = withInside m noneInside
 
 -- a width is kept
-abbrev pub nearGiven : Near → Float → Near
-nearGiven m w = record { given = true; before = record { width = w; inside = m .before .inside } }
+abbrev pub measureGiven : Measure → Float → Measure
+measureGiven m w = record { given = true; before = record { width = w; inside = m .before .inside } }
 
--- the same notes of pages
-abbrev pub withNear : Notes → Near → Notes
-withNear m x = record { rows = m .rows; page = m .page; near = x }
+-- rows and page kept
+abbrev pub withMeasure : Notes → Measure → Notes
+withMeasure m x = record { rows = m .rows; page = m .page; measure = x }
 
 -- ---- an event
 
@@ -159,7 +159,7 @@ abbrev pub tickShown : Shows → Notes → List Float → ℕ → SafetyVerdict 
 tickShown lines m pos guard v run = tickText v
 tickShown trace m pos guard v run = tickText v ++ traceUpTo traceCount v (run .rt)
 tickShown pages m pos guard v run = tickOnPage m v
-tickShown proximity m pos guard v run = tickNear (m .near) pos guard v (run .config)
+tickShown proximity m pos guard v run = tickLines (m .measure) pos guard v (run .config)
 
 -- settings, a reset and a width print nothing
 unfoldable pub shownText : Printer → Event → List ℕ
@@ -173,19 +173,19 @@ abbrev pub tickRemembered : Shows → Notes → List Float → ℕ → FuseConfi
 tickRemembered lines m pos guard cfg = m
 tickRemembered trace m pos guard cfg = m
 tickRemembered pages m pos guard cfg = afterTick m
-tickRemembered proximity m pos guard cfg = withNear m (nearAfter (m .near) pos guard cfg)
+tickRemembered proximity m pos guard cfg = withMeasure m (measureAfter (m .measure) pos guard cfg)
 
 abbrev pub resetRemembered : Shows → Notes → Notes
 resetRemembered lines m = m
 resetRemembered trace m = m
 resetRemembered pages m = m
-resetRemembered proximity m = withNear m (nearCleared (m .near))
+resetRemembered proximity m = withMeasure m (measureCleared (m .measure))
 
 abbrev pub widthRemembered : Shows → Notes → Float → Notes
 widthRemembered lines m w = m
 widthRemembered trace m w = m
 widthRemembered pages m w = m
-widthRemembered proximity m w = withNear m (nearGiven (m .near) w)
+widthRemembered proximity m w = withMeasure m (measureGiven (m .measure) w)
 
 unfoldable pub remembered : Printer → Event → Notes
 remembered p (began run) = p .notes
@@ -214,6 +214,11 @@ endShown proximity t = []
 unfoldable pub endingText : Printer → Run → Ending → List ℕ
 endingText p run ended = closingText (p .shows) (p .notes) ++ endShown (p .shows) (run .rt .tally)
 endingText p run (refused r place) = closingText (p .shows) (p .notes) ++ refusedText (numberOf r) place
+
+-- of it the line of a refusal, where there is one
+abbrev pub refusalText : Ending → List ℕ
+refusalText ended = []
+refusalText (refused r place) = refusedText (numberOf r) place
 
 -- the channel that its text goes to: standard output, for all
 abbrev pub endingOn : Shows → Ending → Channel

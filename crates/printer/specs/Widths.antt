@@ -28,7 +28,8 @@ printedFurther n c p s = let m = meaningFor p s in printedOn c p (m .events) (m 
 pub record PrintsAsWithout (p : Printer) (front body back : List ℕ) : Type 0 where
   pub text : textOf p (withWidth front body back) ≡ printedFurther (suc (length body)) Output p (front ++ back)
   pub beside : besideOf p (withWidth front body back) ≡ printedFurther (suc (length body)) Errors p (front ++ back)
-  pub same : meaningFor p (front ++ back) .ending ≡ ended → textOf p (withWidth front body back) ≡ textOf p (front ++ back)
+  pub same : meaningFor p (front ++ back) .ending ≡ ended
+      → textOf p (withWidth front body back) ≡ textOf p (front ++ back)
 
 abbrev pub UnusedWidth : Type 0
 UnusedWidth = (p : Printer) → usesWidth (p .shows) ≡ false → (front body back : List ℕ)

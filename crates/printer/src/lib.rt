@@ -30,7 +30,7 @@ use text::memory::put_line;
 // Of a tick its line, as `fuse` prints it. Any number that is not listed means the same.
 pub const LINES: u8 = 0;
 
-// Its line, and then every field of the verdict, the run state and the tally.
+// Its line, and then every field of the verdict, the run state and the tally that the Rust has.
 pub const TRACE: u8 = 1;
 
 // Pages: rows of ticks, and after each page a line with its number.
@@ -46,7 +46,7 @@ pub enum Channel {
 }
 
 // What proximity remembers.
-pub struct Near {
+pub struct Measure {
     // whether a width was given
     pub given: bool,
     // that width, and which components were inside at the last clean tick since a reset
@@ -59,7 +59,7 @@ pub struct Notes {
     pub rows: u8,
     pub page: u64,
     // of proximity
-    pub near: Near,
+    pub measure: Measure,
 }
 
 // What it remembers after an event, and where the event's text ends.
@@ -82,14 +82,14 @@ pub fn start() -> Notes
         width: 0.0,
         inside: [false; MAX_POS],
     };
-    let near = Near {
+    let measure = Measure {
         given: false,
         before,
     };
     Notes {
         rows: 0,
         page: 1,
-        near,
+        measure,
     }
 }
 
@@ -163,9 +163,9 @@ fn put_ticked(
         return pages::put_tick(notes, verdict, out, n);
     }
     if shows == PROXIMITY {
-        let near = notes.near;
+        let measure = notes.measure;
         let config = run.config;
-        return proximity::put_tick(near, pos, guard, verdict, config, out, n);
+        return proximity::put_tick(measure, pos, guard, verdict, config, out, n);
     }
     let end = show_tick(verdict, out, n);
     if shows == TRACE {

@@ -32,18 +32,22 @@ fn fills_page(notes: Notes) -> bool
 pub(crate) fn after_tick(notes: Notes) -> Notes
     ensures { λ r. ⌜ r ≡ afterTick notes ⌝ }
 {
-    let near = notes.near;
+    let measure = notes.measure;
     if fills_page(notes) {
         let next = next_page(notes.page);
         return Notes {
             rows: 0,
             page: next,
-            near,
+            measure,
         };
     }
     let rows = notes.rows + 1;
     let page = notes.page;
-    Notes { rows, page, near }
+    Notes {
+        rows,
+        page,
+        measure,
+    }
 }
 
 // Puts the row of a tick, and where it fills the page the page's line.

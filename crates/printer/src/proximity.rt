@@ -4,8 +4,8 @@ ghost use mathlib.Core.Bool.{_&&_};
 ghost use Prim.Native.Nat.{_+_, _≤_};
 ghost use lib.ListN.{length};
 ghost use Rattle.text.specs.Memory.{Put};
-ghost use Rattle.printer.specs.Printer.{isClean, tickNear, withInside, nearAfter, nearCleared, nearGiven, withNear, eventRoom};
-use crate::Near;
+ghost use Rattle.printer.specs.Printer.{isClean, tickLines, withInside, measureAfter, measureCleared, measureGiven, withMeasure, eventRoom};
+use crate::Measure;
 use crate::Notes;
 use lictor_core::chunk::MAX_POS;
 use lictor_core::envelope::FuseConfig;
@@ -22,16 +22,16 @@ fn is_clean(guard: u32) -> bool
 }
 
 // Whether a tick has lines: it is clean, and a width was given.
-fn has_lines(near: Near, guard: u32) -> bool
-    ensures { λ r. ⌜ r ≡ (isClean guard && near .given) ⌝ }
+fn has_lines(measure: Measure, guard: u32) -> bool
+    ensures { λ r. ⌜ r ≡ (isClean guard && measure .given) ⌝ }
 {
     let clean = is_clean(guard);
-    clean & near.given
+    clean & measure.given
 }
 
 // Puts the lines of a clean tick, once a width was given.
 pub(crate) fn put_tick(
-    near: Near,
+    measure: Measure,
     pos: &[f64],
     guard: u32,
     verdict: SafetyVerdict,
@@ -40,77 +40,77 @@ pub(crate) fn put_tick(
     n: usize,
 ) -> usize
     requires { ⌜ n + eventRoom ≤ length (now out) ⌝ }
-    ensures { λ r. ⌜ Put (now (out .entry)) n (tickNear near (now (pos .entry)) guard verdict config) r (now (out .exit)) ⌝ }
+    ensures { λ r. ⌜ Put (now (out .entry)) n (tickLines measure (now (pos .entry)) guard verdict config) r (now (out .exit)) ⌝ }
 {
-    if has_lines(near, guard) {
-        let before = near.before;
+    if has_lines(measure, guard) {
+        let before = measure.before;
         return show_lines(config, before, verdict.t as u64, pos, out, n);
     }
     n
 }
 
 // The same with these flags.
-fn with_inside(near: Near, inside: [bool; MAX_POS]) -> Near
-    ensures { λ r. ⌜ r ≡ withInside near inside ⌝ }
+fn with_inside(measure: Measure, inside: [bool; MAX_POS]) -> Measure
+    ensures { λ r. ⌜ r ≡ withInside measure inside ⌝ }
 {
-    let old = near.before;
+    let old = measure.before;
     let before = Before {
         width: old.width,
         inside,
     };
-    Near {
-        given: near.given,
+    Measure {
+        given: measure.given,
         before,
     }
 }
 
-fn near_after(near: Near, pos: &[f64], guard: u32, config: FuseConfig) -> Near
-    ensures { λ r. ⌜ r ≡ nearAfter near (now (pos .entry)) guard config ⌝ }
+fn measure_after(measure: Measure, pos: &[f64], guard: u32, config: FuseConfig) -> Measure
+    ensures { λ r. ⌜ r ≡ measureAfter measure (now (pos .entry)) guard config ⌝ }
 {
     if is_clean(guard) {
         let inside = inside_of(config, pos);
-        return with_inside(near, inside);
+        return with_inside(measure, inside);
     }
-    near
+    measure
 }
 
-fn with_near(notes: Notes, near: Near) -> Notes
-    ensures { λ r. ⌜ r ≡ withNear notes near ⌝ }
+fn with_measure(notes: Notes, measure: Measure) -> Notes
+    ensures { λ r. ⌜ r ≡ withMeasure notes measure ⌝ }
 {
     Notes {
         rows: notes.rows,
         page: notes.page,
-        near,
+        measure,
     }
 }
 
 // What is remembered after a tick: after a clean one which components are inside.
 pub(crate) fn after_tick(notes: Notes, pos: &[f64], guard: u32, config: FuseConfig) -> Notes
-    ensures { λ r. ⌜ r ≡ withNear notes (nearAfter (notes .near) (now (pos .entry)) guard config) ⌝ }
+    ensures { λ r. ⌜ r ≡ withMeasure notes (measureAfter (notes .measure) (now (pos .entry)) guard config) ⌝ }
 {
-    let near = notes.near;
-    with_near(notes, near_after(near, pos, guard, config))
+    let measure = notes.measure;
+    with_measure(notes, measure_after(measure, pos, guard, config))
 }
 
 // After a reset: there is no clean tick before.
 pub(crate) fn after_reset(notes: Notes) -> Notes
-    ensures { λ r. ⌜ r ≡ withNear notes (nearCleared (notes .near)) ⌝ }
+    ensures { λ r. ⌜ r ≡ withMeasure notes (measureCleared (notes .measure)) ⌝ }
 {
-    let near = notes.near;
-    with_near(notes, with_inside(near, [false; MAX_POS]))
+    let measure = notes.measure;
+    with_measure(notes, with_inside(measure, [false; MAX_POS]))
 }
 
 // After a width: it is kept.
 pub(crate) fn after_width(notes: Notes, width: f64) -> Notes
-    ensures { λ r. ⌜ r ≡ withNear notes (nearGiven (notes .near) width) ⌝ }
+    ensures { λ r. ⌜ r ≡ withMeasure notes (measureGiven (notes .measure) width) ⌝ }
 {
-    let near = notes.near;
-    let old = near.before;
+    let measure = notes.measure;
+    let old = measure.before;
     let inside = old.inside;
     let before = Before { width, inside };
-    let kept = Near {
+    let kept = Measure {
         given: true,
         before,
     };
-    with_near(notes, kept)
+    with_measure(notes, kept)
 }

@@ -11,19 +11,20 @@ use Rattle.lictor_settings.specs.Settings.{configOf}
 use Rattle.claims.specs.Runs.{All}
 use Rattle.journal_reader.specs.Reading.{Instruction, begin, restart, tick, width}
 use Rattle.journal.specs.declared.tick.Run.{Run}
-use Rattle.journal.specs.Events.{begunOf, restartedOf, tickedOf, decidedOf, reportOf, Event, began, widthGiven, eventsFrom}
+use Rattle.stream.proofs.Stream.{impossible}
+use Rattle.journal.specs.Events.{begunOf, restartedOf, tickedOf, decidedOf, runAfter, reportOf, Event, began, widthGiven, eventsFrom}
 use Rattle.journal.specs.Journal.{Ending, startRun, journalOf}
 use Rattle.journal_claims.specs.Instructions.{toldIn}
 use Rattle.journal_claims.specs.JournalStops.{GoesOn}
 use Rattle.proximity_text.specs.Near.{noneInside}
 use Rattle.proximity_text.specs.History.{putFrom, PutListed}
 use Rattle.proximity_text.proofs.History.{lines-listed}
-use Rattle.printer.specs.Printer.{Printer, proximity, atStart, proximityPrinter, shownText, remembered, printed, printerAfterAll, endingText, meaningFor, kindsTaken, textOf}
-use Rattle.printer.specs.Fifties.{refusalText}
+use Rattle.printer.specs.Printer.{Printer, proximity, atStart, proximityPrinter, shownText, remembered, printed, printerAfterAll, endingText, refusalText, meaningFor, kindsTaken, textOf}
 use Rattle.printer.proofs.Parts.{shows-stay, proximity-on-output}
-use Rattle.proximity_claims.specs.EveryLine.{eventsIn, endingIn, historyOf, NoWidth, Unmeasured, Under, Measured, Told, without, with-width, EveryLine}
+use Rattle.proximity_claims.specs.EveryLine.{eventsIn, endingIn, historyOf, HasWidth, Unmeasured, Under, Measured, Told, without, with-width, EveryLine}
 use Rattle.proximity_claims.proofs.Order.{Goes, plain, measured, Course, nothing, under, course}
-use Rattle.proximity_claims.proofs.Lines.{near-printed, none-printed, ending-is}
+use Rattle.proximity_claims.proofs.Lines.{NoWidth, near-printed, none-printed, ending-is}
+use Rattle.proximity_claims.proofs.Taken.{Tells, taken-told, told-taken}
 
 -- ---- the events
 
@@ -48,6 +49,19 @@ no-widths r (restart ∷ is) g = (refl, no-widths (restartedOf r) is (g .1))
 no-widths r (tick c ∷ is) g = (refl, no-widths (tickedOf r (decidedOf r c)) is (g .1))
 no-widths r (width x ∷ is) g = absurd (g .0)
 
+-- a width that the journal has is among them
+width-tells : (r : Run) (is : List Instruction) (x : Float) (js : List Instruction) → All NoWidth (eventsFrom r (is ++ (width x ∷ js))) → ⊥
+width-tells r [] x js n = impossible-width (n .0)
+  where
+    impossible-width : true ≡ false → ⊥
+    impossible-width e = impossible cc
+width-tells r (i ∷ is) x js n = width-tells (runAfter r i) is x js (n .1)
+
+no-width : (s : List ℕ) → All NoWidth (eventsIn s) → (x : Float) → HasWidth s x → ⊥
+no-width s n x h =
+    let t : Tells s x = taken-told s x h in
+    width-tells startRun (t .before) x (t .later) (rw (events-are s ∙ ap (eventsFrom startRun) (t .is)) at n)
+
 -- ---- the text
 
 text-is : (s : List ℕ) → textOf proximityPrinter s ≡ printed proximityPrinter (eventsIn s) ++ refusalText (endingIn s)
@@ -58,19 +72,21 @@ text-is s =
 
 no-lines : (s : List ℕ) → All NoWidth (eventsIn s) → Unmeasured s
 no-lines s n = record {
-  none = n;
+  none = no-width s n;
   text = text-is s ∙ ap (λ (x : List ℕ). x ++ refusalText (endingIn s)) (none-printed (eventsIn s) n atStart refl);
 }
 
 -- the settings and the width print nothing, and the width is kept
-with-lines : (s : List ℕ) (w : Settings) (x : Float) (rest : List Event) → eventsIn s ≡ began (begunOf w) ∷ (widthGiven (begunOf w) x ∷ rest) → w .«pos_dim» ≤ maxPos → All (Under (configOf w)) rest → Measured s
+with-lines : (s : List ℕ) (w : Settings) (x : Float) (rest : List Event) → HasWidth s x → eventsIn s ≡ began (begunOf w) ∷ (widthGiven (begunOf w) x ∷ rest) → w .«pos_dim» ≤ maxPos
+    → All (Under (configOf w)) rest → Measured s
 unfolding printed shownText remembered configOf
-with-lines s w x rest e small u =
+with-lines s w x rest h e small u =
     let l : PutListed (configOf w) x (historyOf rest) = lines-listed (configOf w) small x (historyOf rest) in
     let put : printed proximityPrinter (eventsIn s) ≡ putFrom (configOf w) x noneInside (historyOf rest) = ap (printed proximityPrinter) e ∙ near-printed (configOf w) x atStart rest u noneInside in
     record {
       settings = w;
       width = x;
+      has-width = h;
       rest = rest;
       events = e;
       under = u;
@@ -87,8 +103,10 @@ goes-told s w rest e small (plain g) =
     let is : eventsIn s ≡ began (begunOf w) ∷ eventsFrom (begunOf w) rest = events-are s ∙ ap (eventsFrom startRun) e in
     without (no-lines s (rw is (refl, no-widths (begunOf w) rest g)))
 goes-told s w rest e small (measured x later q g) =
-    let is : eventsIn s ≡ began (begunOf w) ∷ (widthGiven (begunOf w) x ∷ eventsFrom (begunOf w) later) = events-are s ∙ ap (eventsFrom startRun) (e ∙ ap (λ (l : List Instruction). begin w ∷ l) q) in
-    with-width (with-lines s w x (eventsFrom (begunOf w) later) is small (all-under (configOf w) (begunOf w) later refl g))
+    let told : toldIn (kindsTaken proximity) s ≡ begin w ∷ (width x ∷ later) = e ∙ ap (λ (l : List Instruction). begin w ∷ l) q in
+    let is : eventsIn s ≡ began (begunOf w) ∷ (widthGiven (begunOf w) x ∷ eventsFrom (begunOf w) later) = events-are s ∙ ap (eventsFrom startRun) told in
+    let has = told-taken s (begin w ∷ []) x later told in
+    with-width (with-lines s w x (eventsFrom (begunOf w) later) has is small (all-under (configOf w) (begunOf w) later refl g))
 
 told-by : (s : List ℕ) → Course (toldIn (kindsTaken proximity) s) → Told s
 told-by s (nothing e) = let is : eventsIn s ≡ [] = events-are s ∙ ap (eventsFrom startRun) e in without (no-lines s (rw is tt))

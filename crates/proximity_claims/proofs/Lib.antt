@@ -1,4 +1,5 @@
 -- The proof, layer by layer.
 pub mod Order
+pub mod Taken
 pub mod Lines
 pub mod EveryLine

@@ -13,27 +13,27 @@ use Rattle.journal_refusals.specs.Table.{numberOf}
 use Rattle.journal.specs.declared.tick.Run.{Run}
 use Rattle.journal.specs.Events.{Event, TickReport, began, restarted, ticked, widthGiven}
 use Rattle.journal.specs.Journal.{Ending, ended, refused}
+use Rattle.journal.specs.Widths.{tellsWidth}
 use Rattle.report.specs.Lines.{refusedText}
 use Rattle.proximity_text.specs.Near.{insideOf, noneInside}
 use Rattle.proximity_text.specs.Lines.{linesOf}
 use Rattle.proximity_text.specs.History.{Moment, clean, fault, reset, putFrom}
-use Rattle.printer.specs.declared.Near.{Near}
+use Rattle.printer.specs.declared.Measure.{Measure}
 use Rattle.printer.specs.declared.Notes.{Notes}
-use Rattle.printer.specs.Printer.{Shows, proximity, Printer, showing, isClean, tickNear, withInside, nearAfter, nearCleared, withNear, shownText, remembered, closingText, endShown, endingText, printed}
-use Rattle.printer.specs.Fifties.{refusalText}
-use Rattle.proximity_claims.specs.EveryLine.{historyOf, NoWidth, Under}
+use Rattle.printer.specs.Printer.{Shows, proximity, Printer, showing, isClean, tickLines, withInside, measureAfter, measureCleared, withMeasure, shownText, remembered, closingText, endShown, endingText, refusalText, printed}
+use Rattle.proximity_claims.specs.EveryLine.{historyOf, Under}
 
 -- ---- with a width
 
-abbrev given : Float → List Bool → Near
+abbrev given : Float → List Bool → Measure
 given w was = record { given = true; before = record { width = w; inside = was } }
 
 abbrev noting : Notes → Float → List Bool → Printer
-noting m w was = showing proximity (withNear m (given w was))
+noting m w was = showing proximity (withMeasure m (given w was))
 
 module _ (cfg : FuseConfig) (w : Float) (m : Notes) (es : List Event) (t : ℕ) (pos : List Float) (was : List Bool)
     (ih : (is : List Bool) → printed (noting m w is) es ≡ putFrom cfg w is (historyOf es)) where
-  tick-put : (b : Bool) → cond (b && true) (linesOf cfg (record { width = w; inside = was }) t pos) [] ++ printed (showing proximity (withNear m (cond b (given w (insideOf cfg pos)) (given w was)))) es
+  tick-put : (b : Bool) → cond (b && true) (linesOf cfg (record { width = w; inside = was }) t pos) [] ++ printed (showing proximity (withMeasure m (cond b (given w (insideOf cfg pos)) (given w was)))) es
       ≡ putFrom cfg w was (cond b (clean t pos) fault ∷ historyOf es)
   unfolding putFrom
   tick-put true = ap (λ (s : List ℕ). linesOf cfg (record { width = w; inside = was }) t pos ++ s) (ih (insideOf cfg pos))
@@ -50,17 +50,20 @@ near-printed cfg w m (ticked t ∷ es) u was =
 
 -- ---- without a width
 
+abbrev pub NoWidth : Event → Type 0
+NoWidth e = tellsWidth e ≡ false
+
 abbrev unmeasured : Notes → Printer
 unmeasured m = showing proximity m
 
-module _ (es : List Event) (ih : (m : Notes) → m .near .given ≡ false → printed (unmeasured m) es ≡ []) (m : Notes) (h : m .near .given ≡ false) (is : List Bool) (lines : List ℕ) where
-  tick-none : (b : Bool) → cond (b && m .near .given) lines [] ++ printed (unmeasured (withNear m (cond b (withInside (m .near) is) (m .near)))) es ≡ []
+module _ (es : List Event) (ih : (m : Notes) → m .measure .given ≡ false → printed (unmeasured m) es ≡ []) (m : Notes) (h : m .measure .given ≡ false) (is : List Bool) (lines : List ℕ) where
+  tick-none : (b : Bool) → cond (b && m .measure .given) lines [] ++ printed (unmeasured (withMeasure m (cond b (withInside (m .measure) is) (m .measure)))) es ≡ []
   tick-none true =
-      let next = withNear m (withInside (m .near) is) in
+      let next = withMeasure m (withInside (m .measure) is) in
       ap (λ (g : Bool). cond g lines [] ++ printed (unmeasured next) es) h ∙ ih next h
   tick-none false = ih m h
 
-pub none-printed : (es : List Event) → All NoWidth es → (m : Notes) → m .near .given ≡ false → printed (unmeasured m) es ≡ []
+pub none-printed : (es : List Event) → All NoWidth es → (m : Notes) → m .measure .given ≡ false → printed (unmeasured m) es ≡ []
 unfolding printed shownText remembered
 none-printed [] u m h = refl
 none-printed (began run ∷ es) u m h = none-printed es (u .1) m h
@@ -68,10 +71,10 @@ none-printed (widthGiven run x ∷ es) u m h = let z : true ≡ false = u .0 in 
   where
     impossible : true ≡ false → ⊥
     impossible e = let z : _≡_ {A = ℕ} 0 1 = cc in omega (arith, z)
-none-printed (restarted run ∷ es) u m h = none-printed es (u .1) (withNear m (nearCleared (m .near))) h
+none-printed (restarted run ∷ es) u m h = none-printed es (u .1) (withMeasure m (measureCleared (m .measure))) h
 none-printed (ticked t ∷ es) u m h =
     let cfg = t .run .config in
-    tick-none es (λ q g. none-printed es (u .1) q g) m h (insideOf cfg (t .pos)) (linesOf cfg (m .near .before) (t .verdict .t) (t .pos)) (isClean (t .guard))
+    tick-none es (λ q g. none-printed es (u .1) q g) m h (insideOf cfg (t .pos)) (linesOf cfg (m .measure .before) (t .verdict .t) (t .pos)) (isClean (t .guard))
 
 -- ---- the ending
 

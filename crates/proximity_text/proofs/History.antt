@@ -15,8 +15,8 @@ use Rattle.text.specs.Ascii.{ascii}
 use Rattle.proximity_text.specs.declared.Said.{Said}
 use Rattle.proximity_text.specs.declared.Said.the-variants.{Nothing, Within, Out}
 use Rattle.proximity_text.specs.Near.{dimsOf, insideAt, nearAt, saidOf, saidAt, insideOf, noneInside}
-use Rattle.proximity_text.specs.Lines.{wordLine, saidText, linesUpTo}
-use Rattle.proximity_text.specs.History.{Moment, clean, fault, reset, CleanBefore, Inside, IsWithin, IsOut, Word, within, out, Says, Entry, LineOf, Earlier, EarlierThan, Rising, Listed, wordText, listText, putFrom, LinesListed}
+use Rattle.proximity_text.specs.Lines.{wordLine, Word, within, out, wordText, saidText, linesUpTo}
+use Rattle.proximity_text.specs.History.{Moment, clean, fault, reset, CleanBefore, Inside, IsWithin, IsOut, Says, Entry, LineOf, Earlier, EarlierThan, Rising, Listed, listText, putFrom, LinesListed}
 use Rattle.proximity_text.proofs.Flags.{Since, flagsAfter, flagsAll, since-start, since-all, flag-told, flag-tells}
 
 -- ---- text

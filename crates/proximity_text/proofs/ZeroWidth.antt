@@ -17,7 +17,8 @@ use Rattle.lictor_core.specs.declared.envelope.FuseConfig.{FuseConfig}
 use Rattle.lictor_core.specs.Initial.{zeroFloat}
 use Rattle.lictor_core.specs.Rows.{placeOf}
 use Rattle.proximity_text.specs.Near.{inside, near}
-use Rattle.proximity_text.specs.History.{Moment, IsWithin, IsOut, Word, within, out, Says, Entry, LineOf}
+use Rattle.proximity_text.specs.Lines.{Word, within, out}
+use Rattle.proximity_text.specs.History.{Moment, IsWithin, IsOut, Says, Entry, LineOf}
 use Rattle.proximity_text.specs.ZeroWidth.{ZeroWidth}
 
 -- not below zero, or no number

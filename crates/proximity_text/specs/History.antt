@@ -11,10 +11,9 @@ use lib.Ieee.{Float}
 use lib.ListN.{length, replicate}
 use Rattle.lictor_core.specs.declared.envelope.FuseConfig.{FuseConfig}
 use Rattle.lictor_core.specs.Sizes.{maxPos}
-use Rattle.text.specs.Ascii.{ascii}
 use Rattle.proximity_text.specs.declared.Before.{Before}
 use Rattle.proximity_text.specs.Near.{insideAt, nearAt, insideOf, noneInside}
-use Rattle.proximity_text.specs.Lines.{wordLine, linesOf}
+use Rattle.proximity_text.specs.Lines.{wordLine, Word, within, out, wordText, linesOf}
 
 -- ---- a history
 
@@ -50,10 +49,6 @@ pub record IsOut (cfg : FuseConfig) (past : List Moment) (pos : List Float) (c :
   pub before : List Float
   pub is-before : CleanBefore past before
   pub was-inside : Inside cfg before c
-
-pub data Word : Type 0 where
-  within : Word
-  out : Word
 
 abbrev pub Says : FuseConfig → Float → List Moment → List Float → ℕ → Word → Type 0
 Says cfg width past pos c within = IsWithin cfg width pos c
@@ -98,10 +93,6 @@ pub record Listed (cfg : FuseConfig) (width : Float) (history : List Moment) (en
   pub rising : Rising entries
 
 -- ---- as text
-
-abbrev pub wordText : Word → List ℕ
-wordText within = ascii "within"
-wordText out = ascii "out"
 
 unfoldable pub listText : List Entry → List ℕ
 listText [] = []

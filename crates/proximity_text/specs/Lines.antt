@@ -1,5 +1,4 @@
 -- The lines of a clean tick (02-change-requests.md, Ask 7), one after the other.
-use mathlib.Core.Bool.{Bool}
 use mathlib.Core.List.{List, [], _++_}
 use mathlib.Core.Path.{_≡_}
 use Prim.Native.Nat.{ℕ, zero, suc, _*_}
@@ -20,10 +19,18 @@ use Rattle.proximity_text.specs.Near.{dimsOf, saidAt}
 abbrev pub wordLine : List ℕ → ℕ → ℕ → List ℕ
 wordLine word t c = word ++ fieldText t ++ fieldText c ++ ascii "\n"
 
+pub data Word : Type 0 where
+  within : Word
+  out : Word
+
+abbrev pub wordText : Word → List ℕ
+wordText within = ascii "within"
+wordText out = ascii "out"
+
 unfoldable pub saidText : Said → ℕ → ℕ → List ℕ
 saidText Nothing t c = []
-saidText Within t c = wordLine (ascii "within") t c
-saidText Out t c = wordLine (ascii "out") t c
+saidText Within t c = wordLine (wordText within) t c
+saidText Out t c = wordLine (wordText out) t c
 
 -- the lines of the first n components, by rising number
 unfoldable pub linesUpTo : Before → ℕ → List Float → List Float → List Float → ℕ → List ℕ
@@ -42,6 +49,7 @@ abbrev pub linesRoom : ℕ
 linesRoom = maxPos * lineRoom
 
 -- the lines of a tick, put after the first n bytes: where they end, and the bytes then
-pub record LinesShown (cfg : FuseConfig) (b : Before) (t : ℕ) (pos : List Float) (out : List ℕ) (n r : ℕ) (out' : List ℕ) : Type 0 where
+pub record LinesShown (cfg : FuseConfig) (b : Before) (t : ℕ) (pos : List Float)
+    (out : List ℕ) (n r : ℕ) (out' : List ℕ) : Type 0 where
   pub ends : r ≡ placeWith linesRoom (length out) n (linesOf cfg b t pos)
   pub memory : out' ≡ memoryWith linesRoom out n (linesOf cfg b t pos)

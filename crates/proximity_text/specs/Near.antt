@@ -1,5 +1,5 @@
--- Where a component of a position is (02-change-requests.md, Ask 7): inside its side of the box or
--- not, close to a face or not; and what is said of it at a clean tick.
+-- Where a component of a position is (02-change-requests.md, Ask 7): inside the box or not,
+-- close to a face or not; and what is said of it at a clean tick.
 use mathlib.Core.Bool.{Bool, false, cond, _&&_, _||_}
 use mathlib.Core.List.{List, [], _∷_, _++_}
 use Prim.Native.Nat.{ℕ, zero, suc, min}

@@ -8,11 +8,13 @@ use lib.Ieee.{Float, eq}
 use Rattle.lictor_core.specs.declared.envelope.FuseConfig.{FuseConfig}
 use Rattle.lictor_core.specs.Initial.{zeroFloat}
 use Rattle.proximity_text.specs.Near.{inside, near}
-use Rattle.proximity_text.specs.History.{Moment, Word, out, Entry, LineOf}
+use Rattle.proximity_text.specs.Lines.{out}
+use Rattle.proximity_text.specs.History.{Moment, Entry, LineOf}
 
 pub record ZeroWidth : Type 0 where
   -- of all values
-  pub none-near : (width lo hi p : Float) → eq width zeroFloat ≡ true → inside lo hi p ≡ true → near width lo hi p ≡ false
+  pub none-near : (width lo hi p : Float)
+      → eq width zeroFloat ≡ true → inside lo hi p ≡ true → near width lo hi p ≡ false
   -- every line of a history is an `out`
   pub only-out : (cfg : FuseConfig) (width : Float) (history : List Moment) (e : Entry)
       → eq width zeroFloat ≡ true → LineOf cfg width history e → e .word ≡ out

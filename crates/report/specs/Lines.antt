@@ -1,5 +1,5 @@
 -- The lines that `fuse` prints, each with its newline (01-scope.md, Journal, the program `fuse`).
-use Prim.Native.Nat.{ℕ, _+_}
+use Prim.Native.Nat.{ℕ}
 use mathlib.Core.List.{List, [], _∷_, _++_}
 use Rattle.text.specs.Ascii.{ascii}
 use Rattle.text.specs.Number.{decimalOf, signedOf}
@@ -44,10 +44,11 @@ numbersOf v = ascii "tick" ++ fieldsText (numbersIn v)
 unfoldable pub tickText : SafetyVerdict → List ℕ
 tickText v = numbersOf v ++ ascii " " ++ marginText (marginOf (v .«brake_margin»)) ++ ascii "\n"
 
--- The `stopped` of the line `end`: the ticks that ended in one of the five stop states. (No
--- relation to the standstill that a tick tests.)
+-- The `stopped` of the line `end`: the ticks that stop the arm (02-change-requests.md, Ask 8;
+-- lictor_tally, specs/Tally, stopsArm). No relation to the standstill that a tick tests, nor to the
+-- run state's `stopped_ticks`.
 unfoldable pub stoppedOf : Tally → ℕ
-stoppedOf t = t .braking + t .held + t .escalated + t .fault + t .terminated
+stoppedOf t = t .«stop_actions»
 
 -- `end`, ticks, stopped
 unfoldable pub endText : Tally → List ℕ

@@ -3,7 +3,7 @@ pub mod render; // the text of a tick, put into lent memory
 
 ghost use mathlib.Core.Path.{_≡_};
 ghost use Rattle.text.specs.Line.{lineOf, pushOf};
-ghost use Rattle.report.specs.Lines.{marginText, fieldText, stoppedOf, endText, refusedText};
+ghost use Rattle.report.specs.Lines.{marginText, fieldText, endText, refusedText};
 use lictor_core::tally::Tally;
 use margin::Margin;
 use text::Line;
@@ -11,7 +11,6 @@ use text::empty;
 use text::push;
 use text::push_number;
 use text::push_signed;
-use text::wide;
 
 fn push_margin(l: Line, m: Margin) -> Line
     ensures { λ r. ⌜ r ≡ pushOf l (marginText m) ⌝ }
@@ -44,19 +43,12 @@ fn field32(l: Line, x: u32) -> Line
     field(l, x as u64)
 }
 
-// How many ticks ended in one of the five stop states.
-fn stopped_of(t: Tally) -> u64
-    ensures { λ r. ⌜ r ≡ stoppedOf t ⌝ }
-{
-    wide(t.braking) + wide(t.held) + wide(t.escalated) + wide(t.fault) + wide(t.terminated)
-}
-
 // The line at the end of a journal.
 pub fn end_line(t: Tally) -> Line
     ensures { λ r. ⌜ r ≡ lineOf (endText t) ⌝ }
 {
     let a = push(empty(), b"end");
-    let b = field(field32(a, t.ticks), stopped_of(t));
+    let b = field32(field32(a, t.ticks), t.stop_actions);
     push(b, b"\n")
 }
 

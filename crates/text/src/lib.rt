@@ -117,7 +117,7 @@ pub fn push_floats(mut l: Line, xs: &[f64]) -> Line
     l
 }
 
-pub fn wide(x: u32) -> u64
+fn wide(x: u32) -> u64
     ensures { λ r. ⌜ r ≡ x ⌝ }
 {
     x as u64

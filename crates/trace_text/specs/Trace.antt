@@ -1,5 +1,5 @@
 -- The lines of the trace after a tick: every field of the verdict, of the run state and of the
--- tally, a line each, in the order of the Rust's structs.
+-- tally that the Rust has, a line each, in the order of its structs.
 use Prim.Native.Nat.{ℕ}
 use mathlib.Core.List.{List, [], _∷_, _++_}
 use lib.ListN.{getD}

@@ -1,4 +1,5 @@
-// The lines of the trace after a tick: every field of the verdict, the run state and the tally.
+// The lines of the trace after a tick: every field of the verdict, the run state and the tally
+// that the Rust has.
 mod names; // the names of the lines
 mod rows; // a line: its name and its value
 mod run; // the lines of the run state

@@ -35,9 +35,9 @@ impl<'a> Answer<'a> {
             return false;
         }
         if self.rest.is_empty() {
-            let tally = self.journal.end(observer);
+            self.journal.end(observer);
             if self.program != Program::Proximity {
-                end_line(out, tally);
+                end_line(out, self.journal.rt.tally.ticks, self.journal.stopped);
             }
             self.over = true;
             return true;

@@ -5,13 +5,10 @@ use lictor_core::{
     AckDecision, ActionKind, BrakeKind, BrakeModel, CalibrationC, ChunkView, ClampMode, EpisodeInit, ExecMode,
     FuseConfig, FuseMode, FuseState, Hysteresis, ObsView, RearmPolicy, SafetyVerdict, VerifiedAck,
 };
-use lictor_fuse::{
-    fuse::{decide, guard, FuseRt, TickInput},
-    tally::Tally,
-};
+use lictor_fuse::fuse::{decide, guard, FuseRt, TickInput};
 use rules::Rule;
 
-use crate::records::*;
+use crate::{lines, records::*};
 
 /// A refused record: the cause's number and the place of its kind byte.
 #[derive(Clone, Copy, Debug, PartialEq)]
@@ -133,6 +130,8 @@ pub struct Journal {
     settings: Option<Settings>,
     cfg: Option<Box<FuseConfig>>,
     pub rt: Box<FuseRt>,
+    /// ticks since the last reset, or since the settings, that `stopped` counts
+    pub stopped: u32,
     ack: Option<Ack>,
     head: Option<Head>,
     outcome: Option<Outcome>,
@@ -155,6 +154,7 @@ impl Journal {
             settings: None,
             cfg: None,
             rt: Box::new(FuseRt::new()),
+            stopped: 0,
             ack: None,
             head: None,
             outcome: None,
@@ -195,6 +195,7 @@ impl Journal {
                 self.cfg = Some(Box::new(config(&settings)));
                 self.settings = Some(settings);
                 *self.rt = FuseRt::new();
+                self.stopped = 0;
             }
             RESET => {
                 observer.reset(self.waiting());
@@ -203,6 +204,7 @@ impl Journal {
                 if nonces != self.rt.last_nonce && rules::applies(Rule::ResetKeepsNonces) {
                     self.rt.last_nonce = nonces;
                 }
+                self.stopped = 0;
                 self.empty();
                 self.begun = true;
             }
@@ -223,9 +225,8 @@ impl Journal {
     }
 
     /// The end of the input.
-    pub fn end(&self, observer: &mut impl Observer) -> &Tally {
+    pub fn end(&self, observer: &mut impl Observer) {
         observer.ended(self.waiting(), self.rt.tally.ticks);
-        &self.rt.tally
     }
 
     fn waiting(&self) -> bool {
@@ -265,6 +266,7 @@ impl Journal {
         let before = Before::of(&self.rt);
         let guard = O::ASKS_GUARD.then(|| guard(cfg, &self.rt, &input));
         let verdict = decide(cfg, &mut self.rt, &input);
+        self.stopped = self.stopped.saturating_add(u32::from(lines::stops(&verdict)));
         let after = &self.rt;
         observer.ticked(&Ticked { settings, before: &before, input: &input, verdict: &verdict, after, guard });
         self.empty();

@@ -1,7 +1,7 @@
 //! What `fuse` and `trace` print (01-scope.md, end of "Journal"), and the fields of a trace in their order.
 
-use lictor_core::SafetyVerdict;
-use lictor_fuse::{fuse::FuseRt, tally::Tally};
+use lictor_core::{ActionSource, FuseState, SafetyVerdict};
+use lictor_fuse::fuse::FuseRt;
 
 pub fn tick_line(out: &mut Vec<u8>, v: &SafetyVerdict) {
     out.extend_from_slice(b"tick");
@@ -14,13 +14,20 @@ pub fn tick_line(out: &mut Vec<u8>, v: &SafetyVerdict) {
     out.push(b'\n');
 }
 
+/// Whether `stopped` counts the tick (request 8): it ended in one of the five stop states, and its action is no row of the
+/// outcome. The Rust's tally has no such count, so it is made here, of verdicts.
+pub fn stops(v: &SafetyVerdict) -> bool {
+    use FuseState::{Braking, Escalated, Fault, Held, Terminated};
+    let row = matches!(v.action_src, ActionSource::Policy | ActionSource::Clamped);
+    matches!(v.state, Braking | Held | Escalated | Fault | Terminated) && !row
+}
+
 /// Ticks and stopped ticks since the last reset, or since the settings.
-pub fn end_line(out: &mut Vec<u8>, tally: &Tally) {
-    let counts = [tally.braking, tally.held, tally.escalated, tally.fault, tally.terminated];
+pub fn end_line(out: &mut Vec<u8>, ticks: u32, stopped: u32) {
     out.extend_from_slice(b"end ");
-    decimal(out, u64::from(tally.ticks));
+    decimal(out, u64::from(ticks));
     out.push(b' ');
-    decimal(out, counts.iter().map(|n| u64::from(*n)).sum());
+    decimal(out, u64::from(stopped));
     out.push(b'\n');
 }
 

@@ -126,7 +126,7 @@ fn episode(seed: u64, seen: &mut Seen) -> (Vec<u8>, Vec<u8>) {
     let rng = Rng::new("unedited", seed);
     let mut world = World::new(&rng);
     let mut rt = Box::new(FuseRt::new());
-    let (mut journal, mut trace) = (Vec::new(), Vec::new());
+    let (mut journal, mut trace, mut stopped) = (Vec::new(), Vec::new(), 0);
     journal.push(records::SETTINGS);
     world.settings().write(&mut journal);
     let mut kept = rt.last_nonce;
@@ -140,6 +140,7 @@ fn episode(seed: u64, seen: &mut Seen) -> (Vec<u8>, Vec<u8>) {
             kept = rt.last_nonce;
             journal.push(records::RESET);
             world.reset();
+            stopped = 0;
         }
         let tick = world.tick(&rt, &rng);
         let input = TickInput {
@@ -170,6 +171,7 @@ fn episode(seed: u64, seen: &mut Seen) -> (Vec<u8>, Vec<u8>) {
         lines::tick_line(&mut trace, &verdict);
         lines::trace_lines(&mut trace, &verdict, &rt, rt.cur.is_filled());
         world.moves(&verdict);
+        stopped += u32::from(lines::stops(&verdict));
 
         seen.ticks += 1;
         seen.fault_ticks += u64::from(verdict.brake_margin.is_nan() && verdict.trips & 0x380 != 0);
@@ -180,6 +182,6 @@ fn episode(seed: u64, seen: &mut Seen) -> (Vec<u8>, Vec<u8>) {
         seen.fired += u64::from(verdict.scores.fired != 0);
         seen.uncalibrated += u64::from(world.cfg.calib.mask == 0);
     }
-    lines::end_line(&mut trace, &rt.tally);
+    lines::end_line(&mut trace, rt.tally.ticks, stopped);
     (journal, trace)
 }

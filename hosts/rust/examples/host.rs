@@ -3,7 +3,7 @@
 //!     host [--trace] [--record FILE] [JOURNAL]       from standard input where no file is named
 //!
 //! Prints the lines of the program `fuse`.
-//! With --trace, after each tick, every field of the verdict and of the run state.
+//! With --trace, after each tick, every field of the verdict and of the run state but the tally's stop_actions, which is in the last line.
 //! With --record the calls are written to FILE as a journal (`disklorva::recorder`).
 //! The exit status is 2 where reading, printing or recording failed.
 //! A controller has its sensors where this host has a journal.
@@ -324,8 +324,7 @@ fn tick_line(v: &Verdict) -> String {
 }
 
 fn end_line(t: &ffi::Tally) -> String {
-    let stopped: u64 = [t.braking, t.held, t.escalated, t.fault, t.terminated].map(u64::from).iter().sum();
-    format!("end {} {stopped}\n", t.ticks)
+    format!("end {} {}\n", t.ticks, t.stop_actions)
 }
 
 // ---- the trace: NAME=VALUE lines, by the type of the value

@@ -89,7 +89,7 @@ fn join_by(rules: &Rules, a: &Tally, b: &Tally) -> Tally {
         ($($field:ident)*) => { $(r.$field = (rules.count)(a.$field, b.$field);)* };
     }
     counts!(ticks nominal watching clamped braking held escalated fault terminated substituted chunks_seen chunks_rejected
-        clamps holds rearms escalations violations_reached_env);
+        clamps holds rearms escalations violations_reached_env stop_actions);
     r.trips_by_bit = std::array::from_fn(|i| (rules.count)(a.trips_by_bit[i], b.trips_by_bit[i]));
     r.fired_by_feat = std::array::from_fn(|i| (rules.count)(a.fired_by_feat[i], b.fired_by_feat[i]));
     r.first_trip_tick = mark((rules.mark)(time(a.first_trip_tick), time(b.first_trip_tick)));
@@ -171,7 +171,7 @@ impl Numbers {
             ($($field:ident)*) => { $(t.$field = self.count();)* };
         }
         counts!(ticks nominal watching clamped braking held escalated fault terminated substituted chunks_seen
-            chunks_rejected clamps holds rearms escalations violations_reached_env);
+            chunks_rejected clamps holds rearms escalations violations_reached_env stop_actions);
         t.trips_by_bit = std::array::from_fn(|_| self.count());
         t.fired_by_feat = std::array::from_fn(|_| self.count());
         let (tripped, reasoned) = (self.flag(), self.flag()); // no tick gives the one without the other

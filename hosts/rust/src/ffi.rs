@@ -207,6 +207,7 @@ record! {
         max_s: f64,
         max_z: [f64; 12],
         terminal_state: u8,
+        stop_actions: u32,
     }
 }
 

@@ -357,7 +357,31 @@ fn a_cut_changes_nothing() {
             earlier = parts.take_tally();
         }
         assert_eq!(fields(&join(&earlier, &parts.state().tally)), fields(&whole.state().tally));
-        assert_eq!(whole.state().tally.fault, 2);
+        assert_eq!((whole.state().tally.fault, whole.state().tally.stop_actions), (2, 8));
+    }
+}
+
+/// The same ticks in both modes end in the same states; in Observe only the fault ticks of the guard stop the arm.
+#[test]
+fn observe_stops_by_the_guard_alone() {
+    for (mode, stops) in [(0, 2), (1, 11)] {
+        let mut fuse = Fuse::new(Settings { mode, ..settings() }).unwrap();
+        fuse.reset();
+        let mut counted = 0;
+        for t in 0..12 {
+            let head = Chunk { seq: 0, t_emit: 0, horizon: 1, dim: 1, exec_steps: 1 };
+            let row = [0.25];
+            let chunk = (t == 0).then_some((head, &row[..]));
+            let outcome = Outcome { feasible: u8::from(t != 1), trips: 128 * u32::from(t == 5), ..Outcome::default() };
+            let pos = if t == 8 || t == 10 { f64::NAN } else { 0.5 };
+            let v = fuse.tick(&Tick { t, pos: &[pos], chunk, outcome, ..Tick::default() });
+            counted += u32::from(v.state >= 4 && v.action_src >= 2);
+        }
+        let tally = &fuse.state().tally;
+        assert_eq!((tally.stop_actions, counted), (stops, stops));
+        assert_eq!(tally.braking + tally.held + tally.escalated + tally.fault + tally.terminated, 11);
+        fuse.reset();
+        assert_eq!(fuse.state().tally.stop_actions, 0);
     }
 }
 

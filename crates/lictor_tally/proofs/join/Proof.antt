@@ -83,10 +83,13 @@ larger-z-requires c κs = search needs
 last-state-requires : tie.Need-last-state-requires
 last-state-requires c κs = search needs
 
+sum-requires-18 : tie.Need-sum-requires-18
+sum-requires-18 c κs = search needs
+
 returns : tie.Need-returns
 unfolding joinOf
 returns c =
-    let most = c .before .before in
+    let most = c .before .before .before in
     let marks = most .before .before in
     let lists = marks .before .before .before .before in
     let events = lists .before .before in
@@ -116,8 +119,9 @@ returns c =
       «handoff_tick» = marks .handoff-mark .ensures i;
       «violations_reached_env» = most .before .sum17 .ensures i;
       «max_s» = most .max .ensures i;
-      «max_z» = c .before .larger-z .ensures i;
-      «terminal_state» = c .last-state .ensures i;
+      «max_z» = c .before .before .larger-z .ensures i;
+      «terminal_state» = c .before .last-state .ensures i;
+      «stop_actions» = c .sum18 .ensures i;
     }
 
 pub join-spec : {M : Type 1} → statement M
@@ -150,4 +154,5 @@ join-spec =
     max-requires
     larger-z-requires
     last-state-requires
+    sum-requires-18
     returns)

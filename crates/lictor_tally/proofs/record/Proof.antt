@@ -74,10 +74,14 @@ max-requires c κs = search needs
 most-live-requires : tie.Need-most-live-requires
 most-live-requires c κs = search needs
 
+count-stop-action-requires : tie.Need-count-stop-action-requires
+count-stop-action-requires c κs = search needs
+
 returns : tie.Need-returns
 unfolding recordOf
 returns c =
-    let marks = c .before .before .before in
+    let most = c .before in
+    let marks = most .before .before .before in
     let lists = marks .before .before .before .before .before .before in
     let events = lists .before .before in
     let states = events .before .before .before .before .before in
@@ -105,10 +109,11 @@ returns c =
       «first_trip_reason» = marks .before .before .first-reason .ensures i;
       «first_stop_tick» = marks .before .first-stop .ensures i;
       «handoff_tick» = marks .first-at2 .ensures i;
-      «violations_reached_env» = c .before .before .count-if6 .ensures i;
-      «max_s» = c .before .max .ensures i;
-      «max_z» = c .most-live .ensures i;
+      «violations_reached_env» = most .before .before .count-if6 .ensures i;
+      «max_s» = most .before .max .ensures i;
+      «max_z» = most .most-live .ensures i;
       «terminal_state» = args .verdict .state;
+      «stop_actions» = c .count-stop-action .ensures i;
     }
 
 pub record-spec : {M : Type 1} → statement M
@@ -138,4 +143,5 @@ record-spec =
     count-if-requires-6
     max-requires
     most-live-requires
+    count-stop-action-requires
     returns)

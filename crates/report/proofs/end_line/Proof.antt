@@ -1,5 +1,5 @@
 use Rattle.text.proofs.Lines.{push-line}
-use Rattle.report.specs.Lines.{endText}
+use Rattle.report.specs.Lines.{stoppedOf, endText}
 use borrow.Author.Needs.{needs}
 use Rattle.report.proofs.end_line.Statement.{statement}
 use Rattle.report.proofs.end_line.Tie as tie
@@ -16,11 +16,8 @@ push-requires c κs = search needs
 field32-requires : tie.Need-field32-requires
 field32-requires c κs = search needs
 
-stopped-of-requires : tie.Need-stopped-of-requires
-stopped-of-requires c κs = search needs
-
-field-requires : tie.Need-field-requires
-field-requires c κs = search needs
+field32-requires-2 : tie.Need-field32-requires-2
+field32-requires-2 c κs = search needs
 
 slice-aggregate-push-2 : tie.Need-slice-aggregate-push-2
 slice-aggregate-push-2 c = search needs
@@ -29,9 +26,10 @@ push-requires-2 : tie.Need-push-requires-2
 push-requires-2 c κs = search needs
 
 returns : tie.Need-returns
-unfolding endText
+unfolding endText stoppedOf
 returns c =
-    simp (c .push2 .ensures, c .before .before .field .ensures, c .before .before .before .stopped-of .ensures, c .before .before .before .before .field32 .ensures, c .before .before .before .before .before .push .ensures, c .before .before .before .before .before .before .before .empty .ensures, push-line)
+    let ticks = c .before .before .before in
+    simp (c .push2 .ensures, c .before .before .field322 .ensures, ticks .field32 .ensures, ticks .before .push .ensures, ticks .before .before .before .empty .ensures, push-line)
 
 pub end-line-spec : {M : Type 1} → statement M
 end-line-spec =
@@ -41,8 +39,7 @@ end-line-spec =
     slice-aggregate-push
     push-requires
     field32-requires
-    stopped-of-requires
-    field-requires
+    field32-requires-2
     slice-aggregate-push-2
     push-requires-2
     returns)

@@ -8,7 +8,7 @@ is-clean-requires : tie.Need-is-clean-requires
 is-clean-requires c κs = search needs
 
 returns : tie.Need-returns
-returns c = let asked = c .before in ap (λ (b : Bool). b && asked .before .args .near .given) (asked .is-clean .ensures)
+returns c = let asked = c .before in ap (λ (b : Bool). b && asked .before .args .measure .given) (asked .is-clean .ensures)
 
 pub has-lines-spec : {M : Type 1} → statement M
 has-lines-spec = tie.close (tie.spec is-clean-requires returns)
