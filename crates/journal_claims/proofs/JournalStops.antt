@@ -28,8 +28,8 @@ use Rattle.journal.specs.Widths.{forFuse, ofFuse}
 use Rattle.journal.proofs.Events.{events-joined}
 use Rattle.journal.proofs.Widths.{widths-idle}
 use Rattle.journal_claims.specs.Instructions.{toldIn, instructionsOf}
-use Rattle.journal_claims.specs.JournalStops.{GoesOn, SettledBy, Episode, Opens, In, opened, callUnder, callsOf, reportIn, reportsFrom, EpisodeStops, entriesOf, ticksIn, JournalAcks, EndsWith, StopsIn, with-settings, without, JournalStops}
-use Rattle.journal_claims.proofs.Order.{Ordered, nothing, under, ordered}
+use Rattle.journal_claims.specs.JournalStops.{Bytes, GoesOn, SettledBy, Episode, Opens, In, opened, callUnder, callsOf, reportIn, reportsFrom, EpisodeStops, entriesOf, ticksIn, JournalAcks, EndsWith, StopsIn, with-settings, without, JournalStops}
+use Rattle.journal_claims.proofs.Order.{Ordered, nothing, under, ordered, settled-by}
 use Rattle.journal_claims.proofs.Episodes.{behind-settings}
 
 -- the fuse's events of a journal are those of its instructions
@@ -177,9 +177,10 @@ tick-inside : (is before : List Instruction) (c : Brought) (later : List Instruc
 tick-inside is before c later w rest e f n =
     subst (λ (l : List Instruction). EndsWith l c later) (sym e) (behind-settings c later before w rest (sym e ∙ f) n)
 
-by-order : (kinds s : List ℕ) → Ordered (toldIn kinds s) → StopsIn kinds s
-by-order kinds s (nothing n) = without (ap forFuse n) (no-events kinds s n)
-by-order kinds s (under w b) =
+by-order : (kinds s : List ℕ) → Bytes s → Ordered s (toldIn kinds s) → StopsIn kinds s
+by-order kinds s h (nothing n) = without (ap forFuse n) (no-events kinds s n)
+by-order kinds s h (under w rest q c g) =
+    let b = settled-by s h (toldIn kinds s) w rest q c g in
     with-settings w (record {
       settings = b;
       every-tick = λ before c later e. tick-inside (instructionsOf kinds s) before c later w (b .rest) e (b .first) (b .once);
@@ -188,4 +189,4 @@ by-order kinds s (under w b) =
     })
 
 pub journal-stops : JournalStops
-journal-stops kinds s h = by-order kinds s (ordered kinds s h)
+journal-stops kinds s h = by-order kinds s h (ordered kinds s)

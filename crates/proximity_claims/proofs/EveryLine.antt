@@ -1,28 +1,31 @@
 -- Every journal is printed so.
-use mathlib.Core.Bool.{true, false}
+use mathlib.Core.Bool.{Bool, true, false, _||_}
 use mathlib.Core.List.{List, [], _∷_, _++_}
-use mathlib.Core.Path.{_≡_, refl, sym, ap, ap₂, _∙_}
+use mathlib.Core.Path.{_≡_, refl, ap, _∙_}
 use Prim.Native.Nat.{ℕ, _≤_}
+use native.Mathlib.Omega.{arith}
+use borrow.Author.Tests.{ltb-false}
+use lib.Dec.{ltb}
 use lib.Ieee.{Float}
 use Rattle.lictor_core.specs.declared.envelope.FuseConfig.{FuseConfig}
 use Rattle.lictor_core.specs.declared.envelope.Settings.{Settings}
 use Rattle.lictor_core.specs.Sizes.{maxPos}
-use Rattle.lictor_settings.specs.Settings.{configOf}
+use Rattle.lictor_settings.specs.Settings.{badSize, configOf}
 use Rattle.claims.specs.Runs.{All}
 use Rattle.journal_reader.specs.Reading.{Instruction, begin, restart, tick, width}
 use Rattle.journal.specs.declared.tick.Run.{Run}
 use Rattle.stream.proofs.Stream.{impossible}
 use Rattle.journal.specs.Events.{begunOf, restartedOf, tickedOf, decidedOf, runAfter, reportOf, Event, began, widthGiven, eventsFrom}
-use Rattle.journal.specs.Journal.{Ending, startRun, journalOf}
+use Rattle.journal.specs.Journal.{startRun, journalOf}
 use Rattle.journal_claims.specs.Instructions.{toldIn}
 use Rattle.journal_claims.specs.JournalStops.{GoesOn}
+use Rattle.journal_claims.proofs.Order.{Goes, plain, measured, Ordered, nothing, under, ordered}
 use Rattle.proximity_text.specs.Near.{noneInside}
 use Rattle.proximity_text.specs.History.{putFrom, PutListed}
 use Rattle.proximity_text.proofs.History.{lines-listed}
-use Rattle.printer.specs.Printer.{Printer, proximity, atStart, proximityPrinter, shownText, remembered, printed, printerAfterAll, endingText, refusalText, meaningFor, kindsTaken, textOf}
+use Rattle.printer.specs.Printer.{proximity, atStart, proximityPrinter, shownText, remembered, printed, printerAfterAll, refusalText, meaningFor, kindsTaken, textOf}
 use Rattle.printer.proofs.Parts.{shows-stay, proximity-on-output}
 use Rattle.proximity_claims.specs.EveryLine.{eventsIn, endingIn, historyOf, HasWidth, Unmeasured, Under, Measured, Told, without, with-width, EveryLine}
-use Rattle.proximity_claims.proofs.Order.{Goes, plain, measured, Course, nothing, under, course}
 use Rattle.proximity_claims.proofs.Lines.{NoWidth, near-printed, none-printed, ending-is}
 use Rattle.proximity_claims.proofs.Taken.{Tells, taken-told, told-taken}
 
@@ -97,6 +100,18 @@ with-lines s w x rest h e small u =
 
 -- ---- by what the journal tells
 
+or-false : (a b : Bool) → (a || b) ≡ false → (a ≡ false) × (b ≡ false)
+or-false true b e = impossible cc
+or-false false b e = (refl, e)
+
+-- sizes that are not refused
+few : (s : Settings) → badSize s ≡ false → s .«pos_dim» ≤ maxPos
+unfolding badSize
+few s e =
+    let first = or-false (ltb (s .dim) 1 || ltb 8 (s .dim)) _ e .1 in
+    let sides = or-false (ltb (s .«pos_dim») 1 || ltb 8 (s .«pos_dim»)) _ first .0 in
+    omega (arith, ltb-false 8 (s .«pos_dim») (or-false (ltb (s .«pos_dim») 1) (ltb 8 (s .«pos_dim»)) sides .1))
+
 goes-told : (s : List ℕ) (w : Settings) (rest : List Instruction) → toldIn (kindsTaken proximity) s ≡ begin w ∷ rest → w .«pos_dim» ≤ maxPos → Goes rest → Told s
 unfolding begunOf
 goes-told s w rest e small (plain g) =
@@ -108,9 +123,9 @@ goes-told s w rest e small (measured x later q g) =
     let has = told-taken s (begin w ∷ []) x later told in
     with-width (with-lines s w x (eventsFrom (begunOf w) later) has is small (all-under (configOf w) (begunOf w) later refl g))
 
-told-by : (s : List ℕ) → Course (toldIn (kindsTaken proximity) s) → Told s
+told-by : (s : List ℕ) → Ordered s (toldIn (kindsTaken proximity) s) → Told s
 told-by s (nothing e) = let is : eventsIn s ≡ [] = events-are s ∙ ap (eventsFrom startRun) e in without (no-lines s (rw is tt))
-told-by s (under w rest e small g) = goes-told s w rest e small g
+told-by s (under w rest e c g) = goes-told s w rest e (few w (c .sizes)) g
 
 pub every-line : EveryLine
-every-line s = record { told = told-by s (course (kindsTaken proximity) s); beside = proximity-on-output s .beside }
+every-line s = record { told = told-by s (ordered (kindsTaken proximity) s); beside = proximity-on-output s .beside }

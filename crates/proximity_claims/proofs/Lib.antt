@@ -1,5 +1,4 @@
 -- The proof, layer by layer.
-pub mod Order
 pub mod Taken
 pub mod Lines
 pub mod EveryLine

@@ -1,7 +1,7 @@
 -- The widths that a journal tells are those that it takes: before the record of each is a journal
 -- that ends with nothing refused, and the record is accepted.
 use mathlib.Core.Path.{_≡_, refl, sym, ap, subst, _∙_}
-use mathlib.Core.Bool.{Bool, true, false}
+use mathlib.Core.Bool.{true}
 use mathlib.Core.List.{List, [], _∷_, _++_, append-assoc}
 use Prim.Native.Nat.{ℕ, zero, suc, _≤_}
 use native.Mathlib.Omega.{arith}
@@ -15,15 +15,15 @@ use Rattle.journal_records.specs.Body.{decodeOf}
 use Rattle.journal_records.proofs.Decoded.{decoded}
 use Rattle.journal_refusals.specs.declared.Refusal.{Refusal}
 use Rattle.journal_refusals.specs.declared.Judged.{Judged}
-use Rattle.journal_refusals.specs.declared.Judged.the-variants.{Accepted, Refused}
+use Rattle.journal_refusals.specs.declared.Judged.the-variants.{Accepted}
 use Rattle.journal_refusals.specs.Table.{judgedOf}
 use Rattle.stream.specs.Stream.{wait, halt, go, tell, awaits, Settled, telling, after, settle, settled, takes, size}
 use Rattle.stream.proofs.Stream.{impossible, joined, settled-wait, settled-go, settled-tell}
 use Rattle.journal_reader.specs.State.{State, seenIn}
 use Rattle.journal_reader.specs.Reading.{Instruction, width, onRecord, onBytes}
 use Rattle.journal_reader.proofs.Reading.{Move, machine, Does, takes-it, halts, waits, judged-does}
-use Rattle.journal.specs.Journal.{startState, ended, Meaning, journalOf}
-use Rattle.journal.specs.Widths.{withWidth, WidthTaken, measured}
+use Rattle.journal.specs.Journal.{startState, Meaning}
+use Rattle.journal.specs.Widths.{WidthTaken, measured}
 use Rattle.journal.proofs.Parts.{meaning-is}
 use Rattle.journal.proofs.WithoutWidth.{width-told}
 use Rattle.journal_claims.specs.Instructions.{toldIn}
