@@ -2,7 +2,7 @@
 -- answer, what it read and what it handed over to be written hang together. Standard output has
 -- records of the other form, standard error the line of a refusal. The claim `Ran` is at the end of
 -- this file.
-use mathlib.Core.Bool.{false, cond, _&&_, not}
+use mathlib.Core.Bool.{false, cond}
 use mathlib.Core.List.{List, [], _++_}
 use mathlib.Core.Path.{_≡_}
 use Prim.Native.Nat.{ℕ, _+_, _-_, _*_, _≤_, _<_, _%_, _^_}
@@ -104,7 +104,8 @@ toDo r = toDoBy (r .phase) (r .have) (r .reads .made)
 pub record Rounded (a : Form) (r : Round) (b : List ℕ) (q : Round) (b' : List ℕ) : Type 0 where
   pub told : List Framed
   pub came : List ℕ
-  pub goes : settled (onForm a (other a)) tt (atHand r b ++ came) ≡ telling told (settled (onForm a (other a)) tt (atHand q b'))
+  pub goes : settled (onForm a (other a)) tt (atHand r b ++ came)
+      ≡ telling told (settled (onForm a (other a)) tt (atHand q b'))
   pub count : q .place + q .have ≡ r .place + r .have + length came
   pub brought : q .reads .bytes ≡ (r .reads .bytes + length came) % 2 ^ 64
   pub handed : HandedOn Output (r .written) (length (bytesOf told)) (q .written)
@@ -166,7 +167,13 @@ pub record EndingPut (r : Round) (number : ℕ) (w : Written) (out' : List ℕ) 
   pub none : hasEnding (r .phase) ≡ false → w ≡ r .written
 
 unfoldable pub endedOf : Round → Written → Ended
-endedOf r w = record { place = r .place; refused = numberIn r; reads = r .reads; written = w; phase = phaseEnded (r .phase) (w .failed) }
+endedOf r w = record {
+  place = r .place;
+  refused = numberIn r;
+  reads = r .reads;
+  written = w;
+  phase = phaseEnded (r .phase) (w .failed);
+}
 
 pub record Closed (r : Round) (e : Ended) (out' : List ℕ) : Type 0 where
   pub put : EndingPut r (numberIn r) (e .written) out'

@@ -1,12 +1,12 @@
 -- Narrowing and then widening keeps what a journal means.
-use Prim.Native.Nat.{ℕ, zero, suc, _+_, _-_, _≤_, _<_}
-use mathlib.Core.Path.{_≡_, refl, sym, ap, ap₂, _∙_}
+use Prim.Native.Nat.{ℕ, suc, _+_, _-_}
+use mathlib.Core.Path.{_≡_, refl, sym, ap, _∙_}
 use mathlib.Core.Bool.{true}
 use mathlib.Core.List.{List, [], _∷_, _++_}
 use native.Mathlib.Omega.{arith}
 use lib.ListN.{length, drop, length-append, length-drop}
-use Rattle.stream.specs.Stream.{Next, wait, halt, go, tell, End, awaits, halted, Settled, telling, settled}
-use Rattle.stream.proofs.Stream.{impossible, settled-wait, settled-halt, settled-go, settled-tell}
+use Rattle.stream.specs.Stream.{Next, halt, go, tell, End, awaits, halted, Settled, telling, settled}
+use Rattle.stream.proofs.Stream.{settled-wait, settled-halt, settled-go, settled-tell}
 use Rattle.journal_frames.specs.declared.Frame.the-variants.{Whole}
 use Rattle.journal_frames.specs.Frames.{bodyLen, bodyOf, frameOf, Framed, bytesOf}
 use Rattle.journal_records.specs.Kinds.{journalKinds}
@@ -20,21 +20,20 @@ use Rattle.journal_refusals.specs.Table.{wholeOf}
 use Rattle.journal_reader.specs.State.{State, seenIn}
 use Rattle.journal_reader.specs.Reading.{Instruction, onRecord, onJudged, onWhole, onBytes}
 use Rattle.journal_reader.proofs.Reading.{machine, next-frame}
-use Rattle.journal.specs.Events.{Event, eventsFrom, runAfterAll}
+use Rattle.journal.specs.Events.{eventsFrom, runAfterAll}
 use Rattle.journal.specs.Journal.{Meaning, startState, startRun, endingOf, journalOf}
 use Rattle.journal_forms.specs.declared.Form.the-variants.{Wide, Narrow}
 use Rattle.journal_forms.specs.declared.Cause.{Cause}
-use Rattle.journal_forms.specs.declared.Cause.the-variants.{UnknownKind, NotHeld}
 use Rattle.journal_forms.specs.Forms.{runsOf}
 use Rattle.journal_forms.specs.Body.{bodyHeld}
 use Rattle.journal_forms.specs.Conversion as C
-use Rattle.journal_forms.specs.Conversion.{turned, onForm, Conversion, conversionOf, convertedBytes}
+use Rattle.journal_forms.specs.Conversion.{onForm, Conversion, conversionOf, convertedBytes}
 use Rattle.journal_forms.specs.Claims.{Back}
-use Rattle.journal_forms.proofs.Records.{form-machine, Turn, waits, not-known, is-turned, not-held, turn, whole-at, inside, made-frame, made-body, made-after, made-long}
-use Rattle.journal_forms.proofs.Ends.{whole-bytes}
-use Rattle.journal_forms.proofs.Back.{Done, done-is, there-and-back}
+use Rattle.journal_forms.proofs.Records.{form-machine, whole-at, inside, made-frame, made-body, made-after, made-long}
+use Rattle.journal_forms.proofs.Done.{turned-as, Done, by-records}
+use Rattle.journal_forms.proofs.Back.{done-is, there-and-back}
 use Rattle.printer.specs.Printer.{Printer, kindsTaken, textFrom, besideFrom, textOf, besideOf}
-use Rattle.form_claims.specs.Kept.{narrowedOf, backAgain, Kept, VerdictsKept}
+use Rattle.form_claims.specs.Kept.{backAgain, VerdictsKept}
 use Rattle.form_claims.proofs.Places.{quiet}
 use Rattle.form_claims.proofs.Decoded.{read-as}
 
@@ -159,32 +158,12 @@ module _ (s : List ℕ) (k n : ℕ) (i : frameOf journalKinds s ≡ Whole k n) (
             (alike-by st s made long (suc n) (λ r. rw after (x .alike r)) (onWhole st k body (suc n)) (moves st k body (suc n)) (made-read st) (next-frame journalKinds st s (Whole k n) i));
       }
 
-same-by : (g : ℕ) → ((s : List ℕ) → length s < g → Done Wide Wide s → Same s) → (s : List ℕ) → length s ≤ g → Done Wide Wide s → Turn Wide Wide s → Same s
+same-next : (s : List ℕ) (k n : ℕ) → frameOf journalKinds s ≡ Whole k n → bodyHeld Wide Wide (runsOf k) (bodyOf n s) ≡ true → Same (drop (suc n) s) → Same s
 unfolding bytesOf
-same-by g ih s l d (waits i e) =
-    let w = settled-wait (onForm Wide Wide) (form-machine Wide Wide .there) tt s e in
-    let z : s ≡ [] = sym (ap (λ (m : Settled (Unit {0}) Framed Cause). m .rest) w) ∙ d .rest in
-    rw z same-none
-same-by g ih s l d (not-known i e) =
-    let w = settled-halt (onForm Wide Wide) (form-machine Wide Wide .there) tt s UnknownKind e in
-    let z : halted UnknownKind ≡ awaits = sym (ap (λ (m : Settled (Unit {0}) Framed Cause). m .end) w) ∙ d .end in
-    impossible cc
-same-by g ih s l d (not-held k n i h e) =
-    let w = settled-halt (onForm Wide Wide) (form-machine Wide Wide .there) tt s NotHeld e in
-    let z : halted NotHeld ≡ awaits = sym (ap (λ (m : Settled (Unit {0}) Framed Cause). m .end) w) ∙ d .end in
-    impossible cc
-same-by g ih s l d (is-turned k n i h e) =
-    let there = settled-tell (onForm Wide Wide) (form-machine Wide Wide .there) tt s tt (suc n) (turned Wide Wide (record { kind = k; body = bodyOf n s })) e in
-    let below : length (drop (suc n) s) < g = omega (arith, length-drop (suc n) s, whole-at Wide s k n i .there) in
-    let after : Done Wide Wide (drop (suc n) s) = record {
-      end = ap (λ (m : Settled (Unit {0}) Framed Cause). m .end) (sym there) ∙ d .end;
-      rest = ap (λ (m : Settled (Unit {0}) Framed Cause). m .rest) (sym there) ∙ d .rest;
-    } in
-    same-one s k n i h (ap (λ (m : Settled (Unit {0}) Framed Cause). bytesOf (m .told)) there) (ih (drop (suc n) s) below after)
+same-next s k n i h = same-one s k n i h (ap (λ (m : Settled (Unit {0}) Framed Cause). bytesOf (m .told)) (turned-as Wide Wide s k n i h))
 
-same-at : (g : ℕ) (s : List ℕ) → length s < g → Done Wide Wide s → Same s
-same-at zero s l d = absurd (omega arith)
-same-at (suc g) s l d = same-by g (λ u q. same-at g u q) s (omega arith) d (turn Wide Wide s)
+all-same : (s : List ℕ) → Done Wide Wide s → Same s
+all-same = by-records Wide Wide Same same-none same-next
 
 -- ---- the meaning
 
@@ -216,7 +195,7 @@ module _ (s : List ℕ) (e : conversionOf Wide Narrow s .ending ≡ C.ended) whe
   back-is = ap (λ (x : Conversion). bytesOf (x .records)) (back .back)
 
   meaning : journalOf journalKinds (backAgain s) ≡ journalOf journalKinds s
-  meaning = ap (journalOf journalKinds) back-is ∙ quiet-meaning s (same-at (suc (length s)) s (omega arith) (done-is Wide Wide s (back .ends)))
+  meaning = ap (journalOf journalKinds) back-is ∙ quiet-meaning s (all-same s (done-is Wide Wide s (back .ends)))
 
   printed : (p : Printer) → textOf p (backAgain s) ≡ textOf p s
   unfolding textOf kindsTaken

@@ -1,6 +1,6 @@
 -- Every program ends every list of bytes with nothing refused, or with one of its numbers.
 use Prim.Native.Nat.{ℕ}
-use mathlib.Core.Path.{_≡_, refl, ap, _∙_}
+use mathlib.Core.Path.{_≡_, refl, ap}
 use mathlib.Core.Bool.{true}
 use mathlib.Core.List.{List}
 use Rattle.journal_refusals.specs.declared.Refusal.{Refusal}
@@ -15,7 +15,7 @@ use Rattle.journal_forms.specs.Conversion as C
 use Rattle.journal_forms.specs.Claims as F
 use Rattle.journal_forms.specs.Claims.{isOneOf}
 use Rattle.journal_forms.proofs.Ends.{conversion-ends}
-use Rattle.form_claims.specs.Numbers.{fuse, trace, pages, proximity, widen, narrow, tableNumbers, played, converted, EndsWith, with-end, with-number, Numbered}
+use Rattle.form_claims.specs.Numbers.{fuse, trace, pages, proximity, widen, narrow, tableNumbers, played, converted, FinishesWith, with-end, with-number, Numbered}
 
 -- each number of the table
 table-number : (r : Refusal) → isOneOf (T.numberOf r) tableNumbers ≡ true
@@ -31,11 +31,11 @@ table-number BoxCrossed = refl
 table-number ListFull = refl
 table-number NotReady = refl
 
-played-ends : (e : J.Ending) → EndsWith tableNumbers (played e)
+played-ends : (e : J.Ending) → FinishesWith tableNumbers (played e)
 played-ends J.ended = with-end refl
 played-ends (J.refused r p) = with-number (T.numberOf r) p refl (table-number r)
 
-converted-ends : (a : Form) (s : List ℕ) → F.Ends a s → EndsWith (C.numbersFrom a) (converted (C.conversionOf a (other a) s .ending))
+converted-ends : (a : Form) (s : List ℕ) → F.Ends a s → FinishesWith (C.numbersFrom a) (converted (C.conversionOf a (other a) s .ending))
 converted-ends a s (F.with-end e b) = with-end (ap converted e)
 converted-ends a s (F.with-refusal c p e b r) = with-number (C.numberOf c) p (ap converted e) (r .number)
 

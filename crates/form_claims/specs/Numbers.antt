@@ -7,13 +7,10 @@ use mathlib.Core.Bool.{true}
 use mathlib.Core.List.{List, [], _∷_}
 use mathlib.Core.Path.{_≡_}
 use Prim.Native.Nat.{ℕ}
-use Rattle.journal_refusals.specs.declared.Refusal.{Refusal}
 use Rattle.journal_refusals.specs.Table as T
 use Rattle.journal.specs.Journal as J
-use Rattle.printer.specs.Printer.{Printer, fusePrinter, tracePrinter, pagesPrinter, proximityPrinter, meaningFor}
-use Rattle.journal_forms.specs.declared.Form.{Form}
+use Rattle.printer.specs.Printer.{fusePrinter, tracePrinter, pagesPrinter, proximityPrinter, meaningFor}
 use Rattle.journal_forms.specs.declared.Form.the-variants.{Wide, Narrow}
-use Rattle.journal_forms.specs.Forms.{other}
 use Rattle.journal_forms.specs.Conversion as C
 use Rattle.journal_forms.specs.Claims.{isOneOf}
 
@@ -29,42 +26,42 @@ pub data Program : Type 0 where
 abbrev pub tableNumbers : List ℕ
 tableNumbers = 1 ∷ 2 ∷ 3 ∷ 4 ∷ 5 ∷ 6 ∷ 7 ∷ 8 ∷ 9 ∷ 10 ∷ []
 
--- the numbers of each program
+-- the numbers of each program; `widen` takes the narrow form, `narrow` the wide one
 abbrev pub numbersOf : Program → List ℕ
 numbersOf fuse = tableNumbers
 numbersOf trace = tableNumbers
 numbersOf pages = tableNumbers
 numbersOf proximity = tableNumbers
-numbersOf widen = 5 ∷ 6 ∷ []
-numbersOf narrow = 5 ∷ 6 ∷ 11 ∷ []
+numbersOf widen = C.numbersFrom Narrow
+numbersOf narrow = C.numbersFrom Wide
 
 -- ---- how a list of bytes ends for a program: at its end, or refused with a number at a place
 
-pub data Outcome : Type 0 where
-  atEnd : Outcome
-  refusedWith : ℕ → ℕ → Outcome
+pub data Finish : Type 0 where
+  atEnd : Finish
+  refusedWith : ℕ → ℕ → Finish
 
-abbrev pub played : J.Ending → Outcome
+abbrev pub played : J.Ending → Finish
 played J.ended = atEnd
 played (J.refused r p) = refusedWith (T.numberOf r) p
 
-abbrev pub converted : C.Ending → Outcome
+abbrev pub converted : C.Ending → Finish
 converted C.ended = atEnd
 converted (C.refused c p) = refusedWith (C.numberOf c) p
 
-abbrev pub outcomeOf : Program → List ℕ → Outcome
-outcomeOf fuse s = played (meaningFor fusePrinter s .ending)
-outcomeOf trace s = played (meaningFor tracePrinter s .ending)
-outcomeOf pages s = played (meaningFor pagesPrinter s .ending)
-outcomeOf proximity s = played (meaningFor proximityPrinter s .ending)
-outcomeOf widen s = converted (C.conversionOf Narrow Wide s .ending)
-outcomeOf narrow s = converted (C.conversionOf Wide Narrow s .ending)
+abbrev pub finishOf : Program → List ℕ → Finish
+finishOf fuse s = played (meaningFor fusePrinter s .ending)
+finishOf trace s = played (meaningFor tracePrinter s .ending)
+finishOf pages s = played (meaningFor pagesPrinter s .ending)
+finishOf proximity s = played (meaningFor proximityPrinter s .ending)
+finishOf widen s = converted (C.conversionOf Narrow Wide s .ending)
+finishOf narrow s = converted (C.conversionOf Wide Narrow s .ending)
 
 -- ---- the claim
 
-pub data EndsWith (numbers : List ℕ) (x : Outcome) : Type 0 where
-  with-end : x ≡ atEnd → EndsWith numbers x
-  with-number : (n p : ℕ) → x ≡ refusedWith n p → isOneOf n numbers ≡ true → EndsWith numbers x
+pub data FinishesWith (numbers : List ℕ) (x : Finish) : Type 0 where
+  with-end : x ≡ atEnd → FinishesWith numbers x
+  with-number : (n p : ℕ) → x ≡ refusedWith n p → isOneOf n numbers ≡ true → FinishesWith numbers x
 
 abbrev pub Numbered : Type 0
-Numbered = (p : Program) (s : List ℕ) → EndsWith (numbersOf p) (outcomeOf p s)
+Numbered = (p : Program) (s : List ℕ) → FinishesWith (numbersOf p) (finishOf p s)

@@ -1,38 +1,27 @@
 -- There and back: what was converted with nothing refused is converted back with nothing refused,
 -- each NaN with its quiet pattern and every other byte as it was (specs/Claims).
-use Prim.Native.Nat.{ℕ, zero, suc, _+_, _-_, _≤_, _<_}
+use Prim.Native.Nat.{ℕ, suc, _+_, _-_}
 use mathlib.Core.Path.{_≡_, refl, sym, ap, ap₂, _∙_}
-use mathlib.Core.Bool.{Bool, true, false}
+use mathlib.Core.Bool.{true}
 use mathlib.Core.List.{List, [], _∷_, _++_}
-use native.Mathlib.Omega.{arith}
-use lib.ListN.{length, take, drop, length-drop, take-append-drop}
-use lib.Seq.{length-take-le}
-use lib.Ieee.{Float}
-use Rattle.stream.specs.Stream.{Next, wait, halt, tell, End, awaits, halted, Settled, telling, settled}
-use Rattle.stream.proofs.Stream.{impossible, settled-wait, settled-halt, settled-tell}
+use lib.ListN.{length, drop}
+use Rattle.stream.specs.Stream.{tell, End, awaits, halted, Settled, telling, settled}
+use Rattle.stream.proofs.Stream.{impossible, settled-wait, settled-tell}
 use Rattle.journal_frames.specs.declared.Frame.the-variants.{Whole}
-use Rattle.journal_frames.specs.Frames.{bodyLen, bodyOf, frameOf, Framed, onFrames, tellsRecord, bytesOf}
-use Rattle.journal_frames.proofs.Frames.{by-frame, copying-machine}
-use Rattle.journal_records.specs.Little.{byteAt}
+use Rattle.journal_frames.specs.Frames.{bodyLen, bodyOf, frameOf, Framed, bytesOf}
 use Rattle.journal_forms.specs.declared.Form.{Form}
 use Rattle.journal_forms.specs.declared.Cause.{Cause}
-use Rattle.journal_forms.specs.declared.Cause.the-variants.{UnknownKind, NotHeld}
 use Rattle.journal_forms.specs.Forms.{other, kindsOf, runsOf}
 use Rattle.journal_forms.specs.Body.{bodyFloats, bodyTo, bodyHeld, allPass}
-use Rattle.journal_forms.specs.Conversion.{turned, onForm, Ending, ended, refused, endingOf, Conversion, conversionOf, convertedBytes, recordsFloats, recordsIn, floatsOf}
-use Rattle.journal_forms.specs.Claims.{OfBytes, isNumber, NoNan, Back, ThereAndBack}
+use Rattle.journal_forms.specs.Conversion.{turned, onForm, ended, endingOf, conversionOf, recordsFloats, floatsOf}
+use Rattle.journal_forms.specs.Claims.{OfBytes, isNumber, NoNan, ThereAndBack}
 use Rattle.journal_forms.proofs.Bytes.{bytes-drop, bytes-take}
 use Rattle.journal_forms.proofs.Floats.{both-pass}
 use Rattle.journal_forms.proofs.Bodies.{body-same}
-use Rattle.journal_forms.proofs.Records.{form-machine, Turn, waits, not-known, is-turned, not-held, turn, whole-told, WholeAt, whole-at, inside, made-frame, made-body, made-after, made-held, made-through, own-held}
-use Rattle.journal_forms.proofs.Ends.{whole-bytes, stopped-at}
+use Rattle.journal_forms.proofs.Records.{form-machine, whole-told, whole-at, inside, made-frame, made-body, made-after, made-held, made-through, own-held}
+use Rattle.journal_forms.proofs.Done.{whole-bytes, framed-as, turned-as, Done, by-records}
 
--- it took all of s, and halted nowhere
-pub record Done (a b : Form) (s : List ℕ) : Type 0 where
-  pub end : settled (onForm a b) tt s .end ≡ awaits
-  pub rest : settled (onForm a b) tt s .rest ≡ []
-
--- that is what an ending with nothing refused says
+-- an ending with nothing refused says that all of s was taken
 done-by : (p : ℕ) (v : List ℕ) (x : End Cause) → endingOf p v x ≡ ended → (x ≡ awaits) × (v ≡ [])
 done-by p [] awaits e = (refl, refl)
 done-by p (j ∷ v) awaits e = impossible cc
@@ -76,19 +65,16 @@ module _ (a b : Form) where
     abbrev f : Framed
     f = record { kind = k; body = bodyOf n s }
 
-    -- the record in form b, and in its own form
-    there : settled (onForm a b) tt s ≡ telling (turned a b f ∷ []) (settled (onForm a b) tt later)
-    there = settled-tell (onForm a b) (form-machine a b .there) tt s tt (suc n) (turned a b f) (whole-told a b s k n i h)
-
+    -- the record in its own form
     same : settled (onForm a a) tt s ≡ telling (turned a a f ∷ []) (settled (onForm a a) tt later)
-    same = settled-tell (onForm a a) (form-machine a a .there) tt s tt (suc n) (turned a a f) (whole-told a a s k n i (own-held a (runsOf k) (bodyOf n s)))
+    same = turned-as a a s k n i (own-held a (runsOf k) (bodyOf n s))
 
     abbrev t : List ℕ
     t = bytes later
 
     written : bytes s ≡ (k ∷ bodyTo a b (runsOf k) (bodyOf n s)) ++ t
     unfolding bytesOf
-    written = ap (λ (m : Settled (Unit {0}) Framed Cause). bytesOf (m .told)) there
+    written = ap (λ (m : Settled (Unit {0}) Framed Cause). bytesOf (m .told)) (turned-as a b s k n i h)
 
     -- and its bytes are converted back to its own form
     back-told : onForm b a tt ((k ∷ bodyTo a b (runsOf k) (bodyOf n s)) ++ t) ≡ tell tt (suc (bodyLen (kindsOf b) k)) (turned a a f)
@@ -112,77 +98,40 @@ module _ (a b : Form) where
           own = record { end = rw same (d .own .end); rest = rw same (d .own .rest) };
         }
 
-    done-later : Done a b s → Done a b later
-    done-later d = record {
-      end = ap (λ (m : Settled (Unit {0}) Framed Cause). m .end) (sym there) ∙ d .end;
-      rest = ap (λ (m : Settled (Unit {0}) Framed Cause). m .rest) (sym there) ∙ d .rest;
-    }
-
-  trip-by : (g : ℕ) → ((s : List ℕ) → length s < g → Done a b s → Trip s) → (s : List ℕ) → length s ≤ g → Done a b s → Turn a b s → Trip s
-  trip-by g ih s l d (waits i e) =
-      let w = settled-wait (onForm a b) (form-machine a b .there) tt s e in
-      let z : s ≡ [] = sym (ap (λ (m : Settled (Unit {0}) Framed Cause). m .rest) w) ∙ d .rest in
-      rw z trip-none
-  trip-by g ih s l d (not-known i e) =
-      let w = settled-halt (onForm a b) (form-machine a b .there) tt s UnknownKind e in
-      let z : halted UnknownKind ≡ awaits = sym (ap (λ (m : Settled (Unit {0}) Framed Cause). m .end) w) ∙ d .end in
-      impossible cc
-  trip-by g ih s l d (not-held k n i h e) =
-      let w = settled-halt (onForm a b) (form-machine a b .there) tt s NotHeld e in
-      let z : halted NotHeld ≡ awaits = sym (ap (λ (m : Settled (Unit {0}) Framed Cause). m .end) w) ∙ d .end in
-      impossible cc
-  trip-by g ih s l d (is-turned k n i h e) =
-      trip-one s k n i h (ih (drop (suc n) s) (omega (arith, length-drop (suc n) s, whole-at a s k n i .there)) (done-later s k n i h d))
-
-  trip-at : (g : ℕ) (s : List ℕ) → length s < g → Done a b s → Trip s
-  trip-at zero s l d = absurd (omega arith)
-  trip-at (suc g) s l d = trip-by g (λ u q. trip-at g u q) s (omega arith) d (turn a b s)
+  trip : (s : List ℕ) → Done a b s → Trip s
+  trip = by-records a b Trip trip-none trip-one
 
 -- ---- the same bytes, where they are bytes and no float is a NaN
 
 module _ (a : Form) where
-  framed-as : (s : List ℕ) (k n : ℕ) → frameOf (kindsOf a) s ≡ Whole k n → settled (onFrames (kindsOf a)) tt s ≡ telling (record { kind = k; body = bodyOf n s } ∷ []) (settled (onFrames (kindsOf a)) tt (drop (suc n) s))
-  unfolding onFrames tellsRecord
-  framed-as s k n i = settled-tell (onFrames (kindsOf a)) (copying-machine (kindsOf a) .there) tt s tt (suc n) _ (by-frame (kindsOf a) tt tellsRecord tt s (Whole k n) i)
+  abbrev AsItWas : List ℕ → Type 0
+  AsItWas s = OfBytes s → NoNan a s → bytesOf (settled (onForm a a) tt s .told) ≡ s
 
-  same-by : (g : ℕ) → ((s : List ℕ) → length s < g → OfBytes s → NoNan a s → Done a a s → bytesOf (settled (onForm a a) tt s .told) ≡ s)
-      → (s : List ℕ) → length s ≤ g → OfBytes s → NoNan a s → Done a a s → Turn a a s → bytesOf (settled (onForm a a) tt s .told) ≡ s
+  was-none : AsItWas []
+  unfolding bytesOf
+  was-none b q = ap (λ (m : Settled (Unit {0}) Framed Cause). bytesOf (m .told)) (settled-wait (onForm a a) (form-machine a a .there) tt [] (form-machine a a .idle tt))
+
+  was-one : (s : List ℕ) (k n : ℕ) → frameOf (kindsOf a) s ≡ Whole k n → bodyHeld a a (runsOf k) (bodyOf n s) ≡ true → AsItWas (drop (suc n) s) → AsItWas s
   unfolding bytesOf recordsFloats
-  same-by g ih s l b q d (waits i e) =
-      let w = settled-wait (onForm a a) (form-machine a a .there) tt s e in
-      ap (λ (m : Settled (Unit {0}) Framed Cause). bytesOf (m .told)) w ∙ sym (sym (ap (λ (m : Settled (Unit {0}) Framed Cause). m .rest) w) ∙ d .rest)
-  same-by g ih s l b q d (not-known i e) =
-      let w = settled-halt (onForm a a) (form-machine a a .there) tt s UnknownKind e in
-      let z : halted UnknownKind ≡ awaits = sym (ap (λ (m : Settled (Unit {0}) Framed Cause). m .end) w) ∙ d .end in
-      impossible cc
-  same-by g ih s l b q d (not-held k n i h e) =
-      let w = settled-halt (onForm a a) (form-machine a a .there) tt s NotHeld e in
-      let z : halted NotHeld ≡ awaits = sym (ap (λ (m : Settled (Unit {0}) Framed Cause). m .end) w) ∙ d .end in
-      impossible cc
-  same-by g ih s l b q d (is-turned k n i h e) =
-      let x : Framed = record { kind = k; body = bodyOf n s } in
+  was-one s k n i h after b q =
       let later = drop (suc n) s in
-      let w = whole-at a s k n i in
-      let there = settled-tell (onForm a a) (form-machine a a .there) tt s tt (suc n) (turned a a x) e in
-      let r = both-pass isNumber (bodyFloats a (runsOf k) (bodyOf n s)) (floatsOf a later) (ap (λ (m : Settled (Unit {0}) Framed (Unit {0})). allPass isNumber (recordsFloats a (m .told))) (sym (framed-as s k n i)) ∙ q) in
+      let r = both-pass isNumber (bodyFloats a (runsOf k) (bodyOf n s)) (floatsOf a later) (ap (λ (m : Settled (Unit {0}) Framed (Unit {0})). allPass isNumber (recordsFloats a (m .told))) (sym (framed-as a s k n i)) ∙ q) in
       let c : OfBytes (bodyOf n s) = bytes-take n (drop 1 s) (bytes-drop 1 s b) in
-      ap (λ (m : Settled (Unit {0}) Framed Cause). bytesOf (m .told)) there
-      ∙ ap₂ (λ (y z : List ℕ). (k ∷ y) ++ z) (body-same a (runsOf k) (bodyOf n s) (inside a a s k n i) c (r .0))
-      (ih later (omega (arith, length-drop (suc n) s, w .there)) (bytes-drop (suc n) s b) (r .1) (done-later a a s k n i h d))
-      ∙ whole-bytes s k n w
+      ap (λ (m : Settled (Unit {0}) Framed Cause). bytesOf (m .told)) (turned-as a a s k n i h)
+      ∙ ap₂ (λ (y z : List ℕ). (k ∷ y) ++ z) (body-same a (runsOf k) (bodyOf n s) (inside a a s k n i) c (r .0)) (after (bytes-drop (suc n) s b) (r .1))
+      ∙ whole-bytes s k n (whole-at a s k n i)
 
-  same-at : (g : ℕ) (s : List ℕ) → length s < g → OfBytes s → NoNan a s → Done a a s → bytesOf (settled (onForm a a) tt s .told) ≡ s
-  same-at zero s l b q d = absurd (omega arith)
-  same-at (suc g) s l b q d = same-by g (λ u r. same-at g u r) s (omega arith) b q d (turn a a s)
+  as-it-was : (s : List ℕ) → Done a a s → AsItWas s
+  as-it-was = by-records a a AsItWas was-none was-one
 
 -- ---- the claim
 
 pub there-and-back : ThereAndBack
 unfolding conversionOf
 there-and-back a s e =
-    let t = trip-at a (other a) (suc (length s)) s (omega arith) (done-is a (other a) s e) in
+    let t = trip a (other a) s (done-is a (other a) s e) in
     record {
       back = rw (t .back, t .own .end, t .own .rest) refl;
       ends = done-ends a a s (t .own);
-      restored = λ b q. same-at a (suc (length s)) s (omega arith) b q (t .own);
+      restored = λ b q. ap (λ (m : Settled (Unit {0}) Framed Cause). bytesOf (m .told)) (t .back) ∙ as-it-was a s (t .own) b q;
     }

@@ -1,30 +1,30 @@
 -- Every list of bytes ends in records, or in records and a refusal (specs/Claims).
-use Prim.Native.Nat.{ℕ, zero, suc, _+_, _-_, _≤_, _<_}
+use Prim.Native.Nat.{ℕ, suc, _+_, _-_, _≤_, _<_}
 use mathlib.Core.Path.{_≡_, refl, sym, ap, ap₂, _∙_}
-use mathlib.Core.Bool.{Bool, true, false, cond, not}
-use mathlib.Core.List.{List, [], _∷_, _++_, map, append-assoc}
+use mathlib.Core.Bool.{true, false}
+use mathlib.Core.List.{List, [], _∷_, _++_, map, append-nil}
 use native.Mathlib.Numerals.{add-one}
 use native.Mathlib.Omega.{arith}
-use lib.ListN.{length, take, drop, getD, length-append, length-take, length-drop, take-append-drop}
-use lib.Seq.{length-take-le, take-at, drop-cons}
-use lib.Dec.{ltb}
+use lib.ListN.{length, take, drop, getD, length-take, length-drop}
+use lib.Seq.{length-take-le, drop-cons}
 use borrow.Author.Tests.{lt-ltb, le-ltb}
 use Rattle.lictor_core.specs.FirstThat.{firstThat}
-use Rattle.stream.specs.Stream.{Next, wait, halt, tell, End, awaits, halted, Settled, telling, settled}
-use Rattle.stream.proofs.Stream.{impossible, tells-on, settled-wait, settled-halt, settled-tell, settled-still, Still, Front, front}
+use Rattle.stream.specs.Stream.{Next, wait, halt, End, awaits, halted, Settled, settled}
+use Rattle.stream.proofs.Stream.{impossible, settled-wait, settled-still, Still, Front, front}
 use Rattle.journal_frames.specs.declared.Frame.{Frame}
 use Rattle.journal_frames.specs.declared.Frame.the-variants.{Waits, Unknown, Whole}
-use Rattle.journal_frames.specs.Frames.{isKnown, bodyLen, bodyOf, frameOf, Framed, bytesOf}
-use Rattle.journal_frames.proofs.Frames.{FrameAt, unknown, cut, whole, frame-at}
+use Rattle.journal_frames.specs.Frames.{isKnown, bodyLen, bodyOf, frameOf, Framed, onFrames, bytesOf}
+use Rattle.journal_frames.proofs.Frames.{FrameAt, unknown, cut, whole, frame-at, copying-machine, nothing-lost}
 use Rattle.journal_forms.specs.declared.Form.{Form}
 use Rattle.journal_forms.specs.declared.Form.the-variants.{Wide, Narrow}
 use Rattle.journal_forms.specs.declared.Cause.{Cause}
 use Rattle.journal_forms.specs.declared.Cause.the-variants.{UnknownKind, CutBody, NotHeld}
 use Rattle.journal_forms.specs.Forms.{other, kindsOf, runsOf}
 use Rattle.journal_forms.specs.Body.{bodyHeld}
-use Rattle.journal_forms.specs.Conversion.{turned, onForm, Ending, ended, refused, endingOf, Conversion, conversionOf, numberOf, numbersFrom, causes, taken, refusedFor, judgedOf, judgedAt}
-use Rattle.journal_forms.specs.Claims.{isOneOf, RecordByRecord, RefusedAt, Ends, with-end, with-refusal, ConversionEnds}
-use Rattle.journal_forms.proofs.Records.{form-machine, Turn, waits, not-known, is-turned, not-held, turn, WholeAt, whole-at, wide-holds}
+use Rattle.journal_forms.specs.Conversion.{turned, onForm, ended, refused, endingOf, Conversion, conversionOf, numberOf, numbersFrom, causes, refusedFor, judgedOf, judgedAt, recordsIn}
+use Rattle.journal_forms.specs.Claims.{isOneOf, RecordByRecord, Ends, with-end, with-refusal, ConversionEnds}
+use Rattle.journal_forms.proofs.Records.{form-machine, Turn, waits, not-known, is-turned, not-held, turn, wide-holds}
+use Rattle.journal_forms.proofs.Done.{framed-as, turned-as, Done, by-records}
 
 -- where a machine halts, that is the ending, whatever is left
 pub stopped-at : (v : List ℕ) {p : ℕ} {c : Cause} → endingOf p v (halted c) ≡ refused c p
@@ -33,55 +33,34 @@ stopped-at (j ∷ v) = refl
 
 -- ---- the records that were converted
 
--- the bytes of a whole record, and those after it
-pub whole-bytes : {a : Form} (s : List ℕ) (k n : ℕ) → WholeAt a s k n → (k ∷ bodyOf n s) ++ drop (suc n) s ≡ s
-whole-bytes [] k n w = absurd (omega (arith, w .there))
-whole-bytes (j ∷ v) k n w = let y : j ≡ k = cc (w .first) in rw y (ap (λ (l : List ℕ). k ∷ l) (take-append-drop n v))
-
 module _ (a b : Form) where
-  abbrev next : Unit {0} → List ℕ → Next (Unit {0}) Framed Cause
-  next = onForm a b
-
-  -- records in front of the rest, each of which was told in form b
+  -- s is records, and each of them was told in form b
   record Told (s : List ℕ) : Type 0 where
-    records : List Framed
-    bytes : bytesOf records ++ settled next tt s .rest ≡ s
-    each : settled next tt s .told ≡ map (turned a b) records
+    all : settled (onFrames (kindsOf a)) tt s .rest ≡ []
+    each : settled (onForm a b) tt s .told ≡ map (turned a b) (recordsIn a s)
 
-  told-none : (s : List ℕ) (x : End Cause) → settled next tt s ≡ record { state = tt; rest = s; told = []; end = x } → Told s
-  unfolding bytesOf
-  told-none s x e = record { records = []; bytes = ap (λ (m : Settled (Unit {0}) Framed Cause). m .rest) e; each = ap (λ (m : Settled (Unit {0}) Framed Cause). m .told) e }
-
-  told-one : (s : List ℕ) (k n : ℕ) → WholeAt a s k n → settled next tt s ≡ telling (turned a b (record { kind = k; body = bodyOf n s }) ∷ []) (settled next tt (drop (suc n) s))
-      → Told (drop (suc n) s) → Told s
-  unfolding bytesOf
-  told-one s k n w e t =
-      let f : Framed = record { kind = k; body = bodyOf n s } in
-      let m = settled next tt (drop (suc n) s) in
+  told-none : Told []
+  told-none =
+      let e = settled-wait (onForm a b) (form-machine a b .there) tt [] (form-machine a b .idle tt) in
+      let g = settled-wait (onFrames (kindsOf a)) (copying-machine (kindsOf a) .there) tt [] (copying-machine (kindsOf a) .idle tt) in
       record {
-        records = f ∷ t .records;
-        bytes =
-            ap (λ (u : Settled (Unit {0}) Framed Cause). ((k ∷ bodyOf n s) ++ bytesOf (t .records)) ++ u .rest) e
-            ∙ append-assoc (k ∷ bodyOf n s) (bytesOf (t .records)) (m .rest)
-            ∙ ap (λ (u : List ℕ). (k ∷ bodyOf n s) ++ u) (t .bytes)
-            ∙ whole-bytes s k n w;
-        each = ap (λ (u : Settled (Unit {0}) Framed Cause). u .told) e ∙ ap (λ (u : List Framed). turned a b f ∷ u) (t .each);
+        all = ap (λ (m : Settled (Unit {0}) Framed (Unit {0})). m .rest) g;
+        each = ap (λ (m : Settled (Unit {0}) Framed Cause). m .told) e ∙ ap (λ (m : Settled (Unit {0}) Framed (Unit {0})). map (turned a b) (m .told)) (sym g);
       }
 
-  told-by : (f : ℕ) → ((s : List ℕ) → length s < f → Told s) → (s : List ℕ) → length s ≤ f → Turn a b s → Told s
-  told-by f ih s l (waits i e) = told-none s awaits (settled-wait next (form-machine a b .there) tt s e)
-  told-by f ih s l (not-known i e) = told-none s (halted UnknownKind) (settled-halt next (form-machine a b .there) tt s UnknownKind e)
-  told-by f ih s l (not-held k n i h e) = told-none s (halted NotHeld) (settled-halt next (form-machine a b .there) tt s NotHeld e)
-  told-by f ih s l (is-turned k n i h e) =
-      let w = whole-at a s k n i in
-      told-one s k n w (settled-tell next (form-machine a b .there) tt s tt (suc n) _ e) (ih (drop (suc n) s) (omega (arith, length-drop (suc n) s, w .there)))
+  told-one : (s : List ℕ) (k n : ℕ) → frameOf (kindsOf a) s ≡ Whole k n → bodyHeld a b (runsOf k) (bodyOf n s) ≡ true → Told (drop (suc n) s) → Told s
+  told-one s k n i h t =
+      let g = framed-as a s k n i in
+      record {
+        all = ap (λ (m : Settled (Unit {0}) Framed (Unit {0})). m .rest) g ∙ t .all;
+        each =
+            ap (λ (m : Settled (Unit {0}) Framed Cause). m .told) (turned-as a b s k n i h)
+            ∙ ap (λ (u : List Framed). turned a b (record { kind = k; body = bodyOf n s }) ∷ u) (t .each)
+            ∙ ap (λ (m : Settled (Unit {0}) Framed (Unit {0})). map (turned a b) (m .told)) (sym g);
+      }
 
-  told-at : (f : ℕ) (s : List ℕ) → length s < f → Told s
-  told-at zero s l = absurd (omega arith)
-  told-at (suc f) s l = told-by f (λ u q. told-at f u q) s (omega arith) (turn a b s)
-
-  all-told : (s : List ℕ) → Told s
-  all-told s = told-at (suc (length s)) s (omega arith)
+  all-told : (s : List ℕ) → Done a b s → Told s
+  all-told = by-records a b Told told-none told-one
 
 -- ---- the cause of a refusal
 
@@ -170,12 +149,11 @@ module _ (a : Form) (s : List ℕ) where
 
   by-record : RecordByRecord a s p
   by-record =
-      let t = all-told a (other a) s in
-      let l : length (bytesOf (t .records)) ≡ p = omega (arith, ap length (t .bytes), length-append (bytesOf (t .records)) (m .rest), ap length (f .rest-is), length-drop p s, f .within) in
+      let u = take p s in
+      let t = all-told a (other a) u (record { end = ap (λ (x : Settled (Unit {0}) Framed Cause). x .end) (f .before); rest = ap (λ (x : Settled (Unit {0}) Framed Cause). x .rest) (f .before) }) in
       record {
-        records = t .records;
-        bytes = sym (take-at (bytesOf (t .records)) (m .rest) p l) ∙ ap (take p) (t .bytes);
-        written = ap (λ (x : Conversion). x .records) meant ∙ t .each;
+        bytes = sym (append-nil (bytesOf (recordsIn a u))) ∙ ap (λ (v : List ℕ). bytesOf (recordsIn a u) ++ v) (sym (t .all)) ∙ nothing-lost (kindsOf a) u;
+        written = ap (λ (x : Conversion). x .records) meant ∙ sym (ap (λ (x : Settled (Unit {0}) Framed Cause). x .told) (f .before)) ∙ t .each;
       }
 
   before : conversionOf a (other a) (take p s) ≡ record { records = conversionOf a (other a) s .records; ending = ended }

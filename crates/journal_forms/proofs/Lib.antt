@@ -6,6 +6,7 @@ pub mod Held
 pub mod Putting
 pub mod Tables
 pub mod Records
+pub mod Done
 pub mod Whole
 pub mod Turning
 pub mod Ends

@@ -27,7 +27,8 @@ turned a b f = record { kind = f .kind; body = bodyTo a b (runsOf (f .kind)) (f 
 
 -- a whole record is told in form b, where that holds its floats
 unfoldable pub turns : Form → Form → OnWhole (Unit {0}) Framed Cause
-turns a b r k body n = cond (bodyHeld a b (runsOf k) body) (tell r n (turned a b (record { kind = k; body = body }))) (halt NotHeld)
+turns a b r k body n =
+    cond (bodyHeld a b (runsOf k) body) (tell r n (turned a b (record { kind = k; body = body }))) (halt NotHeld)
 
 unfoldable pub onForm : Form → Form → Unit {0} → List ℕ → Next (Unit {0}) Framed Cause
 onForm a b = byFrames (kindsOf a) UnknownKind (turns a b)

@@ -4,7 +4,7 @@
 use mathlib.Core.Bool.{Bool, true, false, cond}
 use mathlib.Core.List.{List, [], _∷_, _++_}
 use mathlib.Core.Path.{_≡_}
-use Prim.Native.Nat.{ℕ, suc, _+_, _-_}
+use Prim.Native.Nat.{ℕ, _+_, _-_}
 use lib.ListN.{length, drop}
 use lib.Seq.{paste}
 use Rattle.stream.specs.Stream.{Next, wait, halt, go, tell, End, awaits, halted, Settled, settled}
@@ -54,7 +54,12 @@ refusedBy (halted (refuses c)) = numberOf c
 refusedBy (halted full) = 0
 
 unfoldable pub answerOf : List ℕ → Settled ℕ Framed Stop → Converted
-answerOf s m = record { at = length s - length (m .rest); n = m .state; more = isFull (m .end); refused = refusedBy (m .end) }
+answerOf s m = record {
+  at = length s - length (m .rest);
+  n = m .state;
+  more = isFull (m .end);
+  refused = refusedBy (m .end);
+}
 
 -- the answer, and memory: the records at its front, and after them what was there
 pub record PartConverted (a : Form) (s out : List ℕ) (r : Converted) (out' : List ℕ) : Type 0 where
@@ -77,7 +82,8 @@ memoryOf out n (halt c) = out
 memoryOf out n (go r k) = out
 memoryOf out n (tell r k f) = paste out n (recordOf f) (length (recordOf f))
 
-pub record Stepped (p : Converted) (x : Next (Unit {0}) Framed Cause) (out : List ℕ) (r : Converted) (out' : List ℕ) : Type 0 where
+pub record Stepped (p : Converted) (x : Next (Unit {0}) Framed Cause)
+    (out : List ℕ) (r : Converted) (out' : List ℕ) : Type 0 where
   pub answer : r ≡ stepOf p x
   pub memory : out' ≡ memoryOf out (p .n) x
 

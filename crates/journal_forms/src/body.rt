@@ -52,7 +52,7 @@ fn float_bytes(form: Form) -> usize
     }
 }
 
-fn swapped(form: Form) -> Form
+fn other(form: Form) -> Form
     ensures { λ r. ⌜ r ≡ other form ⌝ }
 {
     match form {
@@ -106,13 +106,10 @@ fn run_bytes(form: Form, run: Run) -> usize
     requires { ⌜ runBytes form run < 2 ^ 64 ⌝ }
     ensures { λ r. ⌜ r ≡ runBytes form run ⌝ }
 {
-    match form {
-        Form::Wide => run.copied + run.floats * 8,
-        Form::Narrow => run.copied + run.floats * 4,
-    }
+    run.copied + run.floats * float_bytes(form)
 }
 
-// Those of a body.
+// The floats of a body.
 pub(crate) fn is_held(from: Form, first: Run, second: Run, body: &[u8]) -> bool
     requires { ⌜ runsBytes from (first ∷ second ∷ []) ≤ length (now body) ⌝ }
     ensures { λ r. ⌜ r ≡ bodyHeld from (other from) (first ∷ second ∷ []) (now (body .entry)) ⌝ }
@@ -169,7 +166,7 @@ fn put_floats(from: Form, s: &[u8], at: usize, count: usize, out: &mut [u8], n: 
     ensures { λ r. ⌜ Put (now (out .entry)) n (floatsTo (other from) (floatsIn from count (drop at (now (s .entry))))) r (now (out .exit)) ⌝ }
 {
     let width = float_bytes(from);
-    let to = float_bytes(swapped(from));
+    let to = float_bytes(other(from));
     let mut place = at;
     let mut end = n;
     let mut i: usize = 0;

@@ -15,8 +15,8 @@ abbrev μ-loop : tie.MeasureT-loop
 float-bytes-requires : tie.Need-float-bytes-requires Inv-loop μ-loop
 float-bytes-requires c κs = tt
 
-swapped-requires : tie.Need-swapped-requires Inv-loop μ-loop
-swapped-requires c κs = tt
+other-requires : tie.Need-other-requires Inv-loop μ-loop
+other-requires c κs = tt
 
 float-bytes-requires-2 : tie.Need-float-bytes-requires-2 Inv-loop μ-loop
 float-bytes-requires-2 c κs = tt
@@ -35,7 +35,7 @@ put-number-requires c κs =
     let looped = c .before .before .before in
     let widths = looped .before in
     let start = widths .before .before .before .before .before in
-    let width = widths .float-bytes2 .ensures ∙ ap floatBytes (widths .before .swapped .ensures) in
+    let width = widths .float-bytes2 .ensures ∙ ap floatBytes (widths .before .other .ensures) in
     omega (arith, width, float-room _ _ _ _ _ _ _ (start .pre .1) _ _ _ _ (c .before .before .loop-test .taken) (looped .loop .inv))
 
 add-place : tie.Need-add-place Inv-loop μ-loop
@@ -60,7 +60,7 @@ loop-again c =
     let width = to .before .before in
     let start = width .before .before .before in
     floats-on _ _ _ _ _ _ _ (start .pre .1) _ _ _ _ (omega arith) (looped .loop .inv) _ _ _ (width .float-bytes .ensures)
-    (to .float-bytes2 .ensures ∙ ap floatBytes (to .before .swapped .ensures)) (read .pattern-at .ensures) _ _ (put .put-number .ensures) (put .put-number .kept .0)
+    (to .float-bytes2 .ensures ∙ ap floatBytes (to .before .other .ensures)) (read .pattern-at .ensures) _ _ (put .put-number .ensures) (put .put-number .kept .0)
 
 same-length : tie.Need-same-length Inv-loop μ-loop
 same-length c = c .before .loop .inv .long
@@ -75,7 +75,7 @@ put-floats-spec =
     Inv-loop
     μ-loop
     float-bytes-requires
-    swapped-requires
+    other-requires
     float-bytes-requires-2
     loop-holds
     pattern-at-requires
