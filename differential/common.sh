@@ -3,7 +3,7 @@
 #   option WORDS ..  takes an option that all of them have, if the first word is one, and sets `took` to the number of its words (0: it is none)
 #   build [OPTION]   builds the reference from the Rust sources, or skips where something that it needs is missing
 #   skip WHY         says what is missing and ends: with status 0, or with --require as an error
-# They set and use: name (the script's), top, out, src, fuse, trace, pages, proximity, require.
+# They set and use: name (the script's), top, out, src, fuse, trace, pages, proximity, widen, narrow, require.
 top=$(dirname "$here")
 name=$(basename "$0")
 out=$top/target/differential
@@ -12,6 +12,8 @@ fuse=$top/target/bin/fuse
 trace=$top/target/bin/trace
 pages=$top/target/bin/pages
 proximity=$top/target/bin/proximity
+widen=$top/target/bin/widen
+narrow=$top/target/bin/narrow
 require=
 
 # The rules that the fuse has by request and the Rust has not, as options; the reference follows them (rust/rules).
@@ -25,6 +27,8 @@ option() {
     --trace) trace=$2 ;;
     --pages) pages=$2 ;;
     --proximity) proximity=$2 ;;
+    --widen) widen=$2 ;;
+    --narrow) narrow=$2 ;;
     --require) require=yes && took=1 ;;
     *) took=0 ;;
     esac

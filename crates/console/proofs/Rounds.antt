@@ -33,13 +33,13 @@ use Rattle.console.proofs.Phases.{wrote-played, stops-played, less-play
 
 module _ (at have : ℕ) (b : List ℕ) (h : have ≤ length b) where
   -- the bytes of a part that were moved down are at the front
-  moved-front : take (have - at) (movedDown at have b) ≡ drop at (take have b)
+  pub moved-front : take (have - at) (movedDown at have b) ≡ drop at (take have b)
   unfolding movedDown
   moved-front =
       let s = drop at (take have b) in
       take-at s (drop (length s) b) (have - at) (omega (arith, length-drop at (take have b), length-take-le have b h))
 
-  moved-long : length (movedDown at have b) ≡ length b
+  pub moved-long : length (movedDown at have b) ≡ length b
   unfolding movedDown
   moved-long =
       let s = drop at (take have b) in

@@ -49,7 +49,7 @@ use Rattle.console.proofs.Phases.{wrote-ended}
 use Rattle.console.proofs.Rounds.{more-bytes}
 
 -- a count of bytes, and that of more bytes
-counts-on : (n m : ℕ) (s t : List ℕ) → n ≡ length s % 2 ^ 64 → m ≡ (n + length t) % 2 ^ 64 → m ≡ length (s ++ t) % 2 ^ 64
+pub counts-on : (n m : ℕ) (s t : List ℕ) → n ≡ length s % 2 ^ 64 → m ≡ (n + length t) % 2 ^ 64 → m ≡ length (s ++ t) % 2 ^ 64
 counts-on n m s t e f = omega (arith, e, f, length-append s t)
 
 -- the counts of both channels, where a text is handed over on one of them

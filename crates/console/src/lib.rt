@@ -48,7 +48,7 @@ pub enum Phase {
     WriteFailed,
 }
 
-fn is_going(phase: Phase) -> bool
+pub fn is_going(phase: Phase) -> bool
     ensures { λ r. ⌜ r ≡ isGoing phase ⌝ }
 {
     match phase {
@@ -62,7 +62,7 @@ fn is_going(phase: Phase) -> bool
     }
 }
 
-fn is_waiting(phase: Phase) -> bool
+pub fn is_waiting(phase: Phase) -> bool
     ensures { λ r. ⌜ r ≡ isWaiting phase ⌝ }
 {
     match phase {
@@ -77,7 +77,7 @@ fn is_waiting(phase: Phase) -> bool
 }
 
 // The text of an ending is written at a refusal and at the end of the input.
-fn has_ending(phase: Phase) -> bool
+pub fn has_ending(phase: Phase) -> bool
     ensures { λ r. ⌜ r ≡ hasEnding phase ⌝ }
 {
     match phase {
@@ -92,7 +92,7 @@ fn has_ending(phase: Phase) -> bool
 }
 
 // After records were played: whether a write failed, the room for text is full, one was refused.
-fn phase_played(failed: bool, full: bool, refused: u8) -> Phase
+pub fn phase_played(failed: bool, full: bool, refused: u8) -> Phase
     ensures { λ r. ⌜ r ≡ phasePlayed failed full refused ⌝ }
 {
     if failed {
@@ -108,7 +108,7 @@ fn phase_played(failed: bool, full: bool, refused: u8) -> Phase
 }
 
 // After a read.
-fn phase_read(last: Supply) -> Phase
+pub fn phase_read(last: Supply) -> Phase
     ensures { λ r. ⌜ r ≡ phaseRead last ⌝ }
 {
     match last {
@@ -120,7 +120,7 @@ fn phase_read(last: Supply) -> Phase
 }
 
 // After the text of the ending, if there is one.
-fn phase_ended(phase: Phase, failed: bool) -> Phase
+pub fn phase_ended(phase: Phase, failed: bool) -> Phase
     ensures { λ r. ⌜ r ≡ phaseEnded phase failed ⌝ }
 {
     if failed {
@@ -347,7 +347,7 @@ fn put_ending(shows: u8, r: Round, refused: u8, out: &mut [u8]) -> Written
 }
 
 // Says on standard error what failed outside the journal; that is in no count.
-fn say_why(name: &[u8], phase: Phase, w: Written) -> Written
+pub fn say_why(name: &[u8], phase: Phase, w: Written) -> Written
     ensures { λ r. ⌜ r ≡ w ⌝ }
 {
     match phase {

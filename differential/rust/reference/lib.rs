@@ -3,6 +3,7 @@
 //! Records, reader and printing are written from 01-scope.md, the tick is the Rust's.
 
 pub mod answer;
+pub mod forms;
 pub mod journal;
 pub mod lines;
 pub mod proximity;

@@ -1,10 +1,12 @@
 //! The reference program.
 //!
 //!     reference [--rule NAME ..] [fuse|trace|proximity] < journal
+//!     reference widen|narrow < journal
 //!     reference root|margin < doubles
 //!
 //! Prints what `fuse`, `trace` or `proximity` prints for a journal. `root` and `margin` take doubles, 16 hexadecimal digits a line, and
-//! print each with its square root (by its bits) or with its margin text. `--rule` turns a rule of rust/rules on.
+//! print each with its square root (by its bits) or with its margin text. `widen` and `narrow` write the journal in the other form, and the
+//! line of a refusal to standard error. `--rule` turns a rule of rust/rules on.
 
 use std::{
     io::{self, Read, Write},
@@ -13,6 +15,7 @@ use std::{
 
 use oracle::{
     answer::{Answer, Program},
+    forms::{self, Form},
     journal::Unobserved,
     lines,
 };
@@ -29,9 +32,11 @@ fn main() -> ExitCode {
         "fuse" => journal(Program::Fuse),
         "trace" => journal(Program::Trace),
         "proximity" => journal(Program::Proximity),
+        "widen" => other_form(Form::Narrow),
+        "narrow" => other_form(Form::Wide),
         "root" => doubles(|out, x| lines::float(out, lictor_core::fmath::sqrt(x))),
         "margin" => doubles(lines::margin),
-        other => Err(io::Error::other(format!("{other} is none of fuse, trace, proximity, root, margin"))),
+        other => Err(io::Error::other(format!("{other} is none of fuse, trace, proximity, widen, narrow, root, margin"))),
     };
     match done {
         Ok(()) => ExitCode::SUCCESS,
@@ -55,6 +60,17 @@ fn journal(program: Program) -> io::Result<()> {
         }
     }
     stdout.write_all(&out)
+}
+
+fn other_form(from: Form) -> io::Result<()> {
+    let mut bytes = Vec::new();
+    io::stdin().lock().read_to_end(&mut bytes)?;
+    let (records, refused) = forms::converted(from, &bytes);
+    io::stdout().write_all(&records)?;
+    if let Some((number, place)) = refused {
+        eprintln!("refused {number} {place}");
+    }
+    Ok(())
 }
 
 /// One line for each double: its digits, then what `show` makes of it.
