@@ -1,5 +1,7 @@
 // Bit patterns of binary32 and binary64, each as the other's with the same value. Every NaN becomes
 // the quiet one with a clear sign and no other digit set.
+#![tactic(auto)]
+
 ghost use Rattle.std.specs.Prelude.{◌≡◌, ◌<◌, ◌^◌};
 ghost use Rattle.binary32.specs.Patterns.{widen_of, narrow_of};
 ghost use Rattle.binary32.specs.Guess.{Guessed};
@@ -14,7 +16,7 @@ const SIGN: u64 = 0x8000_0000_0000_0000;
 const INF: u64 = 0x7ff0_0000_0000_0000;
 
 // The pattern of binary32 with the value that was asked for, if there is one.
-#[derive(Drop)]
+#[derive(Clone, Copy)]
 pub enum Narrowed {
     Holds(u32),
     NotHeld,

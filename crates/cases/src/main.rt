@@ -10,6 +10,8 @@
 // `differential/sample DIR --store` (differential/README.md).
 // The other case that is executed, roots against IEEE 754, is the program `roots`;
 // `clock_ends` in `claims` says the case over all t.
+#![tactic(auto)]
+
 ghost use Rattle.std.specs.Prelude.{◌≡◌, true, false};
 ghost use Rattle.text.specs.Line.{line_of};
 ghost use Rattle.lictor_core.specs.declared.ack.MaybeAck.TheVariants.{NoAck};

@@ -22,7 +22,7 @@ pub fn move_down(buf: &mut [u8], at: usize, have: usize)
 }
 
 // Whether there may be more to read.
-#[derive(Drop)]
+#[derive(Clone, Copy)]
 pub enum Supply {
     // bytes came, or a signal interrupted the read
     More,
@@ -35,7 +35,7 @@ pub enum Supply {
 }
 
 // The reads that were made, and what the last one said.
-#[derive(Drop)]
+#[derive(Clone, Copy)]
 pub struct Reads {
     made: u64,
     // the bytes that they brought, modulo 2^64
@@ -67,7 +67,7 @@ pub fn last(reads: Reads) -> Supply
 }
 
 // What is at hand after a read.
-#[derive(Drop)]
+#[derive(Clone, Copy)]
 pub struct Got {
     pub have: usize,
     pub reads: Reads,

@@ -2,6 +2,8 @@
 // the counters. The statements are in specs/, their proofs in proofs/. They speak of the
 // definitions that `tick` of lictor_fuse and `new` and `reset` of lictor_fuse::episode promise,
 // so the only code here is what ties their sizes to the types.
+#![tactic(auto)]
+
 ghost use Rattle.std.specs.Prelude.{◌≡◌, true, List, ◌≤◌};
 ghost use Rattle.claims.specs.ClockEnd.{last_time};
 ghost use Rattle.claims.specs.Calls.{Entry, ticks_among};

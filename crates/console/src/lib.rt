@@ -1,5 +1,7 @@
 // Plays a journal from standard input to its end or its first refusal, in constant memory, and
 // writes the text of its events and of its ending, each on its channel.
+#![tactic(auto)]
+
 ghost use Rattle.std.specs.Prelude.{true, false, ◌≡◌, ◌^◌, ◌<◌, ◌≤◌, length};
 ghost use Rattle.lictor_core.specs.Initial.{zeros};
 ghost use Rattle.journal_reader.specs.State.{places};
@@ -18,7 +20,7 @@ use printer::{Channel, Notes};
 
 // ---- whether it goes on, or why not
 
-#[derive(Drop)]
+#[derive(Clone, Copy)]
 pub enum Phase {
     // there may be records to play
     Plays,
@@ -119,7 +121,7 @@ pub fn phase_ended(phase: Phase, failed: bool) -> Phase
 
 // ---- round by round
 
-#[derive(Drop)]
+#[derive(Clone, Copy)]
 struct Round {
     reader: Reader,
     run: Run,
@@ -272,7 +274,7 @@ fn run_rounds(
 // ---- the ending
 
 // How a journal ended.
-#[derive(Drop)]
+#[derive(Clone, Copy)]
 pub struct Ended {
     pub run: Run,
     // the place of the record that was refused; elsewhere the bytes that were taken

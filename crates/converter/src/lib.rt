@@ -1,5 +1,7 @@
 // Converts the journal on standard input to the other form, to its end or its first refusal, in
 // constant memory. Records go to standard output, the line of a refusal to standard error.
+#![tactic(auto)]
+
 ghost use Rattle.std.specs.Prelude.{true, ◌≡◌, ◌^◌, ◌<◌, ◌≤◌, length};
 ghost use Rattle.printer.specs.declared.Channel.TheVariants as C;
 ghost use Rattle.text.specs.Line.{line_room};
@@ -18,7 +20,7 @@ use text::memory::put_line;
 
 // ---- round by round
 
-#[derive(Drop)]
+#[derive(Clone, Copy)]
 struct Round {
     // the bytes that were taken, and those that wait at the front of memory
     place: u64,
@@ -120,7 +122,7 @@ fn run_rounds(from: Form, buf: &mut [u8], out: &mut [u8]) -> Round
 // ---- the ending
 
 // How a conversion ended.
-#[derive(Drop)]
+#[derive(Clone, Copy)]
 pub struct Ended {
     // the place of the record that was refused; elsewhere the bytes that were taken
     pub place: u64,

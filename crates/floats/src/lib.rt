@@ -2,6 +2,8 @@
 // tested (proofs/Nan).
 //
 // Bit 63 is the sign, bits 52 to 62 are the exponent field, and bits 0 to 51 are the stored digits.
+#![tactic(auto)]
+
 ghost use Rattle.std.specs.Prelude.{◌≡◌};
 ghost use Rattle.std.specs.Float.{binary64};
 ghost use Rattle.std.specs.Float.Ieee.{of_bits};

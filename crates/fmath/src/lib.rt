@@ -1,6 +1,8 @@
 // The float helpers of fmath.rs. Every operation is IEEE 754's on binary64, one rounding each, and
 // all NaNs count as one value. What Rust takes from its library, `is_finite`, `sqrt` (in the crate
 // `root`) and the special values, is worked out from the bits (the crate `floats`).
+#![tactic(auto)]
+
 ghost use Rattle.std.specs.Prelude.{◌≡◌, true, false, not, min as Nat·min};
 ghost use Rattle.std.specs.Float.{inf, nan as Ieee·nan};
 ghost use Rattle.std.specs.Float.Ieee.Scale.{finite};

@@ -2,6 +2,8 @@
 // end (01-scope.md, Journal).
 //
 // All that matters is in the libraries (crates/console).
+#![tactic(auto)]
+
 fn main() {
     console::play(b"fuse", printer::LINES);
 }

@@ -1,5 +1,7 @@
 // The fuse for a host that lends its run state: each call changes it where it lies
 // (fuse.rs, reset and decide).
+#![tactic(auto)]
+
 ghost use Rattle.std.specs.Prelude.{◌≡◌, false};
 ghost use Rattle.lictor_core.specs.Initial.{reset_of};
 ghost use Rattle.lictor_settings.specs.Settings.{check_of, check_number};
@@ -15,14 +17,14 @@ use lictor_fuse::{Ticked, no_verdict};
 use lictor_settings::{SettingsCheck, check, check_number, config};
 
 // What a call answers: what the check of the settings says, and the verdict where it accepts them.
-#[derive(Drop)]
+#[derive(Clone, Copy)]
 pub struct HostAnswer {
     pub check: SettingsCheck,
     pub verdict: SafetyVerdict,
 }
 
 // The number of the settings' refusal, 0 where they are accepted, and what a refused call answers.
-#[derive(Drop)]
+#[derive(Clone, Copy)]
 struct Checked {
     number: u8,
     answer: HostAnswer,

@@ -3,6 +3,8 @@
 // and all that a tick is given, which is only read.
 // Every type here is numbers in the layout of C, and every pattern of their bytes has a meaning,
 // so that a call asks nothing of its caller but memory.
+#![tactic(auto)]
+
 ghost use Rattle.std.specs.Prelude.{◌≡◌, false};
 ghost use Rattle.fmath.specs.Root.{root_of};
 ghost use Rattle.lictor_core.specs.Initial.{new_of};
@@ -23,14 +25,14 @@ use lictor_tally::join;
 
 // What a call answers: 0 and the verdict, or the number of a refusal of the settings.
 #[repr(C)]
-#[derive(Drop)]
+#[derive(Clone, Copy)]
 pub struct Answer {
     pub number: u8,
     pub verdict: Verdict,
 }
 
 // The same, with the run state: what a tick gives before the state is stored.
-#[derive(Drop)]
+#[derive(Clone, Copy)]
 pub struct Called {
     pub number: u8,
     pub rt: RunState,
@@ -38,7 +40,7 @@ pub struct Called {
 }
 
 // The number of the settings' refusal, 0 where they are accepted, and what a refused call answers.
-#[derive(Drop)]
+#[derive(Clone, Copy)]
 struct Checked {
     number: u8,
     answer: Answer,

@@ -2,6 +2,8 @@
 // it can be used and proved like any function by value.
 // `once` lends a local run state for one tick, and gives what the tick by value gives;
 // `three` calls `once` three times, and its proof needs nothing more.
+#![tactic(auto)]
+
 ghost use Rattle.std.specs.Prelude.{◌≡◌};
 ghost use Rattle.lictor_fuse.specs.Tick.{tick_of};
 ghost use Rattle.host_example.specs.Example.{three_of};
@@ -36,7 +38,7 @@ pub fn once(
 }
 
 // What comes to three ticks in a row.
-#[derive(Drop)]
+#[derive(Clone, Copy)]
 pub struct Inputs {
     pub first: TickInput,
     pub second: TickInput,

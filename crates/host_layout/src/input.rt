@@ -14,7 +14,7 @@ use lictor_core::state::Time;
 
 // The fields of a journal's settings, in its order. The codes are those of the journal.
 #[repr(C)]
-#[derive(Drop)]
+#[derive(Clone, Copy)]
 pub struct Settings {
     pub mode: u8,
     pub kind: u8,
@@ -49,7 +49,7 @@ pub struct Settings {
 }
 
 #[repr(C)]
-#[derive(Drop)]
+#[derive(Clone, Copy)]
 pub struct Chunk {
     pub seq: u32,
     pub t_emit: Time,
@@ -60,7 +60,7 @@ pub struct Chunk {
 
 // The decision is 0 Resume, 1 Abort, 2 Retune; with any other value there is no acknowledgement.
 #[repr(C)]
-#[derive(Drop)]
+#[derive(Clone, Copy)]
 pub struct Ack {
     pub nonce: u64,
     pub handoff_seq: u32,
@@ -69,7 +69,7 @@ pub struct Ack {
 }
 
 #[repr(C)]
-#[derive(Drop)]
+#[derive(Clone, Copy)]
 pub struct Input {
     pub t: Time,
     pub idx: u16,
@@ -83,7 +83,7 @@ pub struct Input {
 }
 
 #[repr(C)]
-#[derive(Drop)]
+#[derive(Clone, Copy)]
 pub struct Outcome {
     pub trips: u32,
     pub clamped_dims: u32,

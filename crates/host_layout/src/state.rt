@@ -18,7 +18,7 @@ use lictor_core::verdict::TRIP_BITS;
 // The rows are before the small fields, as in lictor_core: with a gap in front of a row a copy of it
 // is slow.
 #[repr(C)]
-#[derive(Drop)]
+#[derive(Clone, Copy)]
 pub struct Control {
     pub window: u64,
     pub last_nonce: [u64; MAX_OPERATORS],
@@ -38,7 +38,7 @@ pub struct Control {
 }
 
 #[repr(C)]
-#[derive(Drop)]
+#[derive(Clone, Copy)]
 pub struct Motion {
     pub pos: [f64; MAX_POS],
     pub prev_pos: [f64; MAX_POS],
@@ -48,7 +48,7 @@ pub struct Motion {
 }
 
 #[repr(C)]
-#[derive(Drop)]
+#[derive(Clone, Copy)]
 pub struct Clock {
     pub filled: u8,
     pub seq: u32,
@@ -59,7 +59,7 @@ pub struct Clock {
 
 // A time, where `set` is not 0.
 #[repr(C)]
-#[derive(Drop)]
+#[derive(Clone, Copy)]
 pub struct Mark {
     pub set: u8,
     pub at: Time,
@@ -67,14 +67,14 @@ pub struct Mark {
 
 // A reason, where `set` is not 0.
 #[repr(C)]
-#[derive(Drop)]
+#[derive(Clone, Copy)]
 pub struct ReasonMark {
     pub set: u8,
     pub reason: u8,
 }
 
 #[repr(C)]
-#[derive(Drop)]
+#[derive(Clone, Copy)]
 pub struct Tally {
     pub ticks: u32,
     pub nominal: u32,
@@ -106,7 +106,7 @@ pub struct Tally {
 }
 
 #[repr(C)]
-#[derive(Drop)]
+#[derive(Clone, Copy)]
 pub struct RunState {
     pub control: Control,
     pub motion: Motion,

@@ -11,7 +11,7 @@ use lictor_core::state::{Time, state_code};
 use lictor_core::verdict::{MaybeHandoff, SafetyVerdict, source_code, status_code};
 
 #[repr(C)]
-#[derive(Drop)]
+#[derive(Clone, Copy)]
 pub struct Verdict {
     pub seq: u32,
     pub t: Time,

@@ -1,4 +1,6 @@
 // A journal on the fuse: what its settings and its resets do. The reader says which comes.
+#![tactic(auto)]
+
 pub mod tick; // a tick itself
 
 ghost use Rattle.std.specs.Prelude.{◌≡◌};

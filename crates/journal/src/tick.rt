@@ -13,14 +13,14 @@ use lictor_core::verdict::SafetyVerdict;
 use lictor_fuse::decide::decide_by;
 
 // The fuse: its configuration and its run state.
-#[derive(Drop)]
+#[derive(Clone, Copy)]
 pub struct Run {
     pub config: FuseConfig,
     pub rt: FuseRt,
 }
 
 // What a tick gives, besides what came for it.
-#[derive(Drop)]
+#[derive(Clone, Copy)]
 pub struct Reported {
     // the bits that the guard found
     pub guard: u32,

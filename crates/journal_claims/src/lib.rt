@@ -2,3 +2,4 @@
 // (specs/JournalStops.antt, specs/JournalStopActions.antt), and the theorems that every list of bytes
 // meets them (proofs/).
 // No code: the definitions are those that `journal` and `lictor_fuse` promise.
+#![tactic(auto)]

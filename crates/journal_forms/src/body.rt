@@ -12,7 +12,7 @@ use journal_records::little::{le32, le64};
 use journal_records::{OUTCOME, SETTINGS, VALUE, WIDTH};
 
 // So many bytes that are no float, and then so many floats.
-#[derive(Drop)]
+#[derive(Clone, Copy)]
 pub struct Run {
     pub copied: usize,
     pub floats: usize,

@@ -1,5 +1,7 @@
 // The two forms of a journal, and each as the other: in the wide form a float has 8 bytes, in the
 // narrow form 4. Records are converted as bytes, and none is decoded.
+#![tactic(auto)]
+
 mod body; // where the floats of a body are, and the body in the other form
 
 ghost use Rattle.std.specs.Prelude.{◌≡◌, true, false, ◌+◌, ◌≤◌, ◌<◌, ◌^◌, suc, length, drop};
@@ -13,14 +15,14 @@ use journal_frames::Frame;
 use journal_records::KINDS;
 use text::memory::has_room;
 
-#[derive(Drop)]
+#[derive(Clone, Copy)]
 pub enum Form {
     Wide,
     Narrow,
 }
 
 // Why a record is refused, in the order in which the causes are looked for.
-#[derive(Drop)]
+#[derive(Clone, Copy)]
 pub enum Cause {
     UnknownKind,
     CutBody,
@@ -53,7 +55,7 @@ pub fn kinds_of(form: Form) -> [u16; KINDS]
 const RECORD_MOST: usize = 258;
 
 // What was made of some bytes.
-#[derive(Drop)]
+#[derive(Clone, Copy)]
 pub struct Converted {
     // the bytes that were taken, and those that were put
     pub at: usize,

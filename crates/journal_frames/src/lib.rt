@@ -1,10 +1,12 @@
 // The framing of a journal: one byte of kind, then a body whose length the kind fixes.
 // It knows which kinds there are and how long their bodies are, and nothing of what these hold.
+#![tactic(auto)]
+
 ghost use Rattle.std.specs.Prelude.{◌≡◌, drop};
 ghost use Rattle.journal_frames.specs.Frames.{is_known, body_len, frame_of};
 
 // What is at the front of some bytes.
-#[derive(Drop)]
+#[derive(Clone, Copy)]
 pub enum Frame {
     // Nothing, or a record that is not there whole.
     Waits,

@@ -1,4 +1,6 @@
 // Reads a journal, in parts of any sizes: from bytes to records to instructions for the fuse.
+#![tactic(auto)]
+
 pub mod waiting; // what waits for a tick
 
 ghost use Rattle.std.specs.Prelude.{false, ◌≡◌, ◌+◌, ◌<◌, ◌≤◌, ◌^◌, length, drop, get_or};
@@ -15,7 +17,7 @@ use journal_refusals::{Judged, Refusal, Seen};
 use lictor_core::fuse::TickInput;
 
 // The record at the front of some bytes.
-#[derive(Drop)]
+#[derive(Clone, Copy)]
 pub enum Look {
     // There is none, or it is not there whole.
     Waits,
@@ -25,7 +27,7 @@ pub enum Look {
 }
 
 // What a reader comes to: the end of the bytes, a refusal, or an instruction for the fuse.
-#[derive(Drop)]
+#[derive(Clone, Copy)]
 pub enum What {
     Waits,
     Refuses(Refusal),
@@ -35,7 +37,7 @@ pub enum What {
     GivesWidth(f64),
 }
 
-#[derive(Drop)]
+#[derive(Clone, Copy)]
 pub struct Progress {
     pub reader: Reader,
     // the bytes up to there
@@ -100,7 +102,7 @@ fn store(lists: &mut [f64; PLACES], seen: Seen, c: u8, x: f64) -> usize
     at
 }
 
-#[derive(Drop)]
+#[derive(Clone, Copy)]
 struct Took {
     waiting: Waiting,
     at: usize,
@@ -185,7 +187,7 @@ fn collect(kinds: &[u16], w: Waiting, lists: &mut [f64; PLACES], s: &[u8], at: u
 
 // ---- records that instruct
 
-#[derive(Drop)]
+#[derive(Clone, Copy)]
 struct Stretch {
     reader: Reader,
     at: usize,

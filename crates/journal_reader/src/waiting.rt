@@ -13,7 +13,7 @@ use lictor_core::fuse::TickInput;
 use lictor_core::outcome::Outcome;
 
 // What waits for a tick, but for the outcome: small, since it goes by value with each record.
-#[derive(Drop)]
+#[derive(Clone, Copy)]
 pub struct Waiting {
     pub seen: Seen,
     // the last that came; it waits where `seen` says so
@@ -22,7 +22,7 @@ pub struct Waiting {
 }
 
 // All that waits, but for the values of the lists, which are in lent memory.
-#[derive(Drop)]
+#[derive(Clone, Copy)]
 pub struct Reader {
     pub waiting: Waiting,
     pub outcome: Outcome,

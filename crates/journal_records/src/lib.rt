@@ -1,5 +1,7 @@
 // The records of a journal by kind: how long the bodies are, and what they hold.
 // Each reader takes the body alone, a part of the journal's bytes.
+#![tactic(auto)]
+
 pub mod little; // little-endian numbers
 pub mod long; // the two long records, settings and outcome
 
@@ -13,7 +15,7 @@ use lictor_core::chunk::ChunkHead;
 use lictor_core::state::Time;
 
 // The numbers of a tick record.
-#[derive(Drop)]
+#[derive(Clone, Copy)]
 pub struct TickNumbers {
     pub t: Time,
     pub idx: u16,
@@ -23,7 +25,7 @@ pub struct TickNumbers {
 }
 
 // A decoded record. Settings and outcome hold arrays, so `long` reads them apart.
-#[derive(Drop)]
+#[derive(Clone, Copy)]
 pub enum Record {
     Settings,
     Reset,

@@ -1,6 +1,8 @@
 // Whether a record of a journal is refused, and why: the causes in the order of the table.
 // Those about its frame are found by journal_frames. The others go by its kind, its body and what
 // has been seen before it, never by the run state.
+#![tactic(auto)]
+
 ghost use Rattle.std.specs.Prelude.{not, ◌&&◌, ◌||◌, ◌≡◌, eqb, ltb, get_or};
 ghost use Rattle.journal_records.specs.Little.{byte_at};
 ghost use Rattle.journal_records.specs.Kinds.{settings_kind, ack_kind, value_kind, outcome_kind, tick_kind, width_kind};
@@ -37,7 +39,7 @@ pub const CHUNK_ROOM: usize = 512;
 pub const LIST_ROOM: usize = 16;
 
 // What has been seen of a journal: what came of it once and for all, and what waits for a tick.
-#[derive(Drop)]
+#[derive(Clone, Copy)]
 pub struct Seen {
     pub settings: bool,
     pub width: bool,
@@ -51,7 +53,7 @@ pub struct Seen {
 }
 
 // Why a record is refused, in the order in which the causes are looked for.
-#[derive(Drop)]
+#[derive(Clone, Copy)]
 pub enum Refusal {
     UnknownKind,
     CutBody,
@@ -65,7 +67,7 @@ pub enum Refusal {
     NotReady,
 }
 
-#[derive(Drop)]
+#[derive(Clone, Copy)]
 pub enum Judged {
     Accepted,
     Refused(Refusal),

@@ -2,14 +2,14 @@
 ghost use Rattle.std.specs.Prelude.{◌≡◌};
 ghost use Rattle.lictor_core.specs.Codes.{decision_of};
 
-#[derive(Drop)]
+#[derive(Clone, Copy)]
 pub enum AckDecision {
     Resume,
     Abort,
     Retune,
 }
 
-#[derive(Drop)]
+#[derive(Clone, Copy)]
 pub struct VerifiedAck {
     pub decision: AckDecision,
     pub operator_slot: u8,
@@ -18,7 +18,7 @@ pub struct VerifiedAck {
 }
 
 // The Rust's Option<VerifiedAck>.
-#[derive(Drop)]
+#[derive(Clone, Copy)]
 pub enum MaybeAck {
     NoAck,
     Given(VerifiedAck),

@@ -15,7 +15,7 @@ pub const MAX_AUX: usize = 8;
 // Most external values.
 pub const MAX_EXT: usize = 4;
 
-#[derive(Drop)]
+#[derive(Clone, Copy)]
 pub enum ActionKind {
     EePosition,
     EeDelta,
@@ -37,7 +37,7 @@ const JOINT_VELOCITY: u8 = 3;
 pub const ACTION_KINDS: u8 = 5;
 
 // What a delivered chunk says of itself. Its values come beside it, as a slice.
-#[derive(Drop)]
+#[derive(Clone, Copy)]
 pub struct ChunkHead {
     pub seq: u32,
     pub t_emit: Time,
@@ -47,7 +47,7 @@ pub struct ChunkHead {
 }
 
 // The Rust's Option<ChunkView>, without the values.
-#[derive(Drop)]
+#[derive(Clone, Copy)]
 pub enum MaybeChunk {
     NoChunk,
     Delivered(ChunkHead),

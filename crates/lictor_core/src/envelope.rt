@@ -9,13 +9,13 @@ use crate::state::FuseMode;
 // Operator slots.
 pub const MAX_OPERATORS: usize = 8;
 
-#[derive(Drop)]
+#[derive(Clone, Copy)]
 pub enum ClampMode {
     Off,
     Project,
 }
 
-#[derive(Drop)]
+#[derive(Clone, Copy)]
 pub enum RearmPolicy {
     Auto,
     AckOnly,
@@ -89,7 +89,7 @@ pub fn rearm_of(n: u8) -> RearmPolicy
 
 // The limits of the state machine. (The Rust keeps the rearm policy here too; it is beside, since
 // its code is checked.)
-#[derive(Drop)]
+#[derive(Clone, Copy)]
 pub struct Hysteresis {
     pub k: u8,
     pub warn_margin: f64,
@@ -107,14 +107,14 @@ pub struct Hysteresis {
 }
 
 // Of the calibration the tick reads the mask and the threshold.
-#[derive(Drop)]
+#[derive(Clone, Copy)]
 pub struct Calibration {
     pub mask: u32,
     pub tau: f64,
 }
 
 // Settings as they come: codes and sizes are plain numbers, not yet checked.
-#[derive(Drop)]
+#[derive(Clone, Copy)]
 pub struct Settings {
     pub mode: u8,
     pub kind: u8,
@@ -136,7 +136,7 @@ pub struct Settings {
 }
 
 // Settings that passed the check, the codes as enums.
-#[derive(Drop)]
+#[derive(Clone, Copy)]
 pub struct FuseConfig {
     pub mode: FuseMode,
     pub kind: ActionKind,

@@ -7,14 +7,14 @@ use crate::state::{FuseState, Time};
 use crate::tally::Tally;
 
 // K-of-N hit window (window.rs).
-#[derive(Drop)]
+#[derive(Clone, Copy)]
 pub struct Window {
     pub bits: u64,
 }
 
 // What the state machine works on. The rows are before the small fields, here and in Motion: with a
 // gap in front of a row a copy of it is slow.
-#[derive(Drop)]
+#[derive(Clone, Copy)]
 pub struct Control {
     pub window: Window,
     // the highest nonce consumed from each operator slot
@@ -36,7 +36,7 @@ pub struct Control {
 }
 
 // Where the arm is and how it moves.
-#[derive(Drop)]
+#[derive(Clone, Copy)]
 pub struct Motion {
     pub pos: [f64; MAX_POS],
     pub prev_pos: [f64; MAX_POS],
@@ -47,7 +47,7 @@ pub struct Motion {
 }
 
 // What the guard checks continuity against.
-#[derive(Drop)]
+#[derive(Clone, Copy)]
 pub struct Clock {
     // a chunk was taken since the reset; in place of the chunk buffers
     pub filled: bool,
@@ -57,7 +57,7 @@ pub struct Clock {
     pub chunk_ok_this_tick: bool,
 }
 
-#[derive(Drop)]
+#[derive(Clone, Copy)]
 pub struct FuseRt {
     pub control: Control,
     pub motion: Motion,
@@ -66,7 +66,7 @@ pub struct FuseRt {
 }
 
 // The numbers of a tick's input. Its five lists come beside it, as slices.
-#[derive(Drop)]
+#[derive(Clone, Copy)]
 pub struct TickInput {
     pub t: Time,
     pub idx: u16,

@@ -1,6 +1,8 @@
 // Types, codes, masks and small helpers of the fuse. A module for each file of the Rust crate
 // lictor-core that they come from, and for the run state of fuse.rs and the tally of tally.rs,
 // which everything above works on.
+#![tactic(auto)]
+
 pub mod ack; // ack.rs
 pub mod chunk; // chunk.rs: sizes, action kinds, a chunk's head
 pub mod envelope; // envelope.rs: the settings, the configuration

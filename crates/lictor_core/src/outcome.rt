@@ -2,7 +2,7 @@
 use crate::chunk::MAX_D;
 use crate::scores::Scores;
 
-#[derive(Drop)]
+#[derive(Clone, Copy)]
 pub struct Outcome {
     pub trips: u32,
     pub clamped_dims: u32,

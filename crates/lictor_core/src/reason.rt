@@ -2,7 +2,7 @@
 ghost use Rattle.std.specs.Prelude.{◌≡◌};
 ghost use Rattle.lictor_core.specs.Codes.{reason_code, is_reason};
 
-#[derive(Drop)]
+#[derive(Clone, Copy)]
 pub enum ReasonCode {
     Ok,
     ObserveOnly,

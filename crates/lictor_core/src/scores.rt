@@ -4,7 +4,7 @@
 pub const NFEAT: usize = 12;
 
 // The scores of a tick, without the raw features `f`.
-#[derive(Drop)]
+#[derive(Clone, Copy)]
 pub struct Scores {
     // standardised, one for each feature
     pub z: [f64; NFEAT],

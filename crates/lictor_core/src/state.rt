@@ -2,7 +2,7 @@
 ghost use Rattle.std.specs.Prelude.{◌≡◌};
 ghost use Rattle.lictor_core.specs.Codes.{state_code, is_state, is_stop, mode_code, is_observe, mode_of};
 
-#[derive(Drop)]
+#[derive(Clone, Copy)]
 pub enum FuseState {
     Idle,
     Armed,
@@ -18,7 +18,7 @@ pub enum FuseState {
 // Absolute env step: the one clock that ticks, chunks and marks share.
 pub type Time = u32;
 
-#[derive(Drop)]
+#[derive(Clone, Copy)]
 pub enum FuseMode {
     Observe,
     Enforce,

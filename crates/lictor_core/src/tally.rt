@@ -5,20 +5,20 @@ use crate::state::{FuseState, Time};
 use crate::verdict::TRIP_BITS;
 
 // The Rust's Option<u32> of a tick: when something first happened.
-#[derive(Drop)]
+#[derive(Clone, Copy)]
 pub enum Mark {
     Never,
     At(Time),
 }
 
 // The Rust's Option<ReasonCode>.
-#[derive(Drop)]
+#[derive(Clone, Copy)]
 pub enum ReasonMark {
     NoReason,
     For(ReasonCode),
 }
 
-#[derive(Drop)]
+#[derive(Clone, Copy)]
 pub struct Tally {
     pub ticks: u32,
     pub nominal: u32,

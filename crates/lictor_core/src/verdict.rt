@@ -8,7 +8,7 @@ use crate::reason::ReasonCode;
 use crate::scores::Scores;
 use crate::state::{FuseState, Time};
 
-#[derive(Drop)]
+#[derive(Clone, Copy)]
 pub enum Status {
     Nominal,
     Watching,
@@ -62,7 +62,7 @@ pub const TIER0_HARD: u32 = BRAKE | NONFINITE | SCHEMA | WATCHDOG;
 // The bits that lead to Fault from any state (fsm.rs).
 pub const FAULT_BITS: u32 = NONFINITE | SCHEMA | WATCHDOG;
 
-#[derive(Drop)]
+#[derive(Clone, Copy)]
 pub enum ActionSource {
     Policy,
     Clamped,
@@ -71,13 +71,13 @@ pub enum ActionSource {
 }
 
 // The verdict's Option<u32>: the number of the handoff that a tick begins.
-#[derive(Drop)]
+#[derive(Clone, Copy)]
 pub enum MaybeHandoff {
     NoHandoff,
     Begun(u32),
 }
 
-#[derive(Drop)]
+#[derive(Clone, Copy)]
 pub struct SafetyVerdict {
     pub seq: u32,
     pub t: Time,

@@ -5,6 +5,8 @@
 //
 // Three kinds of function: tests and numbers over plain values; rows, which change the run state
 // and do not branch; and choices, which test and then hand on, or answer with nothing changed.
+#![tactic(auto)]
+
 mod acks; // which acknowledgement is accepted, and what it changes
 mod counts; // counts that go up on a test
 mod escalated; // rows 4 to 8

@@ -22,7 +22,7 @@ use lictor_table::FsmInput;
 use lictor_tally::TickEvents;
 
 // Where the arm is, what was found, and what the machine is asked.
-#[derive(Drop)]
+#[derive(Clone, Copy)]
 pub struct Asked {
     pub motion: Motion,
     pub findings: Findings,
@@ -31,7 +31,7 @@ pub struct Asked {
 
 // The verdict, the clock but for the tick's own count, the tally but for this verdict,
 // and what goes with the verdict to the tally.
-#[derive(Drop)]
+#[derive(Clone, Copy)]
 pub struct Closing {
     pub verdict: SafetyVerdict,
     pub clock: Clock,
@@ -40,7 +40,7 @@ pub struct Closing {
 }
 
 // The run state after a tick, and its verdict.
-#[derive(Drop)]
+#[derive(Clone, Copy)]
 pub struct Decided {
     pub rt: FuseRt,
     pub verdict: SafetyVerdict,

@@ -1,4 +1,6 @@
 // One call with settings: their check, and one tick under those that pass it.
+#![tactic(auto)]
+
 mod clean_tick; // what a clean tick brings to the machine, and what it comes to
 pub mod decide; // one tick
 pub mod episode; // the run state at the start of an episode
@@ -19,7 +21,7 @@ use lictor_settings::{SettingsCheck, check, check_number, config};
 use lictor_stages::verdict::disarmed_scores;
 
 // What a call with settings answers: their check, and what `decide` gives where they pass it.
-#[derive(Drop)]
+#[derive(Clone, Copy)]
 pub struct Ticked {
     pub check: SettingsCheck,
     pub rt: FuseRt,

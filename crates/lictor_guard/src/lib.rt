@@ -1,5 +1,7 @@
 // Stage 0 of a tick: the bits that make it a fault tick (fuse.rs, guard). It only reads. What it
 // asks of a chunk is in lictor_guard::delivery.
+#![tactic(auto)]
+
 pub mod delivery;
 
 ghost use Rattle.std.specs.Prelude.{◌≡◌, ◌&&◌, not, eqb};
@@ -14,7 +16,7 @@ use lictor_core::state::Time;
 use lictor_core::verdict::{NONFINITE, SCHEMA, WATCHDOG};
 
 // The lengths of the five lists.
-#[derive(Drop)]
+#[derive(Clone, Copy)]
 pub struct Lengths {
     pub pos: usize,
     pub vel: usize,

@@ -1,4 +1,6 @@
 // The check of the settings, and the configuration that they mean.
+#![tactic(auto)]
+
 ghost use Rattle.std.specs.Prelude.{◌≡◌};
 ghost use Rattle.std.specs.Float.Ieee.{is_nan};
 ghost use Rattle.lictor_settings.specs.Settings.{outside as Spec·outside, bad_code, bad_size, bad_float, crossed_of, bad_box, check_of, check_number, config_of};
@@ -10,7 +12,7 @@ use lictor_core::envelope::{
 use lictor_core::state::{MODES, mode_of};
 
 // What the check answers: causes 1 to 4 of the refusal table by name.
-#[derive(Drop)]
+#[derive(Clone, Copy)]
 pub enum SettingsCheck {
     Accepted,
     BadCode,

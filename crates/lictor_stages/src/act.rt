@@ -13,7 +13,7 @@ use lictor_core::verdict::{ActionSource, Status, is_policy};
 use lictor_detect::brake::{brake_action, hold_action};
 
 // The action, where it comes from, and whether it is another than the policy's.
-#[derive(Drop)]
+#[derive(Clone, Copy)]
 pub struct Acted {
     pub action: [f64; MAX_D],
     pub src: ActionSource,

@@ -15,7 +15,7 @@ use lictor_guard::delivery::delivered;
 use lictor_table::FsmInput;
 
 // What the scores say.
-#[derive(Drop)]
+#[derive(Clone, Copy)]
 pub struct Scored {
     pub warn: bool,
     // the window with this tick's hit
@@ -25,7 +25,7 @@ pub struct Scored {
 }
 
 // What is found before the state machine runs.
-#[derive(Drop)]
+#[derive(Clone, Copy)]
 pub struct Findings {
     // the outcome's trips, with BRAKE and the mask
     pub trips: u32,

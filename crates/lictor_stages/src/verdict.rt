@@ -20,7 +20,7 @@ use lictor_table::Turn;
 use lictor_tally::TickEvents;
 
 // What a tick has come to after the machine: where the arm is, what was found, and the turn.
-#[derive(Drop)]
+#[derive(Clone, Copy)]
 pub struct Stepped {
     pub motion: Motion,
     pub findings: Findings,

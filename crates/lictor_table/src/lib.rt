@@ -1,13 +1,15 @@
 // What the state machine takes in and what it answers (fsm.rs). What it does is written down as a
 // table over these types, in specs/Table.antt; the code that follows the table is in the crate
 // lictor_fsm.
+#![tactic(auto)]
+
 use lictor_core::ack::MaybeAck;
 use lictor_core::fuse::Control;
 use lictor_core::reason::ReasonCode;
 use lictor_core::state::FuseState;
 
 // What a tick brings to the state machine.
-#[derive(Drop)]
+#[derive(Clone, Copy)]
 pub struct FsmInput {
     pub trips: u32,
     pub predictive: bool,
@@ -21,7 +23,7 @@ pub struct FsmInput {
 
 // What a tick ends in: the machine's part of the run state, and beside it the triple that the
 // Rust's `next` answers.
-#[derive(Drop)]
+#[derive(Clone, Copy)]
 pub struct Turn {
     pub rt: Control,
     pub state: FuseState,

@@ -1,6 +1,8 @@
 // The counts of an episode (tally.rs): an empty tally, what a chunk and a tick make of one, and the
 // join of two (request 3). The types are in lictor_core, the rules of the fields in the modules
 // counts and joins.
+#![tactic(auto)]
+
 mod counts; // the rules of the fields
 mod joins; // the rules by which two tallies are joined
 
@@ -24,7 +26,7 @@ use lictor_core::tally::{Mark, ReasonMark, Tally};
 use lictor_core::verdict::{SafetyVerdict, TRIP_BITS};
 
 // What the state machine did in a tick beyond what its verdict shows.
-#[derive(Drop)]
+#[derive(Clone, Copy)]
 pub struct TickEvents {
     // Held was entered
     pub entered_hold: bool,

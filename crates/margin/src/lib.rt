@@ -1,8 +1,10 @@
 // Metres as whole millimetres, worked out from the bits of the double.
+#![tactic(auto)]
+
 ghost use Rattle.std.specs.Prelude.{◌≡◌, ◌*◌, ◌^◌, ◌<◌};
 ghost use Rattle.margin.specs.Margin.{nearest_whole, far_of, millis_of, margin_of};
 
-#[derive(Drop)]
+#[derive(Clone, Copy)]
 pub enum Margin {
     NoMargin,
     PlusFar,

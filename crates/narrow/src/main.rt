@@ -2,6 +2,8 @@
 // of a refusal to standard error (02-change-requests.md, Ask 9).
 //
 // All that matters is in the libraries (crates/converter).
+#![tactic(auto)]
+
 use journal_forms::Form;
 
 fn main() {

@@ -1,4 +1,6 @@
 // The lines of a page, put into lent memory: a tick's row, and the line with the page's number.
+#![tactic(auto)]
+
 ghost use Rattle.std.specs.Prelude.{◌≡◌, ◌++◌, ◌+◌, ◌-◌, ◌*◌, ◌≤◌, length};
 ghost use Rattle.text.specs.Line.{line_room};
 ghost use Rattle.text.specs.Number.{decimal_of};

@@ -2,6 +2,8 @@
 // number after each, and `refused` where it is refused (02-change-requests.md, Ask 1).
 //
 // All that matters is in the libraries (crates/console).
+#![tactic(auto)]
+
 fn main() {
     console::play(b"pages", printer::PAGES);
 }

@@ -1,5 +1,7 @@
 // Plays the bytes of a journal that are at hand: its instructions are obeyed one after the other,
 // and the text of their events is put into lent memory. Nothing here reads or writes a file.
+#![tactic(auto)]
+
 ghost use Rattle.std.specs.Prelude.{◌≡◌, false, ◌+◌, ◌≤◌, length};
 ghost use Rattle.journal_records.specs.Long.{settings_of};
 ghost use Rattle.journal_reader.specs.State.{settings_came, width_came, emptied};
@@ -15,7 +17,7 @@ use printer::{EVENT_ROOM, Notes};
 use text::memory::has_room;
 
 // A journal that is being played.
-#[derive(Drop)]
+#[derive(Clone, Copy)]
 pub struct Played {
     pub reader: Reader,
     pub run: Run,

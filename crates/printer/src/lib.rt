@@ -1,6 +1,8 @@
 // What a program prints for a journal, put into lent memory. A printer is a value: what it shows,
 // and what it remembers from event to event. An event comes in its parts, by a function for each
 // kind, since no enum holds arrays.
+#![tactic(auto)]
+
 mod pages; // ticks on pages
 mod proximity; // components close to a face, and those that have left the box
 
@@ -36,14 +38,14 @@ pub const PAGES: u8 = 2;
 pub const PROXIMITY: u8 = 3;
 
 // Where text goes: to standard output, or beside it to standard error.
-#[derive(Drop)]
+#[derive(Clone, Copy)]
 pub enum Channel {
     Output,
     Errors,
 }
 
 // What proximity remembers.
-#[derive(Drop)]
+#[derive(Clone, Copy)]
 pub struct Measure {
     // whether a width was given
     pub given: bool,
@@ -52,7 +54,7 @@ pub struct Measure {
 }
 
 // What a printer remembers from event to event. Lines and the trace leave it as it is.
-#[derive(Drop)]
+#[derive(Clone, Copy)]
 pub struct Notes {
     // of pages: the rows on the page so far, and the page's number
     pub rows: u8,
@@ -62,7 +64,7 @@ pub struct Notes {
 }
 
 // What it remembers after an event, and where the event's text ends.
-#[derive(Drop)]
+#[derive(Clone, Copy)]
 pub struct Shown {
     pub notes: Notes,
     pub n: usize,

@@ -3,6 +3,8 @@
 // Ask 7).
 //
 // All that matters is in the libraries (crates/console).
+#![tactic(auto)]
+
 fn main() {
     console::play(b"proximity", printer::PROXIMITY);
 }

@@ -1,5 +1,7 @@
 // The lines of a tick whose components are close to a face of the box, or have left it, put into
 // lent memory.
+#![tactic(auto)]
+
 ghost use Rattle.std.specs.Prelude.{◌≡◌, ◌+◌, ◌≤◌, length};
 ghost use Rattle.text.specs.Line.{line_of, line_room};
 ghost use Rattle.text.specs.Memory.{Put};
@@ -14,7 +16,7 @@ use text::memory::{has_room, put_line};
 use text::{LINE, Line, empty, push};
 
 // What is said of a component at a clean tick: at most one thing.
-#[derive(Drop)]
+#[derive(Clone, Copy)]
 pub enum Said {
     Nothing,
     Within,
@@ -22,7 +24,7 @@ pub enum Said {
 }
 
 // What the lines of a clean tick go by that came before it.
-#[derive(Drop)]
+#[derive(Clone, Copy)]
 pub struct Before {
     // how close to a face is close
     pub width: f64,

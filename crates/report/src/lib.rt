@@ -1,4 +1,6 @@
 // The lines of `fuse`: of a margin, the end and a refusal here, of a tick in `render`.
+#![tactic(auto)]
+
 pub mod render; // the text of a tick, put into lent memory
 
 ghost use Rattle.std.specs.Prelude.{◌≡◌};

@@ -5,6 +5,8 @@
 // digits. Its root is 2 ^ k times the root of a * 2 ^ 52, and the whole number g nearest to that
 // has the 53 digits that binary64 keeps.
 // g is guessed in floats, of which nothing is proved, and then moved to its place by exact tests.
+#![tactic(auto)]
+
 ghost use Rattle.std.specs.Prelude.{◌≡◌, ◌+◌, ◌*◌, ◌/◌, ◌^◌, ◌≤◌, ◌<◌, leb, ltb};
 ghost use Rattle.root.specs.Root.{root_of};
 ghost use Rattle.root.specs.Steps.{Normed, NearRoot, RootBits};
@@ -14,7 +16,7 @@ use floats::{INF, MINUS_ZERO, PLACE};
 // The pattern of 1.
 const ONE: u64 = 0x3ff0_0000_0000_0000;
 
-#[derive(Drop)]
+#[derive(Clone, Copy)]
 struct Moved {
     m: u64,
     up: u64,

@@ -1,6 +1,8 @@
 // Reads patterns of binary64, one to a line of 16 lower-case hexadecimal digits, and writes each
 // with its square root: the pattern, a space, the pattern of the root (`nan` for every NaN), a
 // newline. At a line that is no such text it writes `bad line` and stops.
+#![tactic(auto)]
+
 ghost use Rattle.std.specs.Prelude.{◌≡◌, ◌+◌, ◌*◌, ◌≤◌, length};
 ghost use Rattle.text.specs.Line.{line_of};
 ghost use Rattle.text.specs.Memory.{Put};
@@ -19,7 +21,7 @@ const MOST_LINES: usize = 240;
 
 // ---- reading
 
-#[derive(Drop)]
+#[derive(Clone, Copy)]
 enum Read {
     Pattern(u64),
     Bad,
@@ -91,7 +93,7 @@ fn put_root(out: &mut [u8], at: usize, b: u64) -> usize
 
 // ---- lines
 
-#[derive(Drop)]
+#[derive(Clone, Copy)]
 struct Done {
     n: usize,
     bad: bool,

@@ -1,5 +1,7 @@
 // Lines of text, built by value: a function takes a line and returns it with more after it.
 // What comes after LINE bytes is dropped.
+#![tactic(auto)]
+
 pub mod memory; // text put into lent memory
 
 ghost use Rattle.std.specs.Prelude.{◌≡◌, [], nat_abs};
@@ -11,7 +13,7 @@ ghost use Rattle.text.specs.Commas.{comma_at, numbers_text, floats_text};
 pub const LINE: usize = 256;
 
 // The first n bytes are the line's, the others are zero.
-#[derive(Drop)]
+#[derive(Clone, Copy)]
 pub struct Line {
     pub text: [u8; LINE],
     pub n: usize,

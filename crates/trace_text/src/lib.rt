@@ -1,5 +1,7 @@
 // The lines of the trace after a tick: every field of the verdict, the run state and the tally
 // that the Rust has.
+#![tactic(auto)]
+
 mod names; // the names of the lines
 mod rows; // a line: its name and its value
 mod run; // the lines of the run state

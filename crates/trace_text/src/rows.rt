@@ -66,7 +66,7 @@ pub fn name(group: &[u8], words: &[u8], k: usize) -> Line
 // ---- the value
 
 // A value that is no list.
-#[derive(Drop)]
+#[derive(Clone, Copy)]
 pub enum Value {
     Absent,
     Number(u64),
