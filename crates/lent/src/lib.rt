@@ -82,3 +82,6 @@ pub fn reading<S, G: Copy, I: Copy, O: Copy, L, Z, F: FnOnce(&mut S, G, I, O, L)
 {
     core(rt, *g, *i, *o, lists)
 }
+
+#[cfg(test)]
+mod tests;
