@@ -1,4 +1,4 @@
-// What a controller in C or Rust calls, as a library: the crate `host_export` exports the functions
+// What a controller in C or Rust calls, as a library: the crate `host_c_c` exports the functions
 // below `what is exported` to C, with the same clauses.
 // The host lends its run state, which each call changes where it lies,
 // and all that a tick is given, which is only read.
