@@ -3,4 +3,4 @@ use Rattle.lictor_fuse.proofs.decide.closed.Goals as goal
 
 pub returns : goal.returns
 unfolding closed_of
-returns c = rw (c.sat_u32.ensures, c.before.before.«record».ensures)
+returns c = rw (c.sat_u32.ensures, c.before.before.record-tally.ensures)
