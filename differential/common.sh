@@ -49,4 +49,4 @@ build() {
     [ "$status" -eq 0 ] || exit "$status"
 }
 
-there() { [ -x "$1" ] || skip "no program $1: rt check $(basename "$1") builds it"; }
+there() { [ -x "$1" ] || skip "no program $1: tools/build $(basename "$1") builds it"; }

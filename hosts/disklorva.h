@@ -1,4 +1,4 @@
-/* The fuse for a host in C. The functions are those of the proved crate host_c: `rt staticlib host_c` writes target/staticlib/libhost_c.a,
+/* The fuse for a host in C. The functions are those of the proved crate host_c: `hosts/library` writes target/staticlib/libhost_c.a,
  * for x86-64 Linux. docs/HOST.md says what a host must do and what it may then rely on; the first of it:
  *
  *   The host fills `outcome` at every tick: the fuse has no detectors. verdict.action is a copy of outcome.policy (Armed, Watching) or of

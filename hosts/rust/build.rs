@@ -14,7 +14,7 @@ fn main() {
             println!("cargo:rerun-if-changed={}", folder.join("libhost_c.a").display());
         }
         None => panic!(
-            "libhost_c.a is in none of {places:?}: rt staticlib host_c writes it, and the release archive has it"
+            "libhost_c.a is in none of {places:?}: hosts/library writes it, and the release archive has it"
         ),
     }
 }
