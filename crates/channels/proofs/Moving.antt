@@ -1,22 +1,21 @@
-use Rattle.std.proofs.Common.{◌≡◌, ℕ, suc, ◌+◌, ◌-◌, ◌<◌, ◌≤◌, min, List, [], ◌∷◌, ◌++◌, length, get_or, take, drop, set, sym, refl, ap, ◌∙◌, ap₂, add-one, arith, length-drop, length-set, take-append-drop, drop_of_length-le, length-take, length-take-le, get_or-drop, take-suc, drop-drop, take-suc-set, drop-set-lt, take-add, drop_at, rules}
+-- Bytes that are moved down to the front of memory, one by one.
+use Rattle.std.proofs.Common.{◌≡◌, ℕ, ◌+◌, ◌-◌, ◌<◌, ◌≤◌, min, List, [], ◌∷◌, ◌++◌, length, get_or, take, drop, set, sym, refl, ap, ◌∙◌, ap₂, add-one, arith, length-drop, length-set, take-append-drop, drop_of_length-le, length-take, length-take-le, get_or-drop, take-suc, drop-drop, take-suc-set, drop-set-lt, take-add, drop_at}
 use native.Mathlib.Decide.{dec_le}
 use Rattle.channels.specs.Intake.{moved_down}
 use Rattle.channels.proofs.Front.{front_is}
-use Rattle.channels.proofs.intake.move_down.Statement.{statement}
-use Rattle.channels.proofs.intake.move_down.Tie as tie
 
 -- the first i bytes are moved, the next one comes from place `from`, and from i on all is as it was
-record Moved (b₀ : List ℕ) (at end : ℕ) (b : List ℕ) (i from : ℕ) : Type 0 where
+pub record Moved (b₀ : List ℕ) (at end : ℕ) (b : List ℕ) (i from : ℕ) : Type 0 where
   pub next : from ≡ at + i
   pub short : i ≤ end - at
   pub long : length b ≡ length b₀
   pub done : take i b ≡ take i (drop at b₀)
   pub kept : drop i b ≡ drop i b₀
 
-moved_none : (b₀ : List ℕ) (at end : ℕ) → Moved b₀ at end b₀ 0 at
+pub moved_none : (b₀ : List ℕ) (at end : ℕ) → Moved b₀ at end b₀ 0 at
 moved_none b₀ at end = record { next = omega arith; short = omega arith; long = refl; done = refl; kept = refl }
 
-moved_more : (b₀ : List ℕ) (at end : ℕ) (b : List ℕ) (i from : ℕ) → from < end → end ≤ length b₀ → Moved b₀ at end b i from
+pub moved_more : (b₀ : List ℕ) (at end : ℕ) (b : List ℕ) (i from : ℕ) → from < end → end ≤ length b₀ → Moved b₀ at end b i from
     → Moved b₀ at end (set b i (get_or b from 0)) (i + 1) (from + 1)
 moved_more b₀ at end b i from h l m =
     let v = get_or b from 0 in
@@ -48,7 +47,7 @@ part_by b at m h (no k) =
     let l : length (take m b) ≤ at = omega (arith, length-take-le m b h) in
     ap (λ (j : ℕ). take j (drop at b)) z ∙ sym (drop_of_length-le (take m b) l)
 
-moved_is : (b₀ : List ℕ) (at have end : ℕ) (b : List ℕ) (i from : ℕ) → end ≡ min have (length b₀) → end ≤ from → Moved b₀ at end b i from → b ≡ moved_down at have b₀
+pub moved_is : (b₀ : List ℕ) (at have end : ℕ) (b : List ℕ) (i from : ℕ) → end ≡ min have (length b₀) → end ≤ from → Moved b₀ at end b i from → b ≡ moved_down at have b₀
 unfolding moved_down
 moved_is b₀ at have end b i from q h m =
     let e : i ≡ end - at = omega (arith, m.next, m.short) in
@@ -56,56 +55,3 @@ moved_is b₀ at have end b i from q h m =
     let s : take i (drop at b₀) ≡ drop at (take have b₀) = rw (e, f) (part_by b₀ at end (omega arith) (dec_le at end)) in
     let n : length (drop at (take have b₀)) ≡ i = omega (arith, e, length-drop at (take have b₀), length-take have b₀) in
     sym (take-append-drop i b) ∙ ap₂ ◌++◌ (m.done ∙ s) (m.kept ∙ ap (λ (j : ℕ). drop j b₀) (sym n))
-
-abbrev invariant-loop : tie.invariant-loop
-invariant-loop buf₀ at have end i₀ from₀ buf i from = Moved buf₀ at end buf i from
-
-abbrev decreases-loop : tie.decreases-loop
-decreases-loop buf₀ at have end i₀ from₀ buf i from = end - from
-
-least-requires : tie.Need-least-requires invariant-loop decreases-loop
-least-requires c κs = search rules
-
-loop-holds : tie.Need-loop-init invariant-loop decreases-loop
-loop-holds c = moved_none _ _ _
-
-slice-read-buf : tie.Need-slice-read-buf invariant-loop decreases-loop
-slice-read-buf c = omega arith
-
-slice-write-buf : tie.Need-slice-write-buf invariant-loop decreases-loop
-slice-write-buf c = omega arith
-
-add-i : tie.Need-overflow-add-i invariant-loop decreases-loop
-add-i c = omega arith
-
-add-from : tie.Need-overflow-add-from invariant-loop decreases-loop
-add-from c = omega arith
-
-loop-less : tie.Need-loop-smaller invariant-loop decreases-loop
-loop-less c = omega arith
-
-loop-again : tie.Need-loop-preserved invariant-loop decreases-loop
-loop-again c = moved_more _ _ _ _ _ _ (omega arith) (omega arith) c.before.before.loop.invariant
-
-same_length : tie.Need-same-length invariant-loop decreases-loop
-same_length c = c.before.loop.invariant.long
-
-returns : tie.Need-returns invariant-loop decreases-loop
-returns c = moved_is _ _ _ _ _ _ _ c.before.before.least.ensures (omega arith) c.before.loop.invariant
-
-pub move_down_spec : {M : Type 1} → statement M
-move_down_spec =
-    tie.close
-    (tie.spec
-    invariant-loop
-    decreases-loop
-    least-requires
-    loop-holds
-    slice-read-buf
-    slice-write-buf
-    add-i
-    add-from
-    loop-less
-    loop-again
-    same_length
-    returns)
