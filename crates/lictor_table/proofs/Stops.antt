@@ -25,7 +25,7 @@ use Rattle.lictor_core.specs.FirstThat.{first_that}
 use Rattle.lictor_table.specs.declared.FsmInput.{FsmInput}
 use Rattle.lictor_table.specs.declared.Turn.{Turn}
 use Rattle.lictor_table.specs.Helpers.{accepted_by, accepted_ack, consume_nonce, latch_hold, clean_of, count_run, to, settled_of}
-use Rattle.lictor_table.specs.Table.{Facts, Test, first_of, table, next_from, next_of, running, ◌at-least◌, ◌above◌, ◌below◌, ◌and◌, ◌or◌, ◌+1, B, H, E, confirm, rearm_hold, max_rearms, clear_ticks, streak_limit, clamp_limit, brake_ticks, stopped_ticks, held_ticks, held_clean, escalated_ticks, rearms, clamp_streak, clamps, clean_run, hits, one, trip, clamping_off, predictive, warned, stopped, chunk_ok, policy_auto}
+use Rattle.lictor_table.specs.Table.{Facts, Test, first_of, table, next_from, next_of, running, ◌at_least◌, ◌above◌, ◌below◌, ◌and◌, ◌or◌, ◌+1, B, H, E, confirm, rearm_hold, max_rearms, clear_ticks, streak_limit, clamp_limit, brake_ticks, stopped_ticks, held_ticks, held_clean, escalated_ticks, rearms, clamp_streak, clamps, clean_run, hits, one, trip, clamping_off, predictive, warned, stopped, chunk_ok, policy_auto}
 use Rattle.lictor_table.specs.Rows.{holding_of, may_rearm, rearm_row, escalate_row, hold_row}
 use Rattle.lictor_table.specs.Consumed.{taken_in}
 use Rattle.lictor_table.proofs.Lines.{by_test, by_bool}
@@ -135,29 +135,29 @@ module _ (cfg : FuseConfig) (rt : Control) (pos : List Float) (inp : FsmInput) w
       (cond (trip brake_bit (facts_in q ack)) a
       (cond ((trip tier0_soft and clamping_off) (facts_in q ack)) b
       (cond (predictive (facts_in q ack)) c
-      (cond ((clamp_streak at_least_lem streak_limit or clamps above clamp_limit) (facts_in q ack)) d
+      (cond ((clamp_streak at_least streak_limit or clamps above clamp_limit) (facts_in q ack)) d
       (cond (trip tier0_soft (facts_in q ack)) e t)))))
   runs q ack a b c d e t f g h i j k =
       line q ack (trip brake_bit) a _ (λ _. f)
       (λ _. line q ack (trip tier0_soft and clamping_off) b _ (λ _. g)
       (λ _. line q ack predictive c _ (λ _. h)
-      (λ _. line q ack (clamp_streak at_least_lem streak_limit or clamps above clamp_limit) d _ (λ _. i)
+      (λ _. line q ack (clamp_streak at_least streak_limit or clamps above clamp_limit) d _ (λ _. i)
       (λ _. line q ack (trip tier0_soft) e t (λ _. j) (λ _. k)))))
 
   -- rows 11 to 13, where no acknowledgement is consumed
   holding : (ack : MaybeAck) → taken_in Held ack ≡ NoAck → Law Held ack false (holding_of cfg (count_run (clean_of inp) rt) (clean_of inp) inp)
   unfolding settled_of count_run holding_of may_rearm rearm_row escalate_row hold_row
   holding m k =
-      line Held m (policy_auto and held_clean at_least_lem rearm_hold and chunk_ok and rearms below max_rearms) _ _
+      line Held m (policy_auto and held_clean at_least rearm_hold and chunk_ok and rearms below max_rearms) _ _
       (λ h.
       let a : T (is_auto cfg.rearm) = search and_l in
       let g : T (ltb rt.rearms cfg.hyst.max_rearms) = search (and_l, and_r) in
       (omega tests, rw k)) (λ h.
-      line Held m (held_ticks at_least_lem H and rearms at_least_lem max_rearms) _ _
+      line Held m (held_ticks at_least H and rearms at_least max_rearms) _ _
       (λ h. let g : T (leb cfg.hyst.escalate_after_hold_ticks rt.held_ticks) = search and_l in (omega tests, rw k)) (λ h.
-      line Held m (held_ticks at_least_lem H and predictive) _ _
+      line Held m (held_ticks at_least H and predictive) _ _
       (λ h. let g : T (leb cfg.hyst.escalate_after_hold_ticks rt.held_ticks) = search and_l in (omega tests, rw k)) (λ h.
-      line Held m (held_ticks at_least_lem H) _ _ (λ h. (omega tests, rw k)) (λ h. (omega tests, rw k)))))
+      line Held m (held_ticks at_least H) _ _ (λ h. (omega tests, rw k)) (λ h. (omega tests, rw k)))))
 
   held : (d : AckDecision) (slot nonce seq : ℕ) → Says Held (Given (record { decision = d; operator_slot = slot; nonce = nonce; handoff_seq = seq }))
   unfolding first_that table settled_of count_run latch_hold consume_nonce holding_of may_rearm rearm_row escalate_row hold_row
@@ -177,26 +177,26 @@ module _ (cfg : FuseConfig) (rt : Control) (pos : List Float) (inp : FsmInput) w
   by_from_lem Armed m =
       first Armed m _ _ (omega tests, refl)
       (runs Armed m _ _ _ _ _ _ (omega tests, refl) (omega tests, refl) (omega tests, refl) (omega tests, refl) (omega tests, refl)
-      (line Armed m (warned or hits at_least_lem one) _ _ (λ h. (omega tests, refl)) (λ h. (omega tests, refl))))
+      (line Armed m (warned or hits at_least one) _ _ (λ h. (omega tests, refl)) (λ h. (omega tests, refl))))
   by_from_lem Watching m =
       first Watching m _ _ (omega tests, refl)
       (runs Watching m _ _ _ _ _ _ (omega tests, refl) (omega tests, refl) (omega tests, refl) (omega tests, refl) (omega tests, refl)
-      (line Watching m (clean_run at_least_lem clear_ticks) _ _ (λ h. (omega tests, refl)) (λ h.
-      line Watching m (warned or hits at_least_lem one) _ _ (λ h. (omega tests, refl)) (λ h. (omega tests, refl)))))
+      (line Watching m (clean_run at_least clear_ticks) _ _ (λ h. (omega tests, refl)) (λ h.
+      line Watching m (warned or hits at_least one) _ _ (λ h. (omega tests, refl)) (λ h. (omega tests, refl)))))
   by_from_lem Clamped m =
       first Clamped m _ _ (omega tests, refl)
       (runs Clamped m _ _ _ _ _ _ (omega tests, refl) (omega tests, refl) (omega tests, refl) (omega tests, refl) (omega tests, refl)
-      (line Clamped m (clean_run at_least_lem clear_ticks) _ _ (λ h. (omega tests, refl)) (λ h.
-      line Clamped m (warned or hits at_least_lem one) _ _ (λ h. (omega tests, refl)) (λ h. (omega tests, refl)))))
+      (line Clamped m (clean_run at_least clear_ticks) _ _ (λ h. (omega tests, refl)) (λ h.
+      line Clamped m (warned or hits at_least one) _ _ (λ h. (omega tests, refl)) (λ h. (omega tests, refl)))))
   by_from_lem Braking m =
       first Braking m _ _ (omega tests, refl)
-      (line Braking m (brake_ticks at_least_lem B) _ _ (λ h. (omega tests, refl)) (λ h.
-      line Braking m (stopped and stopped_ticks +1 at_least_lem confirm) _ _ (λ i. (omega tests, refl)) (λ i. (omega tests, refl))))
+      (line Braking m (brake_ticks at_least B) _ _ (λ h. (omega tests, refl)) (λ h.
+      line Braking m (stopped and stopped_ticks +1 at_least confirm) _ _ (λ i. (omega tests, refl)) (λ i. (omega tests, refl))))
   by_from_lem Held NoAck = first Held NoAck _ _ (omega tests, refl) (holding NoAck refl)
   by_from_lem Held (Given a) = held a.decision a.operator_slot a.nonce a.handoff_seq
   by_from_lem Escalated NoAck =
       first Escalated NoAck _ _ (omega tests, refl)
-      (line Escalated NoAck (escalated_ticks at_least_lem E) _ _ (λ h. (omega tests, refl)) (λ h. (omega tests, refl)))
+      (line Escalated NoAck (escalated_ticks at_least E) _ _ (λ h. (omega tests, refl)) (λ h. (omega tests, refl)))
   by_from_lem Escalated (Given a) = escalated a.decision a.operator_slot a.nonce a.handoff_seq
   by_from_lem Fault m = first Fault m _ _ (omega tests, refl) (omega tests, refl)
   by_from_lem Terminated m = first Terminated m _ _ (omega tests, refl) (omega tests, refl)

@@ -27,7 +27,7 @@ infix 70 for◌when◌goto◌bits◌reason◌change◌
 infixl 75 ◌then◌
 infixr 75 ◌and◌
 infixr 74 ◌or◌
-infix 80 ◌at-least◌ ◌above◌ ◌below◌
+infix 80 ◌at_least◌ ◌above◌ ◌below◌
 infix 85 ◌+1
 -- What a line may look at: the settings, the machine's part of the run state with clean_run
 -- updated, the position, the state that the tick starts from, whether the tick is clean, the
@@ -168,8 +168,8 @@ abbrev pub ◌+1 : Number → Number
 abbrev pub always : Test
 always x = true
 
-abbrev pub ◌at-least◌ : Number → Number → Test
-◌at-least◌ a b x = leb (b x) (a x)
+abbrev pub ◌at_least◌ : Number → Number → Test
+◌at_least◌ a b x = leb (b x) (a x)
 
 abbrev pub ◌above◌ : Number → Number → Test
 ◌above◌ a b x = ltb (b x) (a x)
@@ -309,7 +309,7 @@ table =
     -- row 6; Escalated, Resume
     ∷ for only Escalated when accepted Resume goto Armed bits 0 reason say R.RearmedAck change store_nonce then rearm
     -- row 7; Escalated, the handoff limit
-    ∷ for only Escalated when escalated_ticks at_least_lem E goto Terminated bits handoff_timeout reason say R.TerminatedTimeout change end_handoff
+    ∷ for only Escalated when escalated_ticks at_least E goto Terminated bits handoff_timeout reason say R.TerminatedTimeout change end_handoff
     -- row 8; Escalated, else
     ∷ for only Escalated when always goto Escalated bits 0 reason say R.HeldStandstill change count_wait
     -- row 9; Held, Resume
@@ -317,17 +317,17 @@ table =
     -- row 10; Held, Abort (a Retune has no line here)
     ∷ for only Held when accepted Abort goto Terminated bits operator_abort reason say R.TerminatedAbort change store_nonce then end_handoff
     -- row 11; Held, automatic rearm
-    ∷ for only Held when policy_auto and held_clean at_least_lem rearm_hold and chunk_ok and rearms below max_rearms goto Armed bits 0 reason say R.RearmedAuto change count_rearm then clear_window
+    ∷ for only Held when policy_auto and held_clean at_least rearm_hold and chunk_ok and rearms below max_rearms goto Armed bits 0 reason say R.RearmedAuto change count_rearm then clear_window
     -- row 12, with its three reasons; Held, the hold limit
-    ∷ for only Held when held_ticks at_least_lem H and rearms at_least_lem max_rearms goto Escalated bits rearm_budget reason say R.EscalateRearmBudget change begin_handoff
-    ∷ for only Held when held_ticks at_least_lem H and predictive goto Escalated bits 0 reason say R.EscalateTier1Persistent change begin_handoff
-    ∷ for only Held when held_ticks at_least_lem H goto Escalated bits 0 reason say R.EscalateHoldTimeout change begin_handoff
+    ∷ for only Held when held_ticks at_least H and rearms at_least max_rearms goto Escalated bits rearm_budget reason say R.EscalateRearmBudget change begin_handoff
+    ∷ for only Held when held_ticks at_least H and predictive goto Escalated bits 0 reason say R.EscalateTier1Persistent change begin_handoff
+    ∷ for only Held when held_ticks at_least H goto Escalated bits 0 reason say R.EscalateHoldTimeout change begin_handoff
     -- row 13; Held, else
     ∷ for only Held when always goto Held bits 0 reason say R.HeldStandstill change count_held
     -- row 14; Braking, the brake limit
-    ∷ for only Braking when brake_ticks at_least_lem B goto Fault bits brake_timeout reason say R.FaultBrakeTimeout change latch
+    ∷ for only Braking when brake_ticks at_least B goto Fault bits brake_timeout reason say R.FaultBrakeTimeout change latch
     -- row 15; Braking, standstill
-    ∷ for only Braking when stopped and stopped_ticks +1 at_least_lem confirm goto Held bits 0 reason say R.HeldStandstill change latch then clear_held
+    ∷ for only Braking when stopped and stopped_ticks +1 at_least confirm goto Held bits 0 reason say R.HeldStandstill change latch then clear_held
     -- row 16; Braking, else
     ∷ for only Braking when always goto Braking bits 0 reason say R.Stopping change count_brake
     -- row 17; Running, BRAKE
@@ -337,13 +337,13 @@ table =
     -- row 18; Running, predictive
     ∷ for running when predictive goto Braking bits tier1_cp reason say R.BrakeTier1Cp change clear_brake
     -- row 19; Running, the limits on clamping, before this tick's clamp is counted
-    ∷ for running when clamp_streak at_least_lem streak_limit or clamps above clamp_limit goto Braking bits clamp_budget reason say R.BrakeClampBudget change clear_brake
+    ∷ for running when clamp_streak at_least streak_limit or clamps above clamp_limit goto Braking bits clamp_budget reason say R.BrakeClampBudget change clear_brake
     -- row 20; Running, a soft trip
     ∷ for running when trip tier0_soft goto Clamped bits 0 reason clamp_cause change count_clamp then count_streak
     -- row 21; Running, clearing
-    ∷ for watching_or_clamped when clean_run at_least_lem clear_ticks goto Armed bits 0 reason say R.Ok change clear_window then clear_streak
+    ∷ for watching_or_clamped when clean_run at_least clear_ticks goto Armed bits 0 reason say R.Ok change clear_window then clear_streak
     -- row 22; Running, watch
-    ∷ for running when warned or hits at_least_lem one goto Watching bits 0 reason say R.WatchBand change nothing
+    ∷ for running when warned or hits at_least one goto Watching bits 0 reason say R.WatchBand change nothing
     -- row 23 and the two stay rows; Running, stay
     ∷ for only Armed when always goto Armed bits 0 reason observe_or_ok change nothing
     ∷ for only Watching when always goto Watching bits 0 reason say R.WatchBand change nothing

@@ -1,0 +1,12 @@
+use Prim.Native.Nat.{◌≤◌, ◌-◌}
+use mathlib.Core.Path.{◌≡◌}
+use lib.ListN.{length}
+use Rattle.lictor_tally.proofs.Places.{each_to}
+use Rattle.lictor_tally.specs.Counts.{most_at}
+use Rattle.lictor_tally.proofs.counts.most_live.Given as goal
+
+abbrev pub invariant-loop-j : goal.invariant-loop-j
+invariant-loop-j l = (l.j ≤ 12) × (length l.initial.most ≡ 12) × (l.most ≡ each_to (most_at l.live l.standardised) 0 l.j l.initial.most)
+
+abbrev pub decreases-loop-j : goal.decreases-loop-j
+decreases-loop-j l = 12 - l.j
