@@ -7,7 +7,7 @@ use Rattle.roots.proofs.answer_line.Goals as goal
 
 pub returns-in-Pattern : goal.returns-in-Pattern
 unfolding answer_to is_bad
-returns-in-Pattern c = let r = sym c.read_line.ensures ∙ c.b-1.given.1 in
+returns-in-Pattern c = let r = sym c.read_line.ensures ∙ c.in-Pattern.is in
     rw r (c.put_root.ensures, refl)
 
 pub returns-in-Bad : goal.returns-in-Bad
