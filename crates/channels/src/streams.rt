@@ -1,5 +1,5 @@
 // The three standard streams, and why the last call on one of them failed, if it did.
-ghost use Rattle.std.specs.Prelude.{◌≤◌, length};
+ghost use Rattle.std.specs.Prelude.{◌≡◌, ◌≤◌, None, length};
 
 use std::io::{Cursor, Error, ErrorKind, Read, Result, Stderr, Stdin, Stdout, Write};
 use std::rt::HostRuntime;
@@ -41,7 +41,10 @@ fn text_length(text: &[u8]) -> usize
 }
 
 impl Streams {
-    pub fn new(rt: &HostRuntime) -> Streams {
+    // No call has failed yet.
+    pub fn new(rt: &HostRuntime) -> Streams
+        ensures { result.error ≡ None }
+    {
         Streams {
             input: rt.stdin(),
             output: rt.stdout(),
@@ -51,7 +54,7 @@ impl Streams {
     }
 
     // Reads once, and says how many bytes came: none where the input is over or the read failed.
-    pub fn read(&mut self, buf: &mut [u8]) -> usize
+    pub(crate) fn read(&mut self, buf: &mut [u8]) -> usize
         ensures { result ≤ length buf.new }
     {
         match self.input.read(buf) {
@@ -67,24 +70,24 @@ impl Streams {
     }
 
     // Writes all of `part` to standard output, and says whether it could.
-    pub fn put(&mut self, part: &[u8]) -> bool {
+    pub(crate) fn put(&mut self, part: &[u8]) -> bool {
         self.error = write_all(&mut self.output, part).err();
         self.error.is_none()
     }
 
     // The same to standard error.
-    pub fn put_beside(&mut self, part: &[u8]) -> bool {
+    pub(crate) fn put_beside(&mut self, part: &[u8]) -> bool {
         self.error = write_all(&mut self.errors, part).err();
         self.error.is_none()
     }
 
     // Whether the last call failed.
-    pub fn has_failed(&self) -> bool {
+    pub(crate) fn has_failed(&self) -> bool {
         self.error.is_some()
     }
 
     // Whether a signal interrupted the last call.
-    pub fn is_interrupted(&self) -> bool {
+    pub(crate) fn is_interrupted(&self) -> bool {
         match self.error {
             Some(e) => e.kind() == ErrorKind::Interrupted,
             None => false,
@@ -92,12 +95,12 @@ impl Streams {
     }
 
     // Why the last call failed, if it did.
-    pub fn error(&self) -> Option<Error> {
+    pub(crate) fn error(&self) -> Option<Error> {
         self.error
     }
 
     // Writes the system's text of an error to standard error, and says whether it could.
-    pub fn put_error(&mut self, error: Option<Error>) -> bool {
+    pub(crate) fn put_error(&mut self, error: Option<Error>) -> bool {
         let Some(e) = error else {
             return true;
         };
