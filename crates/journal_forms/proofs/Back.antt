@@ -1,6 +1,6 @@
 -- There and back: what was converted with nothing refused is converted back with nothing refused,
 -- each NaN with its quiet pattern and every other byte as it was (specs/Claims).
-use Prim.Native.Nat.{ℕ, suc, ◌+◌, ◌-◌}
+use Prim.Native.Nat.{ℕ, suc, ◌-◌}
 use mathlib.Core.Path.{◌≡◌, refl, sym, ap, ap₂, ◌∙◌}
 use mathlib.Core.Bool.{true}
 use mathlib.Core.List.{List, [], ◌∷◌, ◌++◌}

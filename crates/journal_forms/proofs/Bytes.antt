@@ -6,7 +6,7 @@ use native.Mathlib.Nat.{pow-suc}
 use native.Mathlib.Omega.{arith}
 use lib.ListN.{length, take, drop}
 use lib.Seq.{get_or-drop}
-use Rattle.journal_records.specs.Little.{byte_at, le_at}
+use Rattle.journal_records.specs.Little.{le_at}
 use Rattle.journal_forms.specs.Body.{le_bytes}
 use Rattle.journal_forms.specs.Claims.{OfBytes}
 

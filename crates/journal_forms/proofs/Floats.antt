@@ -1,7 +1,7 @@
 -- Floats one after the other: read, written, and read again.
 use Prim.Native.Nat.{ℕ, zero, suc, ◌+◌, ◌*◌, ◌≤◌, ◌<◌, ◌^◌}
 use mathlib.Core.Path.{◌≡◌, refl, sym, ap, ap₂, subst, ◌∙◌}
-use mathlib.Core.Bool.{Bool, true, false, not, ◌&&◌}
+use mathlib.Core.Bool.{Bool, true, false, ◌&&◌}
 use mathlib.Core.List.{List, [], ◌∷◌, ◌++◌, append_assoc}
 use native.Mathlib.Nat.{suc-mul}
 use native.Mathlib.Numerals.{add-one}
@@ -9,9 +9,9 @@ use native.Mathlib.Omega.{arith}
 use lib.Dec.{T}
 use lib.ListN.{length, take, drop, length-append, length-drop}
 use lib.Seq.{drop_at, drop-drop, take-add}
-use lib.Ieee.{Float, binary32, binary64, of_bits, to_bits, fits, is_nan}
+use lib.Ieee.{Float, binary32, binary64, of_bits, to_bits, fits}
 use lib.Ieee.Bits.{of_bits-to_bits, to_bits-of_bits, to_bits-lt}
-use Rattle.journal_records.specs.Little.{byte_at, le_at}
+use Rattle.journal_records.specs.Little.{le_at}
 use Rattle.journal_records.proofs.Laws.{le_at_under}
 use Rattle.stream.proofs.Stream.{impossible}
 use Rattle.journal_forms.specs.declared.Form.{Form}

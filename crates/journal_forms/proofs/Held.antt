@@ -12,11 +12,9 @@ use lib.Ieee.{Float, binary32, binary64, of_bits, to_bits, fits}
 use lib.Ieee.Bits.{is_true, of_bits-fits}
 use lib.Ieee.Fits.{fits_widens}
 use Rattle.stream.proofs.Stream.{impossible}
-use Rattle.binary32.specs.declared.Narrowed.{Narrowed}
 use Rattle.binary32.specs.declared.Narrowed.TheVariants.{Holds, NotHeld}
 use Rattle.binary32.specs.Patterns.{narrowed}
 use Rattle.journal_forms.specs.declared.Form.{Form}
-use Rattle.journal_forms.specs.declared.Form.TheVariants.{Wide, Narrow}
 use Rattle.journal_forms.specs.declared.body.Run.{Run}
 use Rattle.journal_forms.specs.Forms.{other, format_of, float_bytes}
 use Rattle.journal_forms.specs.Body.{float_in, floats_in, all_pass, run_bytes, run_floats, body_floats, body_held}

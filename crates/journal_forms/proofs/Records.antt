@@ -1,21 +1,21 @@
 -- The conversion as a machine over bytes: what it does with the bytes at hand, and with those of a
 -- record that was converted.
-use Prim.Native.Nat.{ℕ, zero, suc, ◌+◌, ◌-◌, ◌≤◌, ◌<◌}
-use mathlib.Core.Path.{◌≡◌, refl, sym, ap, ap₂, subst, ◌∙◌}
+use Prim.Native.Nat.{ℕ, zero, suc, ◌≤◌, ◌<◌}
+use mathlib.Core.Path.{◌≡◌, refl, sym, ap, ◌∙◌}
 use mathlib.Core.Bool.{Bool, true, false, cond}
 use mathlib.Core.List.{List, [], ◌∷◌, ◌++◌}
 use native.Mathlib.Omega.{arith}
-use lib.ListN.{length, take, drop, length-append, length-drop}
+use lib.ListN.{length, drop, length-append}
 use lib.Seq.{length-take-le, take_at, drop_at}
-use lib.Ieee.{Float, binary64, of_bits, fits}
+use lib.Ieee.{binary64, fits}
 use lib.Ieee.Bits.{is_true, of_bits-fits}
 use Rattle.journal_records.specs.Little.{le_at}
-use Rattle.stream.specs.Stream.{Next, wait, halt, tell, takes, size, Machine, Settled, settled, telling}
-use Rattle.stream.proofs.Stream.{impossible, settled_wait, settled_halt, settled_tell}
+use Rattle.stream.specs.Stream.{wait, halt, tell, takes, size, Machine}
+use Rattle.stream.proofs.Stream.{impossible}
 use Rattle.journal_frames.specs.declared.Frame.{Frame}
 use Rattle.journal_frames.specs.declared.Frame.TheVariants.{Waits, Unknown, Whole}
-use Rattle.journal_frames.specs.Frames.{is_known, body_len, body_of, frame_of, OnWhole, TakesWhole, Framed, bytes_of}
-use Rattle.journal_frames.proofs.Frames.{FrameAt, unknown, cut, whole, frame_at, frame_is, frame_fits, frame_kind, by_frame, frames_machine}
+use Rattle.journal_frames.specs.Frames.{is_known, body_len, body_of, frame_of, TakesWhole}
+use Rattle.journal_frames.proofs.Frames.{FrameAt, unknown, cut, whole, frame_at, frame_is, by_frame, frames_machine}
 use Rattle.journal_forms.specs.declared.Form.{Form}
 use Rattle.journal_forms.specs.declared.Form.TheVariants.{Wide, Narrow}
 use Rattle.journal_forms.specs.declared.Cause.{Cause}

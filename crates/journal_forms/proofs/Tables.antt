@@ -1,11 +1,11 @@
 -- The tables of both forms fit each other: a test that is computed for each kind, and what it says.
 use Prim.Native.Nat.{ℕ, zero, suc, ◌+◌, ◌≤◌, ◌<◌}
-use mathlib.Core.Path.{◌≡◌, refl, sym, ap, ◌∙◌}
+use mathlib.Core.Path.{◌≡◌, refl, ap, ◌∙◌}
 use mathlib.Core.Bool.{Bool, true, false, cond, ◌&&◌}
 use mathlib.Core.List.{List, [], ◌∷◌}
 use native.Mathlib.Omega.{arith}
 use lib.Dec.{eqb, leb, ltb}
-use lib.ListN.{length, get_or}
+use lib.ListN.{get_or}
 use borrow.Author.Tests.{eqb-true, eqb-false, leb-true, ltb-true, ne_eqb}
 use Rattle.journal_records.specs.Kinds.{settings_kind, value_kind, outcome_kind, width_kind}
 use Rattle.journal_frames.specs.Frames.{is_known, body_len}

@@ -1,14 +1,13 @@
 -- One record: what is asked before it is put, and what is answered then.
 use Prim.Native.Nat.{ℕ, suc, ◌+◌, ◌-◌, ◌≤◌, ◌<◌}
 use mathlib.Core.Path.{◌≡◌, refl, sym, ap, ap₂, ◌∙◌}
-use mathlib.Core.Bool.{Bool, true, false}
+use mathlib.Core.Bool.{true, false}
 use mathlib.Core.List.{List, [], ◌∷◌, ◌++◌}
 use native.Mathlib.Omega.{arith}
 use lib.ListN.{length, take, drop, get_or, set, length-set, length-drop}
-use lib.Seq.{drop-drop, length-take-le}
+use lib.Seq.{drop-drop}
 use Rattle.text.specs.Memory.{Put}
 use Rattle.text.proofs.Puts.{put_on}
-use Rattle.stream.specs.Stream.{wait, halt, tell}
 use Rattle.journal_frames.specs.declared.Frame.{Frame}
 use Rattle.journal_frames.specs.declared.Frame.TheVariants.{Waits, Unknown, Whole}
 use Rattle.journal_frames.specs.Frames.{is_known, body_len, body_of, frame_of}
@@ -19,11 +18,11 @@ use Rattle.journal_forms.specs.declared.Converted.{Converted}
 use Rattle.journal_forms.specs.declared.body.Run.{Run}
 use Rattle.journal_forms.specs.Forms.{other, kinds_of, run, runs_of, record_most}
 use Rattle.journal_forms.specs.Body.{runs_bytes, body_to, body_held}
-use Rattle.journal_forms.specs.Conversion.{turned, turns, on_form, number_of}
+use Rattle.journal_forms.specs.Conversion.{turns, on_form, number_of}
 use Rattle.journal_forms.specs.Turns.{step_of, memory_of, Stepped}
 use Rattle.journal_forms.proofs.Bodies.{body_long}
 use Rattle.journal_forms.proofs.Putting.{put_byte}
-use Rattle.journal_forms.proofs.Tables.{KindFits, known_fits, two_runs}
+use Rattle.journal_forms.proofs.Tables.{known_fits, two_runs}
 use Rattle.journal_forms.proofs.Records.{turns_by, WholeAt, whole_at}
 
 -- ---- a body of its kind's length, with the runs that were looked up
