@@ -1,0 +1,14 @@
+use mathlib.Core.Path.{sym, ◌∙◌}
+use borrow.Author.Tests.{leb-true}
+use Rattle.text.proofs.Puts.{no_room, with_room}
+use Rattle.report.proofs.render.show_tick.Goals as goal
+
+pub put_tick-requires : goal.put_tick-requires
+put_tick-requires c = leb-true _ _ (sym c.has_room.ensures ∙ c.if-has_room.true)
+
+pub returns-then-has_room : goal.returns-then-has_room
+returns-then-has_room c = let asked = c in
+    with_room _ _ _ _ (sym asked.has_room.ensures ∙ asked.if-has_room.true) _ _ c.put_tick.ensures
+
+pub returns : goal.returns
+returns c = no_room _ _ _ _ (sym c.has_room.ensures ∙ c.if-has_room.false)
