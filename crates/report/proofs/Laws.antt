@@ -1,11 +1,11 @@
 -- Text in memory: lines that a trace puts, and the line of a tick.
 use Prim.Native.Nat.{ℕ, ◌≤◌, ◌<◌, ◌+◌, ◌*◌, ◌-◌, min}
-use mathlib.Core.Path.{◌≡◌, refl, sym, ap, ap₂, ◌∙◌}
+use mathlib.Core.Path.{◌≡◌, refl, sym, ap, ◌∙◌}
 use mathlib.Core.List.{List, [], ◌∷◌, ◌++◌, append_assoc, append-nil}
 use native.Mathlib.Omega.{arith}
 use native.Mathlib.Numerals.{add-one}
 use lib.ListN.{length, take, get_or, length-append, length-take, replicate}
-use lib.Seq.{paste, take_at, take-suc, take_all}
+use lib.Seq.{take_at, take-suc, take_all}
 use Rattle.text.specs.declared.Line.{Line}
 use Rattle.text.specs.Line.{line_room, line_of}
 use Rattle.lictor_core.specs.declared.fuse.FuseRt.{FuseRt}

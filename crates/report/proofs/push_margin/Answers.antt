@@ -22,6 +22,6 @@ returns-in-MinusFar c = c.push-in-MinusFar.ensures ∙ ap (push_of c.args.l) (sy
 pub returns-in-Millis : goal.returns-in-Millis
 unfolding margin_text
 returns-in-Millis c = let a = c.args in
-    let v = c.m-1.given.0.0 in
-    let e : to_z w32 (of_z w32 v) ≡ v = to_z-of_z w32 v (record { sfits = c.known_told-1.given.0.1 }) in
+    let v = c.in-Millis.z in
+    let e : to_z w32 (of_z w32 v) ≡ v = to_z-of_z w32 v (search) in
     c.push_signed.ensures ∙ ap (push_of a.l) (ap signed_of e ∙ sym (ap margin_text c.in-Millis.is))

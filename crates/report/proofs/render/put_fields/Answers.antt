@@ -1,5 +1,4 @@
 -- One turn a number: the first i are put.
-use Prim.Native.Nat.{◌-◌}
 use native.Mathlib.Omega.{arith}
 use Rattle.report.proofs.Laws.{fields_none, fields_more, fields_all}
 use Rattle.report.proofs.render.put_fields.Goals as goal
@@ -12,7 +11,7 @@ put_field-at-requires c = let m = c.loop-i.invariant in omega (arith, m.few, m.l
 
 pub loop-i-preserved : goal.loop-i-preserved
 loop-i-preserved c = let q = c.put_field-at in
-    fields_more _ _ _ _ _ _ _ _ (omega arith) (omega arith) q.auto.0 q.ensures.0 q.ensures.1 c.loop-i.invariant
+    fields_more _ _ _ _ _ _ _ _ (omega arith) (omega arith) q.auto.out q.ensures.0 q.ensures.1 c.loop-i.invariant
 
 pub shape_of-out : goal.shape_of-out
 shape_of-out c = c.loop-i.invariant.long

@@ -10,7 +10,7 @@ put_fields-requires c = let start = c in
     let six : length numbers.result ≡ 6 = ap length numbers.ensures in
     let tick = c.put-at in
     let p = put_there _ _ _ (omega (arith, start.requires)) _ _ tick.ensures in
-    omega (arith, six, p.ends, tick.auto.0, start.requires)
+    omega (arith, six, p.ends, tick.auto.out, start.requires)
 
 pub returns : goal.returns
 returns c = let start = c in

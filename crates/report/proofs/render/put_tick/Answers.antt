@@ -17,7 +17,7 @@ returns c = let start = c in
     let few = numbers_most v in
     let short = margin_21 (margin_of v.brake_margin) in
     let h : start.args.n ≤ length start.args.out.now = omega (arith, start.requires) in
-    let p = put_there _ _ _ (omega (arith, few, numbers.ensures.ends, numbers.auto.1.0, start.requires)) _ _ blank.ensures in
-    let q = put_there _ _ _ (omega (arith, few, short, p.ends, blank.auto.0, numbers.ensures.ends, numbers.auto.1.0, start.requires)) _ _ (rw margin at line.ensures) in
-    let e = put_there _ _ _ (omega (arith, few, short, q.ends, line.auto.0, p.ends, blank.auto.0, numbers.ensures.ends, numbers.auto.1.0, start.requires)) _ _ c.put.ensures in
+    let p = put_there _ _ _ (omega (arith, few, numbers.ensures.ends, numbers.auto.out, start.requires)) _ _ blank.ensures in
+    let q = put_there _ _ _ (omega (arith, few, short, p.ends, blank.auto.out, numbers.ensures.ends, numbers.auto.out, start.requires)) _ _ (rw margin at line.ensures) in
+    let e = put_there _ _ _ (omega (arith, few, short, q.ends, line.auto.out, p.ends, blank.auto.out, numbers.ensures.ends, numbers.auto.out, start.requires)) _ _ c.put.ensures in
     rw (tick_by_lem v) (put_on _ _ _ _ _ _ _ _ h (put_on _ _ _ _ _ _ _ _ h (put_on _ _ _ _ _ _ _ _ h numbers.ensures p) q) e)

@@ -1,4 +1,4 @@
-use Prim.Native.Nat.{◌≤◌, ◌-◌}
+use Prim.Native.Nat.{◌≤◌}
 use mathlib.Core.Path.{◌≡◌}
 use native.Mathlib.Omega.{arith}
 use lib.ListN.{length-take}
@@ -17,7 +17,7 @@ loop-k-preserved c = let m = c.loop-k.invariant in
     let put = c.put_line-at in
     let most : line.result.n ≤ line_room = rw line.ensures (line_most _) in
     let p = put_there _ _ _ (omega (arith, m.few, m.long, most, length-take line.result.n line.result.text)) _ _ put.ensures in
-    traced_more _ _ _ _ _ _ _ _ _ _ (omega arith) (omega arith) put.auto.0 line.ensures p m
+    traced_more _ _ _ _ _ _ _ _ _ _ (omega arith) (omega arith) put.auto.out line.ensures p m
 
 pub shape_of-out : goal.shape_of-out
 shape_of-out c = c.loop-k.invariant.long
