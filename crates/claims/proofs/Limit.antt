@@ -61,11 +61,13 @@ module _ {A : Type 0} (P : A → Type 0) where
   -- none among the first n
   first_none : (n : ℕ) (l : List A) → First P (suc n) l → Some P (take n l) → ⊥
   first_none n [] f k = f
+  first_none zero (x ∷ l) f k = elim k [ ]
   first_none (suc n) (x ∷ l) f (here p) = f.0 p
   first_none (suc n) (x ∷ l) f (later k) = first_none n l f.1 k
 
 -- so the limit cannot be one less
 one_less : (n : ℕ) (l : List TickSeen) → Where (λ x after. T (begins x) × First (λ y. T (closes y)) (suc n) after) l → StopsWithin n l → ⊥
+one_less n [] w s = elim w [ ]
 one_less n (x ∷ l) (at p) s = first_none (λ y. T (closes y)) n l p.1 (s.0 p.0 (first_length (λ y. T (closes y)) n l p.1))
 one_less n (x ∷ l) (past w) s = one_less n l w s.1
 
