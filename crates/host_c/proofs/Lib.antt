@@ -1,4 +1,3 @@
 pub mod Refused
 pub mod Says
 pub mod Stored
-pub mod Types

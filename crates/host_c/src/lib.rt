@@ -1,4 +1,5 @@
-// The fuse as a static library: what a controller in C or Rust calls.
+// What a controller in C or Rust calls, as a library: the crate `host_c_c` exports the functions
+// below `what is exported` to C, with the same clauses.
 // The host lends its run state, which each call changes where it lies,
 // and all that a tick is given, which is only read.
 // Every type here is numbers in the layout of C, and every pattern of their bytes has a meaning,
@@ -146,8 +147,7 @@ fn joined(earlier: Tally, later: Tally) -> Tally
 // ---- what is exported
 
 // A run state for which no episode has begun.
-#[unsafe(no_mangle)]
-pub extern "C" fn disklorva_new() -> RunState
+pub fn disklorva_new() -> RunState
     ensures { result ≡ state_out new_of }
 {
     let z = lictor_fuse::episode::new();
@@ -156,8 +156,7 @@ pub extern "C" fn disklorva_new() -> RunState
 
 // Starts an episode in the lent run state. Every field is promised;
 // the bytes between the fields, and which pattern a NaN has, are the program's choice.
-#[unsafe(no_mangle)]
-pub extern "C" fn disklorva_reset(rt: &mut RunState)
+pub fn disklorva_reset(rt: &mut RunState)
     ensures { rt.new ≡ reset_run rt.old }
 {
     *rt = restarted(*rt);
@@ -168,8 +167,7 @@ pub extern "C" fn disklorva_reset(rt: &mut RunState)
 // Where they are accepted, every field of state and answer is promised; the bytes between the
 // fields, and which pattern a NaN has, are the program's choice, and nothing depends on them.
 // Settings, input, outcome and lists are only read.
-#[unsafe(no_mangle)]
-pub extern "C" fn disklorva_tick(
+pub fn disklorva_tick(
     rt: &mut RunState,
     s: &Settings,
     inp: &Input,
@@ -190,8 +188,7 @@ pub extern "C" fn disklorva_tick(
 // The tally of an episode that was counted in two stretches, cut after some tick. Every field is
 // promised; the bytes between the fields, and which pattern a NaN has, are the program's choice.
 // Both tallies are only read.
-#[unsafe(no_mangle)]
-pub extern "C" fn disklorva_join(earlier: &Tally, later: &Tally) -> Tally
+pub fn disklorva_join(earlier: &Tally, later: &Tally) -> Tally
     ensures { result ≡ joined_tally earlier.now later.now }
 {
     joined(*earlier, *later)
@@ -199,8 +196,7 @@ pub extern "C" fn disklorva_join(earlier: &Tally, later: &Tally) -> Tally
 
 // The square root that the tick uses, the double nearest the exact root, to be measured or compared
 // alone. Which pattern a NaN has is the program's choice.
-#[unsafe(no_mangle)]
-pub extern "C" fn disklorva_sqrt(x: f64) -> f64
+pub fn disklorva_sqrt(x: f64) -> f64
     ensures { result ≡ root_of x }
 {
     fmath::sqrt(x)

@@ -13,7 +13,7 @@ use Rattle.host_c.specs.declared.Called.{Called}
 use Rattle.host_c.specs.Call.{ticked_out, reset_run}
 use Rattle.host_c.proofs.Stored.{tick_on_stored, reset_on_stored}
 use Rattle.host_claims.specs.HostRun.{meant, answered}
-use Rattle.host_claims.specs.HostAcks.{HostEntry, host_tick, host_reset, meant_entry, answered_among, answers_among, HostAcks, HostAcksOnce}
+use Rattle.host_claims.specs.HostAcks.{HostEntry, host_tick, host_reset, meant_entry, answered_among, answers_among, HostAcksOnce}
 
 among_stored : (r : FuseRt) (es : List HostEntry) → answered_among (state_out r) es ≡ map ticked_out (answers_among r (map meant_entry es))
 unfolding ticked_out

@@ -4,7 +4,6 @@ use mathlib.Core.Path.{◌≡◌, refl, sym, ap, ◌∙◌, subst}
 use mathlib.Core.List.{List, [], ◌∷◌, ◌++◌, map, append-nil, append_assoc}
 use Rattle.lictor_core.specs.Initial.{empty_tally, new_of, reset_of}
 use Rattle.lictor_core.specs.declared.fuse.FuseRt.{FuseRt}
-use Rattle.lictor_core.specs.declared.tally.Tally.{Tally}
 use Rattle.lictor_tally.specs.Stretches.{FromTicks}
 use Rattle.lictor_fuse.specs.declared.Ticked.{Ticked}
 use Rattle.claims.specs.Calls.{Call, tick_answer, left_by}
@@ -16,7 +15,7 @@ use Rattle.host_c.specs.declared.Answer.{Answer}
 use Rattle.host_c.specs.declared.Called.{Called}
 use Rattle.host_c.specs.Call.{ticked_out, answer_of, joined_tally, reset_run}
 use Rattle.host_c.proofs.Stored.{tick_on_stored, join_on_stored}
-use Rattle.host_claims.specs.HostRun.{HostCall, meant, answered, answered_from, answers_from}
+use Rattle.host_claims.specs.HostRun.{HostCall, meant, answers_from}
 use Rattle.host_claims.specs.HostCut.{host_left, said_from, new_run, emptied, host_second, HostCut, calls_of, joined_on, said_in, HostStretches, HostCuts}
 use Rattle.host_claims.proofs.HostRun.{stored_run}
 

@@ -29,7 +29,7 @@ use Rattle.journal_refusals.specs.Table.{order_rows, content_rows, whole_rows, j
 use Rattle.stream.specs.Stream.{wait, halt, go, tell, End, awaits, halted, Settled, telling, after, settle, settled}
 use Rattle.stream.proofs.Stream.{impossible, joined, settled_tell, Front, front as front_of}
 use Rattle.journal_reader.specs.State.{State, seen_in, seen_width, ack_waits, head_waits, value_waits, stored, outcome_waits, settings_came, width_came, emptied, values_of, input_of}
-use Rattle.journal_reader.specs.Reading.{Instruction, width, brought_of, with_reader, on_record, on_judged, on_whole, on_bytes}
+use Rattle.journal_reader.specs.Reading.{Instruction, width, brought_of, on_record, on_judged, on_whole, on_bytes}
 use Rattle.journal_reader.proofs.Reading.{Move, machine, next_frame, next_accepted}
 use Rattle.journal.specs.Events.{run_after_all, events_from}
 use Rattle.journal.specs.Journal.{start_state, start_run, ended, refused, Meaning, ending_of, journal_of}

@@ -2,14 +2,14 @@
 -- What it leaves over is shorter than a record, and it refuses what the table refuses.
 use Prim.Native.Nat.{ℕ, suc, ◌+◌, ◌-◌, ◌≤◌, ◌<◌}
 use mathlib.Core.Path.{◌≡◌, refl, sym, ap, ap₂, subst, ◌∙◌}
-use mathlib.Core.List.{List, [], ◌∷◌}
+use mathlib.Core.List.{List, ◌∷◌}
 use mathlib.Core.Bool.{Bool, true, false}
 use native.Mathlib.Omega.{arith}
 use lib.ListN.{length, take, drop, length-take, length-drop}
 use lib.Ieee.{Float}
 use Rattle.journal_frames.specs.declared.Frame.{Frame}
 use Rattle.journal_frames.specs.declared.Frame.TheVariants as F
-use Rattle.journal_frames.specs.Frames.{body_len, record_room, ShortRecords, body_of, frame_of, TakesWhole, on_frame, by_frames}
+use Rattle.journal_frames.specs.Frames.{body_len, record_room, ShortRecords, body_of, frame_of, TakesWhole, on_frame}
 use Rattle.journal_frames.proofs.Frames.{FrameAt, unknown, cut, whole, frame_at, frame_is, frame_kind, by_frame, frames_machine, waits_under, rest_under, all_short, short_table}
 use Rattle.journal_records.specs.Little.{byte_at}
 use Rattle.lictor_core.specs.declared.fuse.TickInput.{TickInput}
@@ -28,7 +28,7 @@ use Rattle.journal_refusals.proofs.Framing.{judged_framed}
 use Rattle.stream.specs.Stream.{Next, wait, halt, go, tell, goes_on, takes, size, Machine, awaits, settled, Advanced, advanced}
 use Rattle.journal_reader.specs.declared.What.{What}
 use Rattle.journal_reader.specs.declared.What.TheVariants as W
-use Rattle.journal_reader.specs.State.{State, seen_in, settings_came, width_came, emptied, input_of}
+use Rattle.journal_reader.specs.State.{State, seen_in, settings_came, width_came, emptied}
 use Rattle.journal_reader.specs.Reading.{Instruction, begin, restart, tick, width, brought_of, with_reader, on_record, on_judged, on_whole, on_bytes, what_of, read_of}
 use Rattle.stream.proofs.Stream.{impossible, tells_on, ahead}
 

@@ -1,15 +1,11 @@
 -- What a record at a place is, and what the reader's functions leave each other.
-use Prim.Native.Nat.{ℕ, zero, suc, ◌+◌, ◌-◌, ◌≤◌, ◌<◌, min}
+use Prim.Native.Nat.{ℕ, zero, suc, ◌+◌, ◌-◌, ◌≤◌, ◌<◌}
 use mathlib.Core.Path.{◌≡◌, refl, sym, ap, ap₂, subst, ◌∙◌}
-use mathlib.Core.List.{List, [], ◌∷◌}
+use mathlib.Core.List.{List, []}
 use mathlib.Core.Bool.{Bool, true, false, cond}
 use native.Mathlib.Omega.{arith}
-use native.Mathlib.Numerals.{add-one}
-use native.Mathlib.Decide.{dec_le}
-use borrow.Author.Tests.{eqb-true}
-use lib.ListN.{length, take, drop, length-take, length-drop, get_or, drop_of_length-le}
-use lib.Seq.{take_all, drop-cons, drop-drop}
-use lib.Dec.{eqb}
+use lib.ListN.{length, take, drop, length-take, length-drop, get_or}
+use lib.Seq.{drop-drop}
 use lib.Ieee.{Float}
 use Rattle.lictor_core.specs.declared.ack.VerifiedAck.{VerifiedAck}
 use Rattle.lictor_core.specs.declared.chunk.ChunkHead.{ChunkHead}

@@ -1,16 +1,15 @@
 -- The columns of a row in memory, one after the other.
-use Prim.Native.Nat.{ℕ, ◌+◌, ◌-◌, ◌*◌, ◌≤◌, ◌<◌}
+use Prim.Native.Nat.{ℕ, ◌+◌, ◌-◌, ◌*◌, ◌≤◌}
 use mathlib.Core.Path.{◌≡◌, refl, sym, ap, ◌∙◌}
-use mathlib.Core.List.{List, [], ◌∷◌, ◌++◌, append_assoc}
+use mathlib.Core.List.{List, [], ◌∷◌, ◌++◌}
 use native.Mathlib.Omega.{arith}
 use lib.ListN.{length, length-append, length-replicate, drop}
 use Rattle.text.specs.Ascii.{ascii}
 use Rattle.text.specs.Line.{line_room}
-use Rattle.text.specs.Memory.{Put, place_put, memory_put, place_with, memory_with}
+use Rattle.text.specs.Memory.{Put, place_put, memory_put}
 use Rattle.text.specs.Number.{decimal_of}
-use Rattle.text.specs.Column.{blank, blanks, right, left, field, row_of, after_blanks}
-use Rattle.text.proofs.Columns.{blanks_both, right_most, joined_is, row_joined, row_append}
-use Rattle.text.proofs.Digits.{decimal_20}
+use Rattle.text.specs.Column.{blank, blanks, right, left, row_of, after_blanks}
+use Rattle.text.proofs.Columns.{blanks_both, joined_is, row_joined, row_append}
 use Rattle.text.proofs.Puts.{put_on, put_there}
 use Rattle.lictor_core.specs.Codes.{reason_code}
 use Rattle.lictor_core.specs.declared.state.FuseState.{FuseState}
@@ -19,7 +18,7 @@ use Rattle.lictor_core.specs.declared.verdict.SafetyVerdict.{SafetyVerdict}
 use Rattle.margin.specs.Margin.{margin_of}
 use Rattle.report.specs.Lines.{margin_text}
 use Rattle.page_text.specs.Names.{state_name}
-use Rattle.page_text.specs.Rows.{page_width, tick_columns, tick_row, page_row, as_line, field_room, front_columns, back_columns}
+use Rattle.page_text.specs.Rows.{page_width, tick_row, page_row, as_line, field_room, front_columns, back_columns}
 
 -- ---- a field
 

@@ -1,6 +1,6 @@
 -- The lines of a page are 55 characters wide, and each field of a tick's row reads back to the text
 -- that `fuse` prints.
-use Prim.Native.Nat.{ℕ, ◌+◌, ◌-◌, ◌*◌, ◌^◌, ◌≤◌, ◌<◌, min}
+use Prim.Native.Nat.{ℕ, ◌-◌, ◌*◌, ◌^◌, ◌≤◌, ◌<◌}
 use mathlib.Core.Path.{◌≡◌, refl, sym, ap, ◌∙◌}
 use mathlib.Core.Bool.{Bool, true, false, cond}
 use mathlib.Core.List.{List, [], ◌∷◌, ◌++◌, append_assoc}
@@ -8,13 +8,13 @@ use native.Mathlib.Omega.{arith}
 use borrow.Author.Tests.{ltb-false}
 use lib.Dec.{T, ltb, lit<, lit≤}
 use lib.IntN.{pos, nat_abs}
-use lib.ListN.{length, length-append, take, drop, get_or}
+use lib.ListN.{length, length-append, get_or}
 use lib.Seq.{take_at}
 use lib.Ieee.{Float, nan, inf, fin, up, down}
 use Rattle.text.specs.Ascii.{ascii}
 use Rattle.text.specs.Line.{line_room}
 use Rattle.text.specs.Number.{decimal_of}
-use Rattle.text.specs.Column.{blanks, right, left, unblanked, plain, cut, row_of, after_blanks, at_left, at_right, Within, Plain}
+use Rattle.text.specs.Column.{blanks, right, left, unblanked, plain, cut, row_of, after_blanks, at_left, Within, Plain}
 use Rattle.text.specs.Words.{words_from, word_at, after_blank}
 use Rattle.text.proofs.Signs.{nat_abs_neg}
 use Rattle.text.proofs.Digits.{decimal_short, decimal_20}

@@ -3,11 +3,11 @@
 use mathlib.Core.Bool.{Bool, true, false, cond}
 use mathlib.Core.Path.{◌≡◌, refl, sym, ap, ap₂, ◌∙◌}
 use mathlib.Core.List.{List, [], ◌∷◌, ◌++◌, map, append_assoc, append-nil}
-use Prim.Native.Nat.{ℕ, zero, suc, ◌+◌, ◌-◌, ◌*◌, ◌/◌, ◌^◌, ◌≤◌, ◌<◌, min}
+use Prim.Native.Nat.{ℕ, zero, suc, ◌+◌, ◌*◌, ◌≤◌, ◌<◌}
 use native.Mathlib.Omega.{arith}
 use borrow.Author.Tests.{leb-true, leb-false, eqb-true, eqb-false}
 use lib.Dec.{eqb}
-use lib.ListN.{length, take, drop, length-append, length-take, length-drop, drop_of_length-le}
+use lib.ListN.{length, take, drop, length-append, length-drop, drop_of_length-le}
 use lib.Seq.{take_all, take-append-le, drop-append-le}
 use Rattle.lictor_core.specs.declared.verdict.SafetyVerdict.{SafetyVerdict}
 use Rattle.journal_refusals.specs.Table.{number_of}
@@ -18,7 +18,7 @@ use Rattle.report.specs.Lines.{refused_text}
 use Rattle.page_text.specs.Rows.{tick_row, page_row, as_line}
 use Rattle.printer.specs.declared.Notes.{Notes}
 use Rattle.printer.specs.Printer.{Shows, pages, Printer, at_start, pages_printer, page_rows, last_page, next_page, fills, after_tick, tick_on_page, page_closed, shown_text, remembered, closing_text, end_shown, ending_text, refusal_text, printed, printer_after, printer_after_all, text_from, text_of, kinds_taken, meaning_for}
-use Rattle.printer.specs.Fifties.{verdicts_of, ticks_on, page_number, page_of, page_count, pages_up_to, pages_of, lines_text, pages_text, NoTicks}
+use Rattle.printer.specs.Fifties.{verdicts_of, page_number, page_of, page_count, pages_up_to, pages_of, lines_text, pages_text, NoTicks}
 
 -- ---- lists
 

@@ -5,9 +5,8 @@ use mathlib.Core.List.{List, [], ◌∷◌, ◌++◌, append_assoc}
 use Rattle.journal.specs.declared.tick.Run.{Run}
 use Rattle.journal.specs.Events.{Event}
 use Rattle.journal.specs.Journal.{Ending}
-use Rattle.printer.specs.declared.Channel.{Channel}
 use Rattle.printer.specs.declared.Channel.TheVariants.{Output}
-use Rattle.printer.specs.Printer.{Shows, Printer, fuse_printer, trace_printer, pages_printer, proximity_printer, shown_text, printer_after, printed, printer_after_all, ending_text, ending_on, sent_to, text_from, beside_from, meaning_for, text_of, beside_of, OnOutput}
+use Rattle.printer.specs.Printer.{Printer, fuse_printer, trace_printer, pages_printer, proximity_printer, shown_text, printer_after, printed, printer_after_all, ending_on, text_from, beside_from, meaning_for, text_of, beside_of, OnOutput}
 
 -- events after events: the printer goes on
 pub after_append : (p : Printer) (es fs : List Event) → printer_after_all p (es ++ fs) ≡ printer_after_all (printer_after_all p es) fs

@@ -17,7 +17,7 @@ use Rattle.journal_refusals.specs.declared.Refusal.{Refusal}
 use Rattle.journal_refusals.specs.Table.{number_of}
 use Rattle.journal_refusals.proofs.Exactly.{numbers}
 use Rattle.journal.specs.declared.tick.Run.{Run}
-use Rattle.journal.specs.Events.{Event, TickReport, began, restarted, ticked, width_given}
+use Rattle.journal.specs.Events.{Event, began, restarted, ticked, width_given}
 use Rattle.journal.specs.Journal.{Ending, ended, refused}
 use Rattle.text.specs.declared.Line.{Line}
 use Rattle.text.specs.Line.{line_room, line_of}
@@ -25,7 +25,7 @@ use Rattle.text.specs.Memory.{Put, place_put, memory_put, has_room, place_with, 
 use Rattle.text.proofs.Lines.{line_text}
 use Rattle.text.proofs.Puts.{put_none, put_on, put_there, no_room, with_room, put_with}
 use Rattle.trace_text.specs.Trace.{trace_count, trace_text}
-use Rattle.report.specs.Lines.{tick_text, end_text, refused_text}
+use Rattle.report.specs.Lines.{tick_text, refused_text}
 use Rattle.report.specs.Text.{trace_room, trace_up_to}
 use Rattle.report.proofs.Fits.{tick_fits, end_fits, refused_fits}
 use Rattle.page_text.specs.Rows.{tick_row, page_row, as_line, RowShown, PageShown}
@@ -34,7 +34,6 @@ use Rattle.proximity_text.specs.declared.Before.{Before}
 use Rattle.proximity_text.specs.Near.{dims_of, inside_of}
 use Rattle.proximity_text.specs.Lines.{lines_of, lines_room, LinesShown}
 use Rattle.proximity_text.proofs.Laws.{lines_fit}
-use Rattle.printer.specs.declared.Channel.{Channel}
 use Rattle.printer.specs.declared.Channel.TheVariants.{Output}
 use Rattle.printer.specs.declared.Measure.{Measure}
 use Rattle.printer.specs.declared.Notes.{Notes}

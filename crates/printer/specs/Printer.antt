@@ -18,7 +18,6 @@ use Rattle.trace_text.specs.Trace.{trace_count}
 use Rattle.report.specs.Lines.{tick_text, end_text, refused_text}
 use Rattle.report.specs.Text.{trace_room, trace_up_to}
 use Rattle.page_text.specs.Rows.{tick_row, page_row, as_line}
-use Rattle.proximity_text.specs.declared.Before.{Before}
 use Rattle.proximity_text.specs.Near.{inside_of, none_inside}
 use Rattle.proximity_text.specs.Lines.{lines_of}
 use Rattle.printer.specs.declared.Channel.{Channel}

@@ -4,7 +4,7 @@ use mathlib.Core.List.Memᴰ
 use mathlib.Core.List.{List, [], ◌∷◌, ◌++◌, append_assoc, append-nil, Memᴰ}
 use mathlib.Core.Logic.{◌⊎◌, inl, inr}
 use mathlib.Core.Path.{◌≡◌, refl, sym, ap, ap₂, ◌∙◌}
-use Prim.Native.Nat.{ℕ, zero, suc, ◌+◌, ◌≤◌, ◌<◌, min}
+use Prim.Native.Nat.{ℕ, zero, suc, ◌+◌, ◌≤◌, ◌<◌}
 use native.Mathlib.Decide.{ℕ_discrete}
 use native.Mathlib.Omega.{arith}
 use lib.Dec.{T}
@@ -17,7 +17,7 @@ use Rattle.proximity_text.specs.declared.Said.{Said}
 use Rattle.proximity_text.specs.declared.Said.TheVariants.{Nothing, Within, Out}
 use Rattle.proximity_text.specs.Near.{dims_of, inside_at, near_at, said_of, said_at, inside_of, none_inside}
 use Rattle.proximity_text.specs.Lines.{word_line, Word, within, out, word_text, said_text, lines_up_to}
-use Rattle.proximity_text.specs.History.{Moment, clean, fault, reset, CleanBefore, Inside, IsWithin, IsOut, Says, Entry, LineOf, Earlier, EarlierThan, Rising, Listed, list_text, put_from, LinesListed}
+use Rattle.proximity_text.specs.History.{Moment, clean, fault, reset, Says, Entry, LineOf, Earlier, EarlierThan, Rising, list_text, put_from, LinesListed}
 use Rattle.proximity_text.proofs.Flags.{Since, flags_after, flags_all, since_start, since_all, flag_told, flag_tells}
 
 -- ---- text

@@ -2,11 +2,11 @@
 use Prim.Native.Nat.{ℕ, zero, suc, ◌+◌, ◌*◌, ◌≤◌, ◌<◌}
 use mathlib.Core.Bool.{Bool}
 use mathlib.Core.Path.{◌≡◌, refl, sym, ap, ◌∙◌}
-use mathlib.Core.List.{List, [], ◌∷◌, ◌++◌}
+use mathlib.Core.List.{List}
 use native.Mathlib.Omega.{arith}
 use native.Mathlib.Numerals.{add-one}
 use lib.Ieee.{Float}
-use lib.ListN.{length, take, set, get_or, length-append, length-set}
+use lib.ListN.{length, take, set, length-append}
 use lib.Seq.{take-suc-set, take_all}
 use Rattle.text.specs.declared.Line.{Line}
 use Rattle.text.specs.Ascii.{ascii}
@@ -19,7 +19,7 @@ use Rattle.proximity_text.specs.declared.Said.{Said}
 use Rattle.proximity_text.specs.declared.Said.TheVariants.{Nothing, Within, Out}
 use Rattle.proximity_text.specs.declared.Before.{Before}
 use Rattle.proximity_text.specs.Near.{inside_at, inside_up_to, said_at}
-use Rattle.proximity_text.specs.Lines.{word_line, said_text, lines_up_to, lines_room}
+use Rattle.proximity_text.specs.Lines.{word_line, said_text, lines_up_to}
 
 -- ---- no line is cut
 

@@ -18,7 +18,7 @@ use Rattle.lictor_core.specs.Initial.{zero_float}
 use Rattle.lictor_core.specs.Rows.{place_of}
 use Rattle.proximity_text.specs.Near.{inside, near}
 use Rattle.proximity_text.specs.Lines.{Word, within, out}
-use Rattle.proximity_text.specs.History.{Moment, IsWithin, IsOut, Says, Entry, LineOf}
+use Rattle.proximity_text.specs.History.{Moment, IsOut, Says}
 use Rattle.proximity_text.specs.ZeroWidth.{ZeroWidth}
 
 -- not below zero, or no number

@@ -2,10 +2,8 @@
 use mathlib.Core.Bool.{Bool, true, false}
 use mathlib.Core.Path.{◌≡◌, ap, ◌∙◌}
 use Rattle.journal_records.specs.Long.{outcome_of}
-use Rattle.journal_records.specs.contracts.Record as R
 use Rattle.stream.proofs.Stream.{impossible}
-use Rattle.journal_reader.specs.Steps.{is_small}
-use Rattle.journal_reader.proofs.Arms.{keyed, in_arm}
+use Rattle.journal_reader.proofs.Arms.{arm_small}
 use Rattle.journal_reader.proofs.Steps.{body_part, instructs_outcome, instructs_settings, instructs_reset, instructs_tick, instructs_width}
 use Rattle.journal_reader.proofs.instruct.Goals as goal
 
@@ -29,6 +27,4 @@ pub returns-in-Width : goal.returns-in-Width
 returns-in-Width c = rw c.comes_to-in-Width.ensures (instructs_width _ _ _ _ _ _ _ c.in-Width.is)
 
 pub returns-in-Ack : goal.returns-in-Ack
-returns-in-Ack c = let start = c in
-    let x = start.args.x in
-    absurd (never _ start.requires.1 (in_arm R.enum is_small true x c.in-Ack.is (search (keyed R.enum is_small true x) depth 12)))
+returns-in-Ack c = absurd (never _ c.requires.x_value (arm_small _ c.in-Ack.is))

@@ -5,7 +5,7 @@ pub instruct-requires : goal.instruct-requires
 instruct-requires c = let k = c.collect-took.ensures in
     let o = c.args.rd.outcome in
     let e = c.in-Found.is in
-    (found_here _ _ o _ _ _ _ _ k _ _ e, found_big _ _ o _ _ _ _ _ k _ _ e)
+    record { n_in_bounds = found_here _ _ o _ _ _ _ _ k _ _ e; x_value = found_big _ _ o _ _ _ _ _ k _ _ e }
 
 pub returns-in-Found : goal.returns-in-Found
 returns-in-Found c = turned_found _ _ _ _ _ _ _ _ c.collect-took.ensures _ _ c.in-Found.is _ c.instruct.ensures

@@ -1,7 +1,8 @@
-use mathlib.Core.Path.{◌≡◌, sym, ap, ◌∙◌}
-use mir.Val.{to_z, of_z}
+use mathlib.Core.Path.{sym, ap, ◌∙◌}
+use mir.Val.{SFits}
 use mir.Syntax.{w32}
 use mir.ValLaws.{to_z-of_z}
+use borrow.Author.Rules.{rules}
 use Rattle.text.specs.Line.{push_of}
 use Rattle.text.specs.Number.{signed_of}
 use Rattle.report.specs.Lines.{margin_text}
@@ -21,7 +22,6 @@ returns-in-MinusFar c = c.push-in-MinusFar.ensures ∙ ap (push_of c.args.l) (sy
 
 pub returns-in-Millis : goal.returns-in-Millis
 unfolding margin_text
-returns-in-Millis c = let a = c.args in
-    let v = c.in-Millis.z in
-    let e : to_z w32 (of_z w32 v) ≡ v = to_z-of_z w32 v (search) in
-    c.push_signed.ensures ∙ ap (push_of a.l) (ap signed_of e ∙ sym (ap margin_text c.in-Millis.is))
+returns-in-Millis c = let z = c.in-Millis.z in
+    let fits : SFits w32 z = search rules in
+    c.push_signed.ensures ∙ ap (push_of c.args.l) (ap signed_of (to_z-of_z w32 z fits) ∙ sym (ap margin_text c.in-Millis.is))

@@ -1,6 +1,7 @@
 -- The first list begins at 0, and a list that is not listed is said to.
 use Prim.Native.Nat.{ℕ, zero, suc}
 use mathlib.Core.Path.{◌≡◌, refl}
+use native.Mathlib.Omega.{arith}
 use lib.ListN.{get_or}
 use Rattle.journal_reader.specs.State.{bases}
 use Rattle.journal_reader.proofs.waiting.base.Goals as goal
@@ -14,4 +15,4 @@ other (suc (suc (suc (suc zero)))) p q r s = absurd (s refl)
 other (suc (suc (suc (suc (suc c))))) p q r s = refl
 
 pub returns-in_default : goal.returns-in_default
-returns-in_default c = let r = c.in_default.rest in other _ r.0.0.0.1 r.0.0.1 r.0.1 r.1
+returns-in_default c = other _ (omega arith) (omega arith) (omega arith) (omega arith)

@@ -1,0 +1,20 @@
+use native.Mathlib.Omega.{arith}
+use mathlib.Core.Path.{sym, ◌∙◌}
+use borrow.Author.Tests.{leb-true}
+use Rattle.text.specs.Line.{line_room}
+use Rattle.text.proofs.Puts.{no_room, with_room}
+use Rattle.page_text.proofs.Rows.{tick_width}
+use Rattle.page_text.proofs.show_row.Goals as goal
+
+pub put_row-requires : goal.put_row-requires
+put_row-requires c = leb-true _ _ (sym c.has_room.ensures ∙ c.if-has_room.true)
+
+pub returns-then-has_room : goal.returns-then-has_room
+returns-then-has_room c = let g = c.well_formed in
+    let m = with_room line_room _ _ _ (sym c.has_room.ensures ∙ c.if-has_room.true) _ _ c.put_row.ensures in
+    record { ends = m.0; memory = m.1; width = tick_width _ (record { seq = omega (arith, g); t = omega (arith, g); trips = omega (arith, g) }) }
+
+pub returns : goal.returns
+returns c = let g = c.well_formed in
+    let m = no_room line_room _ _ _ (sym c.has_room.ensures ∙ c.if-has_room.false) in
+    record { ends = m.0; memory = m.1; width = tick_width _ (record { seq = omega (arith, g); t = omega (arith, g); trips = omega (arith, g) }) }

@@ -1,0 +1,8 @@
+use mathlib.Core.Path.{refl}
+use Rattle.printer.specs.Printer.{shown_text, remembered}
+use Rattle.printer.proofs.Rooms.{silent}
+use Rattle.printer.proofs.began.Goals as goal
+
+pub returns : goal.returns
+unfolding shown_text remembered
+returns c = rw c.unshown.ensures (silent _ _ _ _ refl refl)

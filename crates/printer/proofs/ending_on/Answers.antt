@@ -1,0 +1,5 @@
+use Rattle.printer.proofs.Rooms.{on_output}
+use Rattle.printer.proofs.ending_on.Goals as goal
+
+pub returns : goal.returns
+returns c = on_output _ _

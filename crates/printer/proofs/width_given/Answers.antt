@@ -1,0 +1,8 @@
+use mathlib.Core.Path.{refl}
+use Rattle.printer.specs.Printer.{shown_text, remembered}
+use Rattle.printer.proofs.Rooms.{quiet}
+use Rattle.printer.proofs.width_given.Goals as goal
+
+pub returns : goal.returns
+unfolding shown_text remembered
+returns c = rw c.silent.ensures (quiet _ _ _ _ refl _ c.remember_width-after.ensures)
