@@ -20,7 +20,6 @@ ghost use Rattle.lictor_core.specs.Sizes.{features};
 ghost use Rattle.samples.specs.Samples.{sample_outcome, sample_input};
 ghost use Rattle.cases.specs.Cases.{name_text, wide_limits, clock_settings, clock_tick, clock_at, tick_after};
 
-use libc::STDOUT_FILENO;
 use lictor_core::ack::MaybeAck;
 use lictor_core::chunk::{ChunkHead, EE_POSITION, MaybeChunk};
 use lictor_core::envelope::{ACK_ONLY, Calibration, Hysteresis, PROJECT, Settings};
@@ -199,10 +198,13 @@ fn named(last: u32, missed: u8, t: u32) -> Line
     text::push(c, b": ")
 }
 
+// The number of standard output.
+const OUTPUT: i32 = 1;
+
 // Writes the first n bytes.
 fn write_part(text: &[u8], n: usize) {
     if n <= text.len() {
-        io::write_all(STDOUT_FILENO, &text[..n]);
+        io::write_all(OUTPUT, &text[..n]);
     }
 }
 

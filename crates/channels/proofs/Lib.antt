@@ -1,3 +1,4 @@
 -- Laws that belong to no one function.
 pub mod Front
 pub mod Reading
+pub mod Moving

@@ -1,5 +1,5 @@
 -- Memory after a read, and what the read is counted as.
-use Rattle.std.proofs.Common.{◌≡◌, ℕ, ◌+◌, ◌-◌, ◌%◌, ◌^◌, ◌<◌, ◌≤◌, min, true, false, List, [], ◌++◌, length, take, drop, sym, refl, ap, ◌∙◌, subst, append-nil, arith, length-append, length-drop, length-take, length-take-le, take_at, take-add}
+use Rattle.std.proofs.Common.{◌≡◌, ℕ, ◌+◌, ◌-◌, ◌%◌, ◌^◌, ◌<◌, ◌≤◌, min, false, List, [], ◌++◌, length, take, drop, sym, refl, ap, ◌∙◌, subst, append-nil, arith, length-append, length-drop, length-take, length-take-le, take_at, take-add}
 use borrow.Rule.Slice.PartMut.{put_mid}
 use Rattle.channels.specs.declared.intake.Got.{Got}
 use Rattle.channels.specs.declared.intake.Reads.{Reads}
@@ -52,10 +52,6 @@ module _ (b : List ℕ) (have a : ℕ) (q : a ≡ min have (length b)) (y : List
 
   read_front : take a after_read ≡ take a b
   read_front = take_at (take a b) (y ++ drop (length b - a) (drop a b)) a (length-take-le a b (omega (arith, q)))
-
-  -- the bytes that are said to have come are there
-  pub room_is : (n : ℕ) → n ≤ length (take (length after_read - a) (drop a after_read)) → n ≤ length b - a
-  room_is n k = omega (arith, k, length-take (length after_read - a) (drop a after_read), length-drop a after_read, read_long)
 
   -- n bytes came, and the read is counted
   pub came_is : (n : ℕ) (reads : Reads) (r : Got) → n ≤ length b - a → r.have ≡ a + n → r.reads.bytes ≡ (reads.bytes + n) % 2 ^ 64

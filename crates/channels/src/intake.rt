@@ -4,7 +4,7 @@ ghost use Rattle.std.specs.Prelude.{◌≡◌, false, take};
 ghost use Rattle.channels.specs.declared.intake.Supply.TheVariants as Supply;
 ghost use Rattle.channels.specs.Intake.{moved_down, is_spent, is_over, Came};
 
-use libc::STDIN_FILENO;
+use crate::streams::Streams;
 use lictor_core::num::least;
 
 // Moves the bytes from `at` to `have` down to the front.
@@ -74,20 +74,20 @@ pub struct Got {
 }
 
 // What a read that brought no bytes says; it answered 0, or not.
-fn none_came(zero: bool) -> Supply
+fn none_came(streams: &Streams, zero: bool) -> Supply
     ensures { (is_spent result ≡ false) × (is_over result ≡ zero) }
 {
     if zero {
         return Supply::Over;
     }
-    if os::errno() == libc::EINTR {
+    if streams.is_interrupted() {
         return Supply::More;
     }
     Supply::Failed
 }
 
 // Reads once after the first `have` bytes, and counts the read.
-pub fn read_more(buf: &mut [u8], have: usize, reads: Reads) -> Got
+pub fn read_more(streams: &mut Streams, buf: &mut [u8], have: usize, reads: Reads) -> Got
     ensures { Came (take have buf.old) reads result buf.new }
 {
     let front = least(have, buf.len());
@@ -102,8 +102,7 @@ pub fn read_more(buf: &mut [u8], have: usize, reads: Reads) -> Got
             reads: spent,
         };
     }
-    let got = libc::read(STDIN_FILENO, &mut buf[front..]);
-    let came = io::count(got, &buf[front..]);
+    let came = streams.read(&mut buf[front..]);
     let made = reads.made + 1;
     let bytes = std::num::wrapping_add_u64(reads.bytes, came as u64);
     if came != 0 {
@@ -118,7 +117,7 @@ pub fn read_more(buf: &mut [u8], have: usize, reads: Reads) -> Got
             reads: more,
         };
     }
-    let last = none_came(got == 0);
+    let last = none_came(streams, !streams.has_failed());
     let none = Reads { made, bytes, last };
     Got {
         have: front,

@@ -5,3 +5,4 @@
 
 pub mod intake; // the bytes that are at hand
 pub mod outlet; // what is written
+pub mod streams; // standard input, standard output and standard error

@@ -2,7 +2,7 @@
 // it is handed over.
 ghost use Rattle.std.specs.Prelude.{◌≡◌, ◌+◌, ◌%◌, ◌^◌, true, false, length};
 
-use libc::{STDERR_FILENO, STDOUT_FILENO};
+use crate::streams::Streams;
 
 #[derive(Clone, Copy)]
 pub struct Written {
@@ -25,26 +25,25 @@ pub fn nothing() -> Written
     }
 }
 
-// Writes all of `part`, and answers whether that failed, or a write before it. Whether it failed is
-// the operating system's answer.
-fn write(channel: i32, part: &[u8], before: bool) -> bool
+// Whether a write failed: this one, or one before it. Whether this one did is the operating system's
+// answer.
+fn either_failed(this: bool, before: bool) -> bool
     ensures { before ≡ true → result ≡ true }
 {
-    let failed = !io::write_all(channel, part);
     if before {
         return true;
     }
-    failed
+    this
 }
 
 // Hands over all of `part` to standard output.
-pub fn put(w: Written, part: &[u8]) -> Written
+pub fn put(streams: &mut Streams, w: Written, part: &[u8]) -> Written
     ensures bytes_value { result.bytes ≡ (w.bytes + length part.now) % 2 ^ 64 }
     ensures beside_value { result.beside ≡ w.beside }
     ensures failed_value { w.failed ≡ true → result.failed ≡ true }
 {
     let bytes = std::num::wrapping_add_u64(w.bytes, part.len() as u64);
-    let failed = write(STDOUT_FILENO, part, w.failed);
+    let failed = either_failed(!streams.put(part), w.failed);
     Written {
         bytes,
         beside: w.beside,
@@ -53,13 +52,13 @@ pub fn put(w: Written, part: &[u8]) -> Written
 }
 
 // Hands over all of `part` to standard error.
-pub fn put_beside(w: Written, part: &[u8]) -> Written
+pub fn put_beside(streams: &mut Streams, w: Written, part: &[u8]) -> Written
     ensures bytes_value { result.bytes ≡ w.bytes }
     ensures beside_value { result.beside ≡ (w.beside + length part.now) % 2 ^ 64 }
     ensures failed_value { w.failed ≡ true → result.failed ≡ true }
 {
     let beside = std::num::wrapping_add_u64(w.beside, part.len() as u64);
-    let failed = write(STDERR_FILENO, part, w.failed);
+    let failed = either_failed(!streams.put_beside(part), w.failed);
     Written {
         bytes: w.bytes,
         beside,
@@ -77,21 +76,25 @@ pub fn has_failed(w: Written) -> bool
 // ---- what a program says of its own input and output, on standard error: no part of any text, so
 // it is in no count
 
-// Says that something failed in the program of this name: one line, with errno's text, so no other
-// call of the operating system may fail before it.
-pub fn say_failed(w: Written, name: &[u8], what: &[u8]) -> Written
+// Says that something failed in the program of this name: one line, with the system's text of why
+// the last call failed, so no other call may come between.
+pub fn say_failed(streams: &mut Streams, w: Written, name: &[u8], what: &[u8]) -> Written
     ensures { result ≡ w }
 {
-    io::write_all(STDERR_FILENO, name);
-    os::fail(what);
+    let error = streams.error();
+    streams.put_beside(name);
+    streams.put_beside(what);
+    streams.put_beside(b": ");
+    streams.put_error(error);
+    streams.put_beside(b"\n");
     w
 }
 
 // Says something, after the name of the program.
-pub fn say(w: Written, name: &[u8], what: &[u8]) -> Written
+pub fn say(streams: &mut Streams, w: Written, name: &[u8], what: &[u8]) -> Written
     ensures { result ≡ w }
 {
-    io::write_all(STDERR_FILENO, name);
-    io::write_all(STDERR_FILENO, what);
+    streams.put_beside(name);
+    streams.put_beside(what);
     w
 }

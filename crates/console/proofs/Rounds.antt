@@ -1,8 +1,8 @@
 -- Round by round: reading, playing, and what is left over.
-use Prim.Native.Nat.{ℕ, ◌+◌, ◌-◌, ◌*◌, ◌≤◌, ◌<◌, ◌%◌, ◌^◌}
+use Prim.Native.Nat.{ℕ, ◌+◌, ◌-◌, ◌≤◌, ◌<◌, ◌%◌, ◌^◌}
 use mathlib.Core.Path.{◌≡◌, refl, sym, ap, subst, ◌∙◌}
-use mathlib.Core.List.{List, [], ◌∷◌, ◌++◌, append-nil}
-use mathlib.Core.Bool.{Bool, true, false}
+use mathlib.Core.List.{List, [], ◌++◌, append-nil}
+use mathlib.Core.Bool.{false}
 use native.Mathlib.Omega.{arith}
 use lib.ListN.{length, take, drop, length-append, length-drop}
 use lib.Seq.{take_at, length-take-le}
@@ -17,7 +17,7 @@ use Rattle.journal_reader.specs.Reading.{Instruction, on_bytes}
 use Rattle.journal_reader.proofs.Reading.{machine, waits_short}
 use Rattle.channels.specs.declared.intake.Reads.{Reads}
 use Rattle.channels.specs.declared.outlet.Written.{Written}
-use Rattle.channels.specs.Intake.{moved_down, most_reads, may_come, Came}
+use Rattle.channels.specs.Intake.{moved_down, may_come, Came}
 use Rattle.printer.specs.declared.Channel.TheVariants.{Output}
 use Rattle.printer.specs.Printer.{Shows, event_room, printed, printer_after_all, showing}
 use Rattle.player.specs.declared.Played.{Played}
@@ -25,7 +25,7 @@ use Rattle.player.specs.Play.{playing_from, text_by, number_at, Rests, Fed}
 use Rattle.player.proofs.Following.{Followed, followed}
 use Rattle.console.specs.declared.Phase.TheVariants.{Plays, Waits}
 use Rattle.console.specs.declared.Round.{Round}
-use Rattle.console.specs.Phases.{is_unwritten, phase_read}
+use Rattle.console.specs.Phases.{is_unwritten}
 use Rattle.console.specs.Console.{buffer_room, reader_in, at_hand, KnownIn, Fits, Sound, HandedOn, round_played, PlayedRound, round_read, ReadRound, Rounded}
 use Rattle.console.proofs.Phases.{wrote_played, stops_played, less_played, wrote_read, stops_read, most_read, few_read, less_read}
 

@@ -1,17 +1,15 @@
 -- A run: what was read so far, and how it ends.
-use Prim.Native.Nat.{ℕ, zero, suc, ◌+◌, ◌-◌, ◌*◌, ◌≤◌, ◌<◌, ◌%◌, ◌^◌}
+use Prim.Native.Nat.{ℕ, suc, ◌+◌, ◌-◌, ◌<◌, ◌%◌, ◌^◌}
 use mathlib.Core.Path.{◌≡◌, refl, sym, ap, ap₂, subst, ◌∙◌}
-use mathlib.Core.List.{List, [], ◌∷◌, ◌++◌, append-nil, append_assoc}
+use mathlib.Core.List.{List, [], ◌∷◌, ◌++◌, append-nil}
 use mathlib.Core.Bool.{Bool, true, false, cond}
 use native.Mathlib.Omega.{arith}
 use lib.ListN.{length, take, length-append}
 use lib.Seq.{length-take-le}
 use lib.Ieee.{Float}
-use borrow.Author.Tests.{eq-eqb, ne_eqb}
+use borrow.Author.Tests.{ne_eqb}
 use Rattle.lictor_core.specs.Initial.{zeros}
 use Rattle.journal_refusals.specs.declared.Refusal.{Refusal}
-use Rattle.journal_refusals.specs.declared.Refusal.TheVariants.{CutBody}
-use Rattle.journal_refusals.specs.Table.{number_of}
 use Rattle.journal_refusals.proofs.Exactly.{numbers}
 use Rattle.stream.specs.Stream.{End, awaits, halted, Settled, telling, settled}
 use Rattle.stream.proofs.Stream.{impossible, telling_telling}
@@ -26,9 +24,8 @@ use Rattle.journal.specs.Journal.{start_state, start_run, Ending, ended, refused
 use Rattle.journal.proofs.Events.{run_joined, events_joined}
 use Rattle.journal.proofs.Parts.{meaning_is}
 use Rattle.channels.specs.declared.intake.Reads.{Reads}
-use Rattle.channels.specs.declared.intake.Supply.TheVariants.{More, Over, Failed}
+use Rattle.channels.specs.declared.intake.Supply.TheVariants.{More}
 use Rattle.channels.specs.declared.outlet.Written.{Written}
-use Rattle.channels.specs.Intake.{most_reads}
 use Rattle.printer.specs.declared.Notes.{Notes}
 use Rattle.printer.specs.declared.Channel.{Channel}
 use Rattle.printer.specs.declared.Channel.TheVariants.{Output, Errors}
@@ -37,14 +34,14 @@ use Rattle.printer.proofs.Parts.{after_append, text_append}
 use Rattle.printer.proofs.Rooms.{ended_by, refused_by_lem, ended_on, refused_on}
 use Rattle.text.specs.Memory.{Put}
 use Rattle.text.proofs.Puts.{put_shows}
-use Rattle.player.specs.Play.{text_by, number_at, Rests}
+use Rattle.player.specs.Play.{text_by, number_at}
 use Rattle.player.proofs.Feeding as F
 use Rattle.console.specs.declared.Phase.{Phase}
 use Rattle.console.specs.declared.Phase.TheVariants.{Plays, Waits, Refused, InputOver, ReadFailed, ReadsOver, WriteFailed}
 use Rattle.console.specs.declared.Round.{Round}
 use Rattle.console.specs.declared.Ended.{Ended}
 use Rattle.console.specs.Phases.{is_going, is_unwritten, has_ending, phase_ended, number_left, number_ended}
-use Rattle.console.specs.Console.{reader_in, at_hand, KnownIn, Fits, Sound, HandedOn, Rounded, Past, Through, number_in, ending_in, EndingPut, ended_of, Closed, end_number, end_place, Answers, Halts, Pauses, StartsWith, EndsBy, Ran}
+use Rattle.console.specs.Console.{reader_in, at_hand, KnownIn, Sound, HandedOn, Rounded, Past, Through, number_in, ending_in, EndingPut, ended_of, Closed, end_number, end_place, Answers, Halts, Pauses, StartsWith, EndsBy, Ran}
 use Rattle.console.proofs.Phases.{wrote_ended}
 use Rattle.console.proofs.Rounds.{more_bytes}
 

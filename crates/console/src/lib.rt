@@ -13,10 +13,12 @@ ghost use Rattle.console.specs.Console.{buffer_room, Fits, Sound, HandedOn, Play
 
 use channels::intake::{Reads, Supply, last, move_down, no_reads, read_more};
 use channels::outlet::{Written, has_failed, nothing, say, say_failed};
+use channels::streams::Streams;
 use journal::tick::Run;
 use journal_reader::waiting::{PLACES, Reader};
 use journal_refusals::Refusal;
 use printer::{Channel, Notes};
+use std::rt::HostRuntime;
 
 // ---- whether it goes on, or why not
 
@@ -138,15 +140,16 @@ struct Round {
 }
 
 // Hands over the first n bytes to standard output.
-fn put_part(w: Written, out: &[u8], n: usize) -> Written
+fn put_part(streams: &mut Streams, w: Written, out: &[u8], n: usize) -> Written
     requires { n ≤ length out.now }
     ensures { HandedOn C.Output w n result }
 {
-    channels::outlet::put(w, &out[..n])
+    channels::outlet::put(streams, w, &out[..n])
 }
 
 // Plays what is to be had of the bytes at hand, writes its text, and moves the rest to the front.
 fn play_round(
+    streams: &mut Streams,
     kinds: &[u16],
     shows: u8,
     r: Round,
@@ -168,7 +171,7 @@ fn play_round(
         &buf[..have],
         out,
     );
-    let written = put_part(r.written, out, played.n);
+    let written = put_part(streams, r.written, out, played.n);
     move_down(buf, played.at, have);
     let reader = played.reader;
     let run = played.run;
@@ -191,11 +194,11 @@ fn play_round(
 }
 
 // Reads once after the bytes that wait.
-fn read_round(r: Round, buf: &mut [u8]) -> Round
+fn read_round(streams: &mut Streams, r: Round, buf: &mut [u8]) -> Round
     requires { r.have < length buf.old }
     ensures { ReadRound r buf.old result buf.new }
 {
-    let got = read_more(buf, r.have, r.reads);
+    let got = read_more(streams, buf, r.have, r.reads);
     let reads = got.reads;
     let phase = phase_read(last(reads));
     let reader = r.reader;
@@ -217,6 +220,7 @@ fn read_round(r: Round, buf: &mut [u8]) -> Round
 
 // Plays, or reads where nothing more is to be had of the bytes at hand.
 fn go_on(
+    streams: &mut Streams,
     kinds: &[u16],
     shows: u8,
     r: Round,
@@ -229,13 +233,14 @@ fn go_on(
 {
     let phase = r.phase;
     if is_waiting(phase) {
-        return read_round(r, buf);
+        return read_round(streams, r, buf);
     }
-    play_round(kinds, shows, r, lists, buf, out)
+    play_round(streams, kinds, shows, r, lists, buf, out)
 }
 
 // Round by round to the end of the input, to the first refusal, or to a failure.
 fn run_rounds(
+    streams: &mut Streams,
     kinds: &[u16],
     shows: u8,
     lists: &mut [f64; PLACES],
@@ -264,7 +269,7 @@ fn run_rounds(
     let mut more = true;
     while more {
         let before = round;
-        round = go_on(kinds, shows, before, lists, buf, out);
+        round = go_on(streams, kinds, shows, before, lists, buf, out);
         let phase = round.phase;
         more = is_going(phase);
     }
@@ -313,18 +318,18 @@ fn number_ended(phase: Phase, refused: u8, have: usize) -> u8
 }
 
 // Hands over the first n bytes on a channel.
-fn put_on(channel: Channel, w: Written, out: &[u8], n: usize) -> Written
+fn put_on(streams: &mut Streams, channel: Channel, w: Written, out: &[u8], n: usize) -> Written
     requires { n ≤ length out.now }
     ensures { HandedOn channel w n result }
 {
     match channel {
-        Channel::Output => put_part(w, out, n),
-        Channel::Errors => channels::outlet::put_beside(w, &out[..n]),
+        Channel::Output => put_part(streams, w, out, n),
+        Channel::Errors => channels::outlet::put_beside(streams, w, &out[..n]),
     }
 }
 
 // Hands over the text of the ending, if there is one, on its channel.
-fn put_ending(shows: u8, r: Round, refused: u8, out: &mut [u8]) -> Written
+fn put_ending(streams: &mut Streams, shows: u8, r: Round, refused: u8, out: &mut [u8]) -> Written
     requires { (ending_room ≤ length out.old) × (r.written.bytes < 2 ^ 64) × (r.written.beside < 2 ^ 64) }
     ensures { EndingPut (shows_by shows) r refused result out.new }
 {
@@ -332,33 +337,33 @@ fn put_ending(shows: u8, r: Round, refused: u8, out: &mut [u8]) -> Written
     if has_ending(phase) {
         let n = printer::ended(shows, r.notes, r.run, refused, r.place, out);
         let channel = printer::ending_on(shows, refused);
-        return put_on(channel, r.written, out, n);
+        return put_on(streams, channel, r.written, out, n);
     }
     let written = r.written;
     written
 }
 
 // Says on standard error what failed outside the journal; that is in no count.
-pub fn say_why(name: &[u8], phase: Phase, w: Written) -> Written
+pub fn say_why(streams: &mut Streams, name: &[u8], phase: Phase, w: Written) -> Written
     ensures { result ≡ w }
 {
     match phase {
-        Phase::ReadFailed => say_failed(w, name, b": reading failed"),
-        Phase::ReadsOver => say(w, name, b": too many reads\n"),
-        Phase::WriteFailed => say_failed(w, name, b": writing failed"),
+        Phase::ReadFailed => say_failed(streams, w, name, b": reading failed"),
+        Phase::ReadsOver => say(streams, w, name, b": too many reads\n"),
+        Phase::WriteFailed => say_failed(streams, w, name, b": writing failed"),
         Phase::Plays | Phase::Waits | Phase::Refused | Phase::InputOver => w,
     }
 }
 
-fn close(name: &[u8], shows: u8, r: Round, out: &mut [u8]) -> Ended
+fn close(streams: &mut Streams, name: &[u8], shows: u8, r: Round, out: &mut [u8]) -> Ended
     requires { (ending_room ≤ length out.old) × (r.written.bytes < 2 ^ 64) × (r.written.beside < 2 ^ 64) }
     ensures { Closed (shows_by shows) r result out.new }
 {
     let before = r.phase;
     let refused = number_ended(before, r.refused, r.have);
-    let handed = put_ending(shows, r, refused, out);
+    let handed = put_ending(streams, shows, r, refused, out);
     let phase = phase_ended(before, has_failed(handed));
-    let written = say_why(name, phase, handed);
+    let written = say_why(streams, name, phase, handed);
     let run = r.run;
     let reads = r.reads;
     Ended {
@@ -379,13 +384,14 @@ fn no_lists() -> [f64; PLACES]
 
 // Plays the journal on standard input; LINES or TRACE of `printer` says what is shown. `name` is
 // that of the program, for what it says of input and output that fail.
-pub fn play(name: &[u8], shows: u8) -> Ended
+pub fn play(rt: &HostRuntime, name: &[u8], shows: u8) -> Ended
     ensures { Ran (printer_by shows at_start) result }
 {
+    let mut streams = Streams::new(rt);
     let kinds = printer::kinds_taken(shows);
     let mut lists = no_lists();
     let mut buf = io::large_buffer();
     let mut out = io::large_buffer();
-    let round = run_rounds(&kinds, shows, &mut lists, &mut buf, &mut out);
-    close(name, shows, round, &mut out)
+    let round = run_rounds(&mut streams, &kinds, shows, &mut lists, &mut buf, &mut out);
+    close(&mut streams, name, shows, round, &mut out)
 }

@@ -1,20 +1,20 @@
 -- Round by round: reading, converting, and what is left over.
-use Prim.Native.Nat.{ℕ, ◌+◌, ◌-◌, ◌*◌, ◌≤◌, ◌<◌, ◌%◌, ◌^◌}
+use Prim.Native.Nat.{ℕ, ◌+◌, ◌-◌, ◌≤◌, ◌<◌, ◌%◌, ◌^◌}
 use mathlib.Core.Path.{◌≡◌, refl, sym, ap, subst, ◌∙◌}
-use mathlib.Core.List.{List, [], ◌∷◌, ◌++◌, append-nil}
-use mathlib.Core.Bool.{Bool, true, false}
+use mathlib.Core.List.{List, [], ◌++◌, append-nil}
+use mathlib.Core.Bool.{false}
 use native.Mathlib.Omega.{arith}
-use lib.ListN.{length, take, drop, length-append, length-drop}
-use lib.Seq.{take_at, length-take-le}
+use lib.ListN.{length, take, drop, length-append}
+use lib.Seq.{length-take-le}
 use Rattle.stream.specs.Stream.{wait, End, awaits, halted, telling, settled}
 use Rattle.stream.proofs.Stream.{joined, settled_still, telling_telling}
 use Rattle.journal_frames.specs.Frames.{Framed, bytes_of}
 use Rattle.channels.specs.declared.intake.Reads.{Reads}
 use Rattle.channels.specs.declared.outlet.Written.{Written}
-use Rattle.channels.specs.Intake.{moved_down, most_reads, may_come, Came}
+use Rattle.channels.specs.Intake.{moved_down, may_come, Came}
 use Rattle.printer.specs.declared.Channel.TheVariants.{Output}
 use Rattle.console.specs.declared.Phase.TheVariants.{Plays, Waits}
-use Rattle.console.specs.Phases.{is_unwritten, phase_read}
+use Rattle.console.specs.Phases.{is_unwritten}
 use Rattle.console.specs.Console.{buffer_room, HandedOn}
 use Rattle.console.proofs.Phases.{wrote_played, less_played, wrote_read, most_read, few_read, less_read}
 use Rattle.console.proofs.Rounds.{moved_front, moved_long}
@@ -22,7 +22,7 @@ use Rattle.journal_forms.specs.declared.Form.{Form}
 use Rattle.journal_forms.specs.declared.Cause.{Cause}
 use Rattle.journal_forms.specs.declared.Converted.{Converted}
 use Rattle.journal_forms.specs.Forms.{other, record_most}
-use Rattle.journal_forms.specs.Conversion.{on_form, number_of}
+use Rattle.journal_forms.specs.Conversion.{on_form}
 use Rattle.journal_forms.specs.Turns.{number_at, Rests, PartConverted}
 use Rattle.journal_forms.proofs.Records.{form_machine, waits_short, some_number}
 use Rattle.journal_forms.proofs.Turning.{Followed, followed}

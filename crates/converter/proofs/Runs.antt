@@ -1,10 +1,9 @@
 -- A run: what was read so far, and how it ends.
-use Prim.Native.Nat.{ℕ, zero, suc, ◌+◌, ◌-◌, ◌*◌, ◌≤◌, ◌<◌, ◌%◌, ◌^◌}
+use Prim.Native.Nat.{ℕ, suc, ◌+◌, ◌-◌, ◌<◌, ◌^◌}
 use mathlib.Core.Path.{◌≡◌, refl, sym, ap, ap₂, subst, ◌∙◌}
-use mathlib.Core.List.{List, [], ◌∷◌, ◌++◌, append-nil, append_assoc}
+use mathlib.Core.List.{List, [], ◌∷◌, ◌++◌, append-nil}
 use mathlib.Core.Bool.{Bool, true, false, cond}
 use native.Mathlib.Omega.{arith}
-use lib.Dec.{eqb}
 use lib.ListN.{length, take, length-append}
 use lib.Seq.{length-take-le}
 use borrow.Author.Tests.{eq-eqb, ne_eqb}
@@ -12,10 +11,9 @@ use Rattle.stream.specs.Stream.{End, awaits, halted, Settled, telling, settled}
 use Rattle.stream.proofs.Stream.{impossible, telling_telling}
 use Rattle.journal_frames.specs.Frames.{Framed, bytes_of}
 use Rattle.channels.specs.declared.intake.Reads.{Reads}
-use Rattle.channels.specs.declared.intake.Supply.TheVariants.{More, Over, Failed}
+use Rattle.channels.specs.declared.intake.Supply.TheVariants.{More}
 use Rattle.channels.specs.declared.outlet.Written.{Written}
-use Rattle.channels.specs.Intake.{most_reads}
-use Rattle.printer.specs.declared.Channel.TheVariants.{Output, Errors}
+use Rattle.printer.specs.declared.Channel.TheVariants.{Errors}
 use Rattle.report.specs.Lines.{refused_text}
 use Rattle.text.specs.Memory.{Put}
 use Rattle.text.proofs.Puts.{put_shows}
@@ -27,15 +25,14 @@ use Rattle.console.proofs.Phases.{wrote_ended}
 use Rattle.console.proofs.Runs.{counts_on}
 use Rattle.journal_forms.specs.declared.Form.{Form}
 use Rattle.journal_forms.specs.declared.Cause.{Cause}
-use Rattle.journal_forms.specs.declared.Cause.TheVariants.{CutBody}
 use Rattle.journal_forms.specs.Forms.{other}
-use Rattle.journal_forms.specs.Conversion.{on_form, Ending, ended, refused, ending_of, Conversion, conversion_of, converted_bytes, number_of}
-use Rattle.journal_forms.specs.Turns.{number_at, Rests}
+use Rattle.journal_forms.specs.Conversion.{on_form, Ending, ended, refused, ending_of, Conversion, conversion_of, number_of}
+use Rattle.journal_forms.specs.Turns.{number_at}
 use Rattle.journal_forms.proofs.Records.{some_number}
 use Rattle.journal_forms.proofs.Turning.{bytes_append}
 use Rattle.converter.specs.declared.Round.{Round}
 use Rattle.converter.specs.declared.Ended.{Ended}
-use Rattle.converter.specs.Converter.{at_hand, KnownIn, Fits, Sound, Rounded, Past, Through, number_left, number_ended, number_in, refusal_by, ending_in, LinePut, EndingPut, ended_of, Closed, written_of, refusal_text, beside_of, end_number, end_place, Answers, Halts, Pauses, EndsBy, Ran}
+use Rattle.converter.specs.Converter.{at_hand, KnownIn, Sound, Rounded, Past, Through, number_left, number_ended, number_in, refusal_by, ending_in, LinePut, EndingPut, ended_of, Closed, written_of, refusal_text, beside_of, end_number, end_place, Answers, Halts, Pauses, EndsBy, Ran}
 use Rattle.converter.proofs.Rounds.{more_bytes}
 
 -- ---- round after round

@@ -12,10 +12,12 @@ ghost use Rattle.converter.specs.Converter.{Fits, Sound, TakenRound, ReadRound, 
 
 use channels::intake::{Reads, last, move_down, no_reads, read_more};
 use channels::outlet::{Written, has_failed, nothing};
+use channels::streams::Streams;
 use console::{
     Phase, has_ending, is_going, is_waiting, phase_ended, phase_played, phase_read, say_why,
 };
 use journal_forms::{Cause, Form};
+use std::rt::HostRuntime;
 use text::memory::put_line;
 
 // ---- round by round
@@ -33,21 +35,27 @@ struct Round {
 }
 
 // Hands over the first n bytes to standard output.
-fn put_part(w: Written, out: &[u8], n: usize) -> Written
+fn put_part(streams: &mut Streams, w: Written, out: &[u8], n: usize) -> Written
     requires { n ≤ length out.now }
     ensures { HandedOn C.Output w n result }
 {
-    channels::outlet::put(w, &out[..n])
+    channels::outlet::put(streams, w, &out[..n])
 }
 
 // Converts what is to be had of the bytes at hand, writes it, and moves the rest to the front.
-fn convert_round(from: Form, r: Round, buf: &mut [u8], out: &mut [u8]) -> Round
+fn convert_round(
+    streams: &mut Streams,
+    from: Form,
+    r: Round,
+    buf: &mut [u8],
+    out: &mut [u8],
+) -> Round
     requires { Fits r buf.old }
     ensures { TakenRound from r buf.old out.old result buf.new out.new }
 {
     let have = r.have;
     let converted = journal_forms::convert(from, &buf[..have], out);
-    let written = put_part(r.written, out, converted.n);
+    let written = put_part(streams, r.written, out, converted.n);
     move_down(buf, converted.at, have);
     let reads = r.reads;
     let phase = phase_played(has_failed(written), converted.more, converted.refused);
@@ -64,11 +72,11 @@ fn convert_round(from: Form, r: Round, buf: &mut [u8], out: &mut [u8]) -> Round
 }
 
 // Reads once after the bytes that wait.
-fn read_round(r: Round, buf: &mut [u8]) -> Round
+fn read_round(streams: &mut Streams, r: Round, buf: &mut [u8]) -> Round
     requires { r.have < length buf.old }
     ensures { ReadRound r buf.old result buf.new }
 {
-    let got = read_more(buf, r.have, r.reads);
+    let got = read_more(streams, buf, r.have, r.reads);
     let reads = got.reads;
     let phase = phase_read(last(reads));
     let written = r.written;
@@ -83,19 +91,19 @@ fn read_round(r: Round, buf: &mut [u8]) -> Round
 }
 
 // Converts, or reads where nothing more is to be had of the bytes at hand.
-fn go_on(from: Form, r: Round, buf: &mut [u8], out: &mut [u8]) -> Round
+fn go_on(streams: &mut Streams, from: Form, r: Round, buf: &mut [u8], out: &mut [u8]) -> Round
     requires { (Sound from r buf.old) × (is_going r.phase ≡ true) × (buffer_room ≡ length buf.old) × (record_most ≤ length out.old) }
     ensures { Rounded from r buf.old result buf.new }
 {
     let phase = r.phase;
     if is_waiting(phase) {
-        return read_round(r, buf);
+        return read_round(streams, r, buf);
     }
-    convert_round(from, r, buf, out)
+    convert_round(streams, from, r, buf, out)
 }
 
 // Round by round to the end of the input, to the first refusal, or to a failure.
-fn run_rounds(from: Form, buf: &mut [u8], out: &mut [u8]) -> Round
+fn run_rounds(streams: &mut Streams, from: Form, buf: &mut [u8], out: &mut [u8]) -> Round
     requires { (buffer_room ≡ length buf.old) × (record_most ≤ length out.old) }
     ensures { Through from result buf.new }
 {
@@ -112,7 +120,7 @@ fn run_rounds(from: Form, buf: &mut [u8], out: &mut [u8]) -> Round
     let mut more = true;
     while more {
         let before = round;
-        round = go_on(from, before, buf, out);
+        round = go_on(streams, from, before, buf, out);
         let phase = round.phase;
         more = is_going(phase);
     }
@@ -160,48 +168,48 @@ fn number_ended(phase: Phase, refused: u8, have: usize) -> u8
 }
 
 // Hands over the first n bytes to standard error.
-fn put_beside(w: Written, out: &[u8], n: usize) -> Written
+fn put_beside(streams: &mut Streams, w: Written, out: &[u8], n: usize) -> Written
     requires { n ≤ length out.now }
     ensures { HandedOn C.Errors w n result }
 {
-    channels::outlet::put_beside(w, &out[..n])
+    channels::outlet::put_beside(streams, w, &out[..n])
 }
 
 // Hands over the line of a refusal to standard error; nothing where its number is 0.
-fn put_refusal(r: Round, refused: u8, out: &mut [u8]) -> Written
+fn put_refusal(streams: &mut Streams, r: Round, refused: u8, out: &mut [u8]) -> Written
     requires { (line_room ≤ length out.old) × (r.written.beside < 2 ^ 64) }
     ensures { LinePut r.written (refusal_by refused r.place) result out.new }
 {
     if refused != 0 {
         let n = put_line(out, 0, report::refused_line(refused, r.place));
-        return put_beside(r.written, out, n);
+        return put_beside(streams, r.written, out, n);
     }
     let written = r.written;
     written
 }
 
 // That of the ending, if it has one.
-fn put_ending(r: Round, refused: u8, out: &mut [u8]) -> Written
+fn put_ending(streams: &mut Streams, r: Round, refused: u8, out: &mut [u8]) -> Written
     requires { (line_room ≤ length out.old) × (r.written.beside < 2 ^ 64) }
     ensures { EndingPut r refused result out.new }
 {
     let phase = r.phase;
     if has_ending(phase) {
-        return put_refusal(r, refused, out);
+        return put_refusal(streams, r, refused, out);
     }
     let written = r.written;
     written
 }
 
-fn close(name: &[u8], r: Round, out: &mut [u8]) -> Ended
+fn close(streams: &mut Streams, name: &[u8], r: Round, out: &mut [u8]) -> Ended
     requires { (line_room ≤ length out.old) × (r.written.beside < 2 ^ 64) }
     ensures { Closed r result out.new }
 {
     let before = r.phase;
     let refused = number_ended(before, r.refused, r.have);
-    let handed = put_ending(r, refused, out);
+    let handed = put_ending(streams, r, refused, out);
     let phase = phase_ended(before, has_failed(handed));
-    let written = say_why(name, phase, handed);
+    let written = say_why(streams, name, phase, handed);
     let reads = r.reads;
     Ended {
         place: r.place,
@@ -214,11 +222,12 @@ fn close(name: &[u8], r: Round, out: &mut [u8]) -> Ended
 
 // Converts the journal on standard input, which has this form, to the other. `name` is that of the
 // program, for what it says of input and output that fail.
-pub fn convert(name: &[u8], from: Form) -> Ended
+pub fn convert(rt: &HostRuntime, name: &[u8], from: Form) -> Ended
     ensures { Ran from result }
 {
+    let mut streams = Streams::new(rt);
     let mut buf = io::large_buffer();
     let mut out = io::large_buffer();
-    let round = run_rounds(from, &mut buf, &mut out);
-    close(name, round, &mut out)
+    let round = run_rounds(&mut streams, from, &mut buf, &mut out);
+    close(&mut streams, name, round, &mut out)
 }

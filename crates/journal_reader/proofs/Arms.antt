@@ -1,31 +1,36 @@
--- An arm of a `match` that several variants share: what holds of each of them.
-use mathlib.Core.Path.{◌≡◌, refl}
-use mathlib.Core.Bool.{true, false}
-use mathlib.Core.Logic.{◌⊎◌, inl, inr}
+-- An arm of a `match` that several cases of an enum share: what a function gives there.
 use Prim.Native.Nat.{ℕ}
-use lib.Ieee.{Float}
-use Rattle.lictor_core.specs.declared.ack.VerifiedAck.{VerifiedAck}
-use Rattle.lictor_core.specs.declared.chunk.ChunkHead.{ChunkHead}
-use Rattle.journal_records.specs.declared.TickNumbers.{TickNumbers}
-use Rattle.journal_records.specs.declared.Record.{Record}
-use Rattle.journal_records.specs.declared.Record.TheVariants.{Settings, Reset, Ack, Head, Value, Outcome, Tick, Width}
-use Rattle.journal_refusals.specs.declared.Refusal.{Refusal}
-use Rattle.journal_reader.specs.declared.Look.{Look}
-use Rattle.journal_reader.specs.declared.Look.TheVariants.{Waits, Refuses}
-use Rattle.journal_reader.specs.Steps.{is_small, looks_small}
+use mathlib.Core.Path.{◌≡◌, ap, ◌∙◌}
+use mathlib.Core.Logic.{inl, inr}
+use mathlib.Core.List.{List, [], ◌∷◌}
+use denote.Enum.Declared.{Record, declared, tag_of}
+use borrow.Enum.Known.{ValuesAt, at, lives_at}
+use types.Run.{OneOf}
 
-pub arm_big : (x : Record) → (x ≡ Settings) ⊎ ((x ≡ Reset) ⊎ ((x ≡ Outcome) ⊎ (((t : TickNumbers) × (x ≡ Tick t)) ⊎ ((w : Float) × (x ≡ Width w))))) → is_small x ≡ false
-arm_big x (inl e) = rw e refl
-arm_big x (inr (inl e)) = rw e refl
-arm_big x (inr (inr (inl e))) = rw e refl
-arm_big x (inr (inr (inr (inl (t, e))))) = rw e refl
-arm_big x (inr (inr (inr (inr (w, e))))) = rw e refl
+module _ (N : Record) {X : Type 0} (f : N.D → X) (y : X) where
+  -- f gives y at the cases with these numbers, whatever they hold
+  abbrev pub GivesAt : List ℕ → Type 0
+  GivesAt [] = Unit {0}
+  GivesAt (k ∷ ks) = ((v : ValuesAt N.parts k) → f (at N k v) ≡ y) × GivesAt ks
 
-pub arm_small : (x : Record) → ((a : VerifiedAck) × (x ≡ Ack a)) ⊎ (((h : ChunkHead) × (x ≡ Head h)) ⊎ ((c : ℕ) × (v : Float) × (x ≡ Value c v))) → is_small x ≡ true
-arm_small x (inl (a, e)) = rw e refl
-arm_small x (inr (inl (h, e))) = rw e refl
-arm_small x (inr (inr (c, v, e))) = rw e refl
+  module _ (x : N.D) where
+    -- f gives y at x, where x is of one of the cases that C says
+    pub record Gives (C : Type 0) : Type 0 where
+      pub gives : C → f x ≡ y
 
-pub arm_none : (x : Look) → (x ≡ Waits) ⊎ ((r : Refusal) × (x ≡ Refuses r)) → looks_small x ≡ false
-arm_none x (inl e) = rw e refl
-arm_none x (inr (r, e)) = rw e refl
+    one : (k : ℕ) → ((v : ValuesAt N.parts k) → f (at N k v) ≡ y) → tag_of (declared N) x ≡ k → f x ≡ y
+    one k h e = let l = lives_at N x k e in ap f l.1 ∙ h l.0
+
+    by_keys : (ks : List ℕ) → GivesAt ks → OneOf ks (tag_of (declared N) x) → f x ≡ y
+    by_keys [] h k = absurd k
+    by_keys (j ∷ []) h k = one j h.0 k
+    by_keys (j ∷ i ∷ ks) h (inl k) = one j h.0 k
+    by_keys (j ∷ i ∷ ks) h (inr k) = by_keys (i ∷ ks) h.1 k
+
+    -- so it does where C is what the arm of these cases is told
+    pub keyed : (ks : List ℕ) → GivesAt ks → Gives (OneOf ks (tag_of (declared N) x))
+    keyed ks h = record { gives = by_keys ks h }
+
+    -- in an arm: `search (keyed N f y x)` takes the numbers from what the arm is told
+    pub in_arm : {C : Type 0} → C → Gives C → f x ≡ y
+    in_arm c g = g.gives c

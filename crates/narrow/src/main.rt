@@ -5,7 +5,8 @@
 #![tactic(auto)]
 
 use journal_forms::Form;
+use std::rt::HostRuntime;
 
-fn main() {
-    converter::convert(b"narrow", Form::Wide);
+fn main(rt: HostRuntime) {
+    converter::convert(&rt, b"narrow", Form::Wide);
 }

@@ -4,6 +4,8 @@
 // All that matters is in the libraries (crates/console).
 #![tactic(auto)]
 
-fn main() {
-    console::play(b"pages", printer::PAGES);
+use std::rt::HostRuntime;
+
+fn main(rt: HostRuntime) {
+    console::play(&rt, b"pages", printer::PAGES);
 }

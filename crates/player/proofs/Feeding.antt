@@ -28,7 +28,7 @@ use Rattle.journal.proofs.Events.{reported_event, reported_run, run_joined, even
 use Rattle.text.specs.Memory.{Put, has_room}
 use Rattle.text.proofs.Puts.{put_none, put_on}
 use Rattle.printer.specs.declared.Shown.{Shown}
-use Rattle.printer.specs.Printer.{Shows, Printer, shown_text, remembered, printer_after, printed, printer_after_all, event_room, ShownIn, showing}
+use Rattle.printer.specs.Printer.{Shows, Printer, shown_text, printed, printer_after_all, event_room, ShownIn, showing}
 use Rattle.printer.proofs.Rooms.{shown_there}
 use Rattle.printer.proofs.Parts.{printed_append, after_append}
 use Rattle.player.specs.declared.Played.{Played}

@@ -1,7 +1,7 @@
 -- What bytes are played to, in terms of the reader: the same instructions, and what the reader
 -- makes of the bytes that are left.
 use Prim.Native.Nat.{ℕ, zero, suc, ◌+◌, ◌-◌, ◌≤◌, ◌<◌}
-use mathlib.Core.Path.{◌≡◌, refl, sym, ap, ap₂, ◌∙◌}
+use mathlib.Core.Path.{◌≡◌, refl, sym, ap, ◌∙◌}
 use mathlib.Core.List.{List, [], ◌∷◌}
 use mathlib.Core.Bool.{Bool, true, false}
 use native.Mathlib.Omega.{arith}
@@ -17,7 +17,7 @@ use Rattle.journal_reader.specs.Reading.{Instruction, on_bytes}
 use Rattle.journal_reader.proofs.Reading.{machine}
 use Rattle.journal.specs.Events.{run_after, run_after_all, event_of, events_from}
 use Rattle.text.specs.Memory.{has_room}
-use Rattle.printer.specs.Printer.{Shows, Printer, shown_text, printer_after, printed, printer_after_all, event_room}
+use Rattle.printer.specs.Printer.{Shows, shown_text, printer_after, printed, printer_after_all, event_room}
 use Rattle.player.specs.declared.Played.{Played}
 use Rattle.player.specs.Play.{Playing, Stop, refuses, full, with_reading, obeyed, with_text, play_of, fed_of, is_full, refused_by, played_of, text_by, Rests, Fed}
 use Rattle.player.proofs.Playing.{play_full, play_room, play_there}

@@ -5,6 +5,8 @@
 // All that matters is in the libraries (crates/console).
 #![tactic(auto)]
 
-fn main() {
-    console::play(b"proximity", printer::PROXIMITY);
+use std::rt::HostRuntime;
+
+fn main(rt: HostRuntime) {
+    console::play(&rt, b"proximity", printer::PROXIMITY);
 }

@@ -2,6 +2,8 @@
 // that the Rust has, one `name=value` a line.
 #![tactic(auto)]
 
-fn main() {
-    console::play(b"trace", printer::TRACE);
+use std::rt::HostRuntime;
+
+fn main(rt: HostRuntime) {
+    console::play(&rt, b"trace", printer::TRACE);
 }

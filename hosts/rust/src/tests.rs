@@ -102,8 +102,8 @@ fn types_are_those_of_the_library() {
     .concat();
     assert_eq!(source.matches("#[repr(C)]\n").count(), TYPES.len());
     for (name, fields, _) in TYPES {
-        let text =
-            source.split(&format!("#[repr(C)]\npub struct {name} {{\n")).nth(1).unwrap().split("\n}").next().unwrap();
+        let head = format!("#[repr(C)]\n#[derive(Clone, Copy)]\npub struct {name} {{\n");
+        let text = source.split(&head).nth(1).unwrap().split("\n}").next().unwrap();
         let theirs: Vec<String> = text.lines().map(spelt).collect();
         let ours: Vec<String> = fields.iter().map(|f| format!("pub {}: {},", f.name, f.kind)).collect();
         assert_eq!(theirs, ours, "{name}");

@@ -1,4 +1,4 @@
-use Rattle.journal_reader.proofs.Arms.{arm_big}
+use native.Mathlib.Omega.{arith}
 use Rattle.journal_reader.proofs.Steps.{added_ack, added_head, added_value, added_none}
 use Rattle.journal_reader.proofs.add.Goals as goal
 
@@ -18,4 +18,4 @@ pub returns-in-Value : goal.returns-in-Value
 returns-in-Value c = added_value _ _ _ _ _ _ _ _ _ c.in-Value.is c.with_value.ensures c.store.ensures
 
 pub returns-in-Settings : goal.returns-in-Settings
-returns-in-Settings c = added_none _ _ _ _ _ (arm_big _ c.in-Settings.is)
+returns-in-Settings c = added_none _ _ _ _ _ (grind arith)

@@ -3,7 +3,7 @@ use mathlib.Core.Bool.{Bool, true, false}
 use mathlib.Core.Path.{◌≡◌, ap, ◌∙◌}
 use Rattle.journal_records.specs.Long.{outcome_of}
 use Rattle.stream.proofs.Stream.{impossible}
-use Rattle.journal_reader.proofs.Arms.{arm_small}
+use native.Mathlib.Omega.{arith}
 use Rattle.journal_reader.proofs.Steps.{body_part, instructs_outcome, instructs_settings, instructs_reset, instructs_tick, instructs_width}
 use Rattle.journal_reader.proofs.instruct.Goals as goal
 
@@ -27,4 +27,4 @@ pub returns-in-Width : goal.returns-in-Width
 returns-in-Width c = rw c.comes_to-in-Width.ensures (instructs_width _ _ _ _ _ _ _ c.in-Width.is)
 
 pub returns-in-Ack : goal.returns-in-Ack
-returns-in-Ack c = absurd (never _ c.requires.x_value (arm_small _ c.in-Ack.is))
+returns-in-Ack c = absurd (never _ c.requires.x_value (grind arith))

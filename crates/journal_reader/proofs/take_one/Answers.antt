@@ -1,7 +1,6 @@
 use mathlib.Core.Path.{sym, ◌∙◌}
 use native.Mathlib.Omega.{arith}
 use lib.ListN.{drop, length-drop}
-use Rattle.journal_reader.proofs.Arms.{arm_none}
 use Rattle.journal_reader.proofs.Steps.{found_is, took_added, took_none}
 use Rattle.journal_reader.proofs.take_one.Goals as goal
 
@@ -14,4 +13,4 @@ pub returns-in-Found : goal.returns-in-Found
 returns-in-Found c = took_added _ _ _ _ _ _ _ _ _ (sym c.look_at-look.ensures ∙ c.in-Found.is) c.add.ensures
 
 pub returns-in-Waits : goal.returns-in-Waits
-returns-in-Waits c = took_none _ _ _ _ _ _ c.look_at-look.ensures (arm_none _ c.in-Waits.is)
+returns-in-Waits c = took_none _ _ _ _ _ _ c.look_at-look.ensures (grind arith)

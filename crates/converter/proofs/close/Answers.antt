@@ -1,0 +1,15 @@
+use mathlib.Core.Path.{refl}
+use Rattle.converter.specs.Converter.{ended_of}
+use Rattle.converter.proofs.close.Goals as goal
+
+pub returns : goal.returns
+unfolding ended_of
+returns c = let said = c in
+    let phased = said in
+    let asked = phased in
+    let put = asked in
+    let number = put.number_ended-refused.ensures in
+    record {
+      put = rw said.say_why-written.ensures (rw number at put.put_ending-handed.ensures);
+      is = rw (number, said.say_why-written.ensures, phased.phase_ended-phase.ensures, asked.has_failed.ensures) refl;
+    }
