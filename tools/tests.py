@@ -517,6 +517,7 @@ def explain_page_to_other_places():
         one.unlink(missing_ok=True)
     link.symlink_to(file)
     expect(explain(STORY, "--html", link)[0] == 0 and link.is_symlink() and file.stat().st_size > 1000, "the link")
+    link.unlink()  # `rt ci` refuses a checkout with a link
     os.mkfifo(pipe)
     with open(OUT / "story.journal", "wb") as given:
         given.write(STORY)
