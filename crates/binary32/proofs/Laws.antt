@@ -6,7 +6,7 @@
 --     same_double      narrowing and then widening keeps the double, a NaN too
 --     widen_lt, narrow_lt      both are patterns of their width
 --     nan_widens, nan_narrows  what a NaN becomes
---     not_held         where the guess is not the pattern, there is none
+--     tested           the guess is the pattern where it widens to what was asked, and elsewhere there is none
 use mathlib.Core.Path.{◌≡◌, refl, sym, ap, ◌∙◌, subst}
 use mathlib.Core.Bool.{Bool, true, false, not, cond}
 use Prim.Native.Nat.{ℕ, ◌+◌, ◌*◌, ◌/◌, ◌%◌, ◌^◌, ◌≤◌, ◌<◌}
@@ -16,8 +16,8 @@ use lib.Dec.{T, leb, leb→le, nleb→lt}
 use lib.Ieee.{Float, nan, binary32, binary64, of_bits, to_bits, fits}
 use lib.Ieee.Bits.{is_true, of_bits-to_bits, to_bits-of_bits, of_bits-fits, to_bits-lt}
 use lib.Ieee.Fits.{fits_widens}
-use Rattle.binary32.specs.declared.Narrowed.{Narrowed}
-use Rattle.binary32.specs.declared.Narrowed.TheVariants.{Holds, NotHeld}
+use Rattle.std.specs.Bool.{then_some}
+use Rattle.std.proofs.Common.{Some, None}
 use Rattle.binary32.specs.Patterns.{widen_of, narrowed, narrow_of}
 use Rattle.binary32.specs.Guess.{Wide, Guessed}
 use Rattle.binary32.proofs.Nans.{nan_at, no_nan}
@@ -35,42 +35,42 @@ pub nan_widens : (n : ℕ) → 0x7f80_0000 < n % 2 ^ 31 → widen_of n ≡ 0x7ff
 nan_widens n h = ap (to_bits binary64) (nan_at binary32 n h) ∙ nan_bits
 
 -- ---- narrowing
-holds : (x : Float) → T (fits binary32 x) → narrowed x ≡ Holds (to_bits binary32 x)
-holds x t = ap (λ (b : Bool). cond b (Holds (to_bits binary32 x)) NotHeld) (is_true (fits binary32 x) t)
+holds : (x : Float) → T (fits binary32 x) → narrowed x ≡ Some (to_bits binary32 x)
+holds x t = ap (λ (b : Bool). cond b (Some (to_bits binary32 x)) None) (is_true (fits binary32 x) t)
 
-narrow_nan : narrowed nan ≡ Holds 0x7fc0_0000
+narrow_nan : narrowed nan ≡ Some 0x7fc0_0000
 unfolding to_bits fits
 narrow_nan = refl
 
-pub nan_narrows : (w : ℕ) → 0x7ff0_0000_0000_0000 < w % 2 ^ 63 → narrow_of w ≡ Holds 0x7fc0_0000
+pub nan_narrows : (w : ℕ) → 0x7ff0_0000_0000_0000 < w % 2 ^ 63 → narrow_of w ≡ Some 0x7fc0_0000
 nan_narrows w h = ap narrowed (nan_at binary64 w h) ∙ narrow_nan
 
 -- what was given was held
-given : (b : Bool) (k n : ℕ) → cond b (Holds k) NotHeld ≡ Holds n → T b × (k ≡ n)
+given : (b : Bool) (k n : ℕ) → cond b (Some k) None ≡ Some n → T b × (k ≡ n)
 given true k n e = (tt, cc)
 given false k n e = let z : ◌≡◌ {A = ℕ} 0 1 = cc in absurd (omega arith)
 
-refused : (b : Bool) (k : ℕ) → cond b (Holds k) NotHeld ≡ NotHeld → T b → ⊥
+refused : (b : Bool) (k : ℕ) → cond b (Some k) None ≡ None → T b → ⊥
 refused true k e t = let z : ◌≡◌ {A = ℕ} 0 1 = cc in omega arith
 refused false k e t = t
 
-pub value_kept : (w n : ℕ) → narrow_of w ≡ Holds n → of_bits binary32 n ≡ of_bits binary64 w
+pub value_kept : (w n : ℕ) → narrow_of w ≡ Some n → of_bits binary32 n ≡ of_bits binary64 w
 value_kept w n e =
     let x = of_bits binary64 w in
     let g = given (fits binary32 x) (to_bits binary32 x) n e in
     ap (of_bits binary32) (sym g.1) ∙ of_bits-to_bits binary32 x g.0
 
-pub none : (w : ℕ) → narrow_of w ≡ NotHeld → (n : ℕ) → of_bits binary32 n ≡ of_bits binary64 w → ⊥
+pub none : (w : ℕ) → narrow_of w ≡ None → (n : ℕ) → of_bits binary32 n ≡ of_bits binary64 w → ⊥
 none w e n p = refused (fits binary32 (of_bits binary64 w)) (to_bits binary32 (of_bits binary64 w)) e (subst (λ (x : Float). T (fits binary32 x)) p (of_bits-fits binary32 n))
 
-pub holds_where : (w n : ℕ) → n < 2 ^ 32 → n % 2 ^ 31 ≤ 0x7f80_0000 → of_bits binary32 n ≡ of_bits binary64 w → narrow_of w ≡ Holds n
-holds_where w n u h p = ap narrowed (sym p) ∙ holds (of_bits binary32 n) (of_bits-fits binary32 n) ∙ ap Holds (to_bits-of_bits binary32 n u (no_nan binary32 n h))
+pub holds_where : (w n : ℕ) → n < 2 ^ 32 → n % 2 ^ 31 ≤ 0x7f80_0000 → of_bits binary32 n ≡ of_bits binary64 w → narrow_of w ≡ Some n
+holds_where w n u h p = ap narrowed (sym p) ∙ holds (of_bits binary32 n) (of_bits-fits binary32 n) ∙ ap Some (to_bits-of_bits binary32 n u (no_nan binary32 n h))
 
 -- ---- the widths
 pub widen_lt : (n : ℕ) → widen_of n < 2 ^ 64
 widen_lt n = to_bits-lt binary64 (of_bits binary32 n) (fits_widens (of_bits binary32 n) (of_bits-fits binary32 n))
 
-pub narrow_lt : (w n : ℕ) → narrow_of w ≡ Holds n → n < 2 ^ 32
+pub narrow_lt : (w n : ℕ) → narrow_of w ≡ Some n → n < 2 ^ 32
 narrow_lt w n e =
     let x = of_bits binary64 w in
     let g = given (fits binary32 x) (to_bits binary32 x) n e in
@@ -78,13 +78,13 @@ narrow_lt w n e =
 
 -- ---- there and back
 -- whatever w is, a NaN's pattern too, what comes back stands for the same double
-pub same_double : (w n : ℕ) → narrow_of w ≡ Holds n → of_bits binary64 (widen_of n) ≡ of_bits binary64 w
+pub same_double : (w n : ℕ) → narrow_of w ≡ Some n → of_bits binary64 (widen_of n) ≡ of_bits binary64 w
 same_double w n e = widen_value n ∙ value_kept w n e
 
-pub narrow_widen : (n : ℕ) → n < 2 ^ 32 → n % 2 ^ 31 ≤ 0x7f80_0000 → narrow_of (widen_of n) ≡ Holds n
+pub narrow_widen : (n : ℕ) → n < 2 ^ 32 → n % 2 ^ 31 ≤ 0x7f80_0000 → narrow_of (widen_of n) ≡ Some n
 narrow_widen n u h = holds_where (widen_of n) n u h (sym (widen_value n))
 
-pub widen_narrow : (w n : ℕ) → w < 2 ^ 64 → w % 2 ^ 63 ≤ 0x7ff0_0000_0000_0000 → narrow_of w ≡ Holds n → widen_of n ≡ w
+pub widen_narrow : (w n : ℕ) → w < 2 ^ 64 → w % 2 ^ 63 ≤ 0x7ff0_0000_0000_0000 → narrow_of w ≡ Some n → widen_of n ≡ w
 widen_narrow w n u h e = ap (to_bits binary64) (value_kept w n e) ∙ to_bits-of_bits binary64 w u (no_nan binary64 w h)
 
 -- ---- where the guess is not the pattern, there is none
@@ -105,7 +105,7 @@ guessed w r n h g u e =
     let j = signed (leb (2 ^ 31) n) w n k.0 (leb→le (2 ^ 31) n) (nleb→lt (2 ^ 31) n) u (wide_lt (n % 2 ^ 31) k.0 k.1) (sym e ∙ k.2) in
     ap (λ (m : ℕ). w / 2 ^ 63 * 2 ^ 31 + m) (g.1 (n % 2 ^ 31) (subst (Wide (n % 2 ^ 31)) j.0 k.1)) ∙ j.1
 
-pub not_held : (w r : ℕ) → w < 2 ^ 64 → w % 2 ^ 63 ≤ 0x7ff0_0000_0000_0000 → Guessed (w % 2 ^ 63) r → (widen_of (w / 2 ^ 63 * 2 ^ 31 + r) ≡ w → ⊥) → NotHeld ≡ narrow_of w
+not_held : (w r : ℕ) → w < 2 ^ 64 → w % 2 ^ 63 ≤ 0x7ff0_0000_0000_0000 → Guessed (w % 2 ^ 63) r → (widen_of (w / 2 ^ 63 * 2 ^ 31 + r) ≡ w → ⊥) → None ≡ narrow_of w
 not_held w r u h g other = go (fits binary32 (of_bits binary64 w)) found
   where
     found : T (fits binary32 (of_bits binary64 w)) → ⊥
@@ -115,6 +115,13 @@ not_held w r u h g other = go (fits binary32 (of_bits binary64 w)) found
         let e : widen_of n ≡ w = widen_narrow w n u h (holds x t) in
         other (ap widen_of (guessed w r n h g (to_bits-lt binary32 x t) e) ∙ e)
 
-    go : (b : Bool) → (T b → ⊥) → NotHeld ≡ cond b (Holds (to_bits binary32 (of_bits binary64 w))) NotHeld
+    go : (b : Bool) → (T b → ⊥) → None ≡ cond b (Some (to_bits binary32 (of_bits binary64 w))) None
     go true f = absurd (f tt)
     go false f = refl
+
+-- so a test of that tells all
+pub tested : (w r : ℕ) (b : Bool) → w < 2 ^ 64 → w % 2 ^ 63 ≤ 0x7ff0_0000_0000_0000 → Guessed (w % 2 ^ 63) r
+    → (b ≡ true → widen_of (w / 2 ^ 63 * 2 ^ 31 + r) ≡ w) → (b ≡ false → widen_of (w / 2 ^ 63 * 2 ^ 31 + r) ≡ w → ⊥)
+    → then_some b (w / 2 ^ 63 * 2 ^ 31 + r) ≡ narrow_of w
+tested w r true u h g y n = sym (ap narrow_of (sym (y refl)) ∙ narrow_widen (w / 2 ^ 63 * 2 ^ 31 + r) (omega (arith, g.0)) (omega (arith, g.0)))
+tested w r false u h g y n = not_held w r u h g (n refl)

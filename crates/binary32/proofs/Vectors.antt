@@ -6,21 +6,20 @@ use mathlib.Core.List.{List, [], ◌∷◌}
 use Prim.Native.Nat.{ℕ}
 use lib.Dec.{eqb}
 use lib.Ieee.{of_bits, to_bits, fits}
-use Rattle.binary32.specs.declared.Narrowed.{Narrowed}
-use Rattle.binary32.specs.declared.Narrowed.TheVariants.{Holds, NotHeld}
+use Rattle.std.proofs.Common.{Option, Some, None}
 use Rattle.binary32.specs.Patterns.{widen_of, narrow_of}
 
 infix 70 ◌and◌
 data Row : Type 0 where
   ◌and◌ : ℕ → ℕ → Row
 
-is_held : ℕ → Narrowed → Bool
-is_held n (Holds k) = eqb k n
-is_held n NotHeld = false
+is_held : ℕ → Option ℕ → Bool
+is_held n (Some k) = eqb k n
+is_held n None = false
 
-is_refused : Narrowed → Bool
-is_refused (Holds k) = false
-is_refused NotHeld = true
+is_refused : Option ℕ → Bool
+is_refused (Some k) = false
+is_refused None = true
 
 -- each way
 both : List Row → Bool

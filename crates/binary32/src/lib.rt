@@ -6,24 +6,10 @@ ghost use Rattle.std.specs.Prelude.{◌≡◌, ◌<◌, ◌^◌};
 ghost use Rattle.binary32.specs.Patterns.{widen_of, narrow_of};
 ghost use Rattle.binary32.specs.Guess.{Guessed};
 
-// 2 ^ 52: the place of binary64's exponent field, and of the digit that a normal number does not
-// store.
-const PLACE: u64 = 0x10_0000_0000_0000;
+use floats::{INF, MINUS_ZERO, PLACE};
 
-// The sign's place, and the pattern of the infinity above zero.
-const SIGN: u64 = 0x8000_0000_0000_0000;
-
-const INF: u64 = 0x7ff0_0000_0000_0000;
-
-// The pattern of binary32 with the value that was asked for, if there is one.
-#[derive(Clone, Copy)]
-pub enum Narrowed {
-    Holds(u32),
-    NotHeld,
-}
-
-// The pattern of binary64 with the value of a pattern of binary32. A NaN goes by its bits, since a
-// cast would keep its payload.
+// The pattern of binary64 with the value of a pattern of binary32. By hand: the library's
+// conversions that let a NaN through test for it at each step, and `narrow` got slower by them.
 pub fn widen(pattern: u32) -> u64
     ensures { result ≡ widen_of pattern }
 {
@@ -35,7 +21,8 @@ pub fn widen(pattern: u32) -> u64
 }
 
 // The only pattern of binary32 that can have the value of a pattern of binary64, both without their
-// signs. The caller tests whether it has.
+// signs. The caller tests whether it has. By hand: the library's `nearest_f64_to_f32` rounds in more
+// steps than these three cases, and the test is needed after it too.
 fn guess(bits: u64) -> u64
     requires { bits < 2 ^ 63 }
     ensures { Guessed bits result }
@@ -53,17 +40,14 @@ fn guess(bits: u64) -> u64
     0
 }
 
-// The pattern of binary32 with the value of a pattern of binary64.
-pub fn narrow(pattern: u64) -> Narrowed
+// The pattern of binary32 with the value of a pattern of binary64, if there is one.
+pub fn narrow(pattern: u64) -> Option<u32>
     ensures { result ≡ narrow_of pattern }
 {
-    let bits = pattern % SIGN;
+    let bits = pattern % MINUS_ZERO;
     if bits > INF {
-        return Narrowed::Holds(0x7fc0_0000);
+        return Some(0x7fc0_0000);
     }
-    let short = (pattern / SIGN * 0x8000_0000 + guess(bits)) as u32;
-    if widen(short) == pattern {
-        return Narrowed::Holds(short);
-    }
-    Narrowed::NotHeld
+    let short = (pattern / MINUS_ZERO * 0x8000_0000 + guess(bits)) as u32;
+    (widen(short) == pattern).then_some(short)
 }

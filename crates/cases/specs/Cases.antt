@@ -1,11 +1,9 @@
 -- The case of 01-scope.md without a star, last t 4294967295:
 -- what the program's ticks are given, and the names of its lines.
-use Rattle.std.specs.Prelude.{ℕ, ◌+◌, true, false, List, [], ◌∷◌, ◌++◌, Float}
+use Rattle.std.specs.Prelude.{ℕ, ◌+◌, true, false, List, [], ◌∷◌, ◌++◌, Float, None, Some, Option}
+use Rattle.lictor_core.specs.declared.chunk.ChunkHead.{ChunkHead}
 use Rattle.text.specs.Ascii.{ascii}
 use Rattle.text.specs.Number.{decimal_of}
-use Rattle.lictor_core.specs.declared.ack.MaybeAck.TheVariants.{NoAck}
-use Rattle.lictor_core.specs.declared.chunk.MaybeChunk.{MaybeChunk}
-use Rattle.lictor_core.specs.declared.chunk.MaybeChunk.TheVariants.{NoChunk, Delivered}
 use Rattle.lictor_core.specs.declared.envelope.Hysteresis.{Hysteresis}
 use Rattle.lictor_core.specs.declared.envelope.Settings.{Settings}
 use Rattle.lictor_core.specs.declared.fuse.FuseRt.{FuseRt}
@@ -37,18 +35,18 @@ unfoldable pub clock_settings : Settings
 clock_settings = sample_settings wide_limits 1 (tier0_soft + brake_bit) zero_float
 
 -- a tick after r, with or without a chunk and its values; nothing trips
-unfoldable pub clock_tick : FuseRt → (t missed : ℕ) → MaybeChunk → List Float → Ticked
+unfoldable pub clock_tick : FuseRt → (t missed : ℕ) → Option ChunkHead → List Float → Ticked
 clock_tick r t missed chunk values =
-    tick_of clock_settings r (sample_input t missed false chunk NoAck) (sample_outcome 0 true zero_float)
+    tick_of clock_settings r (sample_input t missed false chunk None) (sample_outcome 0 true zero_float)
     (zero_float ∷ []) [] [] [] values
 
 -- after a reset, a tick at `last`
 unfoldable pub clock_at : (last : ℕ) → FuseRt
-clock_at last = (clock_tick (reset_of new_of) last 0 NoChunk []).rt
+clock_at last = (clock_tick (reset_of new_of) last 0 None []).rt
 
 -- the tick after it, with a chunk that begins at its t
 unfoldable pub tick_after : (last missed t : ℕ) → Ticked
-tick_after last missed t = clock_tick (clock_at last) t missed (Delivered (sample_chunk t)) (zero_float ∷ [])
+tick_after last missed t = clock_tick (clock_at last) t missed (Some (sample_chunk t)) (zero_float ∷ [])
 
 unfoldable pub name_text : (last missed t : ℕ) → List ℕ
 name_text last missed t =

@@ -5,19 +5,14 @@ ghost use Rattle.channels.specs.declared.intake.Supply.TheVariants as Supply;
 ghost use Rattle.channels.specs.Intake.{moved_down, is_spent, is_over, Came};
 
 use crate::streams::Streams;
-use lictor_core::num::least;
 
 // Moves the bytes from `at` to `have` down to the front.
 pub fn move_down(buf: &mut [u8], at: usize, have: usize)
     ensures { buf.new ≡ moved_down at have buf.old }
 {
-    let end = least(have, buf.len());
-    let mut i: usize = 0;
-    let mut from = at;
-    while from < end {
-        buf[i] = buf[from];
-        i += 1;
-        from += 1;
+    let end = have.min(buf.len());
+    if at < end {
+        buf.copy_within(at..end, 0);
     }
 }
 
@@ -47,23 +42,24 @@ pub struct Reads {
 // thousand years of one each millisecond.
 const MOST_READS: u64 = 140737488355328;
 
-// None was made yet.
-pub fn no_reads() -> Reads
-    ensures { result ≡ record { made = 0; bytes = 0; last = Supply.More } }
-{
-    Reads {
-        made: 0,
-        bytes: 0,
-        last: Supply::More,
+impl Reads {
+    // None was made yet.
+    pub fn none() -> Reads
+        ensures { result ≡ record { made = 0; bytes = 0; last = Supply.More } }
+    {
+        Reads {
+            made: 0,
+            bytes: 0,
+            last: Supply::More,
+        }
     }
-}
 
-// What the last read said.
-pub fn last(reads: Reads) -> Supply
-    ensures { result ≡ reads.last }
-{
-    let said = reads.last;
-    said
+    // What the last read said.
+    pub fn last(self) -> Supply
+        ensures { result ≡ self.last }
+    {
+        self.last
+    }
 }
 
 // What is at hand after a read.
@@ -90,37 +86,29 @@ fn none_came(streams: &Streams, zero: bool) -> Supply
 pub fn read_more(streams: &mut Streams, buf: &mut [u8], have: usize, reads: Reads) -> Got
     ensures { Came (take have buf.old) reads result buf.new }
 {
-    let front = least(have, buf.len());
+    let front = have.min(buf.len());
     if reads.made >= MOST_READS {
-        let spent = Reads {
-            made: reads.made,
-            bytes: reads.bytes,
-            last: Supply::Spent,
-        };
         return Got {
             have: front,
-            reads: spent,
+            reads: Reads {
+                last: Supply::Spent,
+                ..reads
+            },
         };
     }
     let came = streams.read(&mut buf[front..]);
-    let made = reads.made + 1;
-    let bytes = std::num::wrapping_add_u64(reads.bytes, came as u64);
-    if came != 0 {
-        let more = Reads {
-            made,
-            bytes,
-            last: Supply::More,
-        };
-        let total = front + came;
-        return Got {
-            have: total,
-            reads: more,
-        };
-    }
-    let last = none_came(streams, !streams.has_failed());
-    let none = Reads { made, bytes, last };
+    let bytes = reads.bytes.wrapping_add(came as u64);
+    let last = if came != 0 {
+        Supply::More
+    } else {
+        none_came(streams, !streams.has_failed())
+    };
     Got {
-        have: front,
-        reads: none,
+        have: front + came,
+        reads: Reads {
+            made: reads.made + 1,
+            bytes,
+            last,
+        },
     }
 }

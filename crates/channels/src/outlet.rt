@@ -4,6 +4,8 @@ ghost use Rattle.std.specs.Prelude.{◌≡◌, ◌+◌, ◌%◌, ◌^◌, true, 
 
 use crate::streams::Streams;
 
+// It goes beside the streams and not into one struct with them: behind `&mut self` the check knows no
+// bound of a count (tried).
 #[derive(Clone, Copy)]
 pub struct Written {
     // the bytes that were handed over to standard output, modulo 2^64
@@ -14,14 +16,23 @@ pub struct Written {
     failed: bool,
 }
 
-// Nothing was handed over yet.
-pub fn nothing() -> Written
-    ensures { result ≡ record { bytes = 0; beside = 0; failed = false } }
-{
-    Written {
-        bytes: 0,
-        beside: 0,
-        failed: false,
+impl Written {
+    // Nothing was handed over yet.
+    pub fn nothing() -> Written
+        ensures { result ≡ record { bytes = 0; beside = 0; failed = false } }
+    {
+        Written {
+            bytes: 0,
+            beside: 0,
+            failed: false,
+        }
+    }
+
+    // Whether a write failed.
+    pub fn has_failed(self) -> bool
+        ensures { result ≡ self.failed }
+    {
+        self.failed
     }
 }
 
@@ -30,10 +41,7 @@ pub fn nothing() -> Written
 fn either_failed(this: bool, before: bool) -> bool
     ensures { before ≡ true → result ≡ true }
 {
-    if before {
-        return true;
-    }
-    this
+    before || this
 }
 
 // Hands over all of `part` to standard output.
@@ -42,13 +50,9 @@ pub fn put(streams: &mut Streams, w: Written, part: &[u8]) -> Written
     ensures beside_value { result.beside ≡ w.beside }
     ensures failed_value { w.failed ≡ true → result.failed ≡ true }
 {
-    let bytes = std::num::wrapping_add_u64(w.bytes, part.len() as u64);
+    let bytes = w.bytes.wrapping_add(part.len() as u64);
     let failed = either_failed(!streams.put(part), w.failed);
-    Written {
-        bytes,
-        beside: w.beside,
-        failed,
-    }
+    Written { bytes, failed, ..w }
 }
 
 // Hands over all of `part` to standard error.
@@ -57,20 +61,13 @@ pub fn put_beside(streams: &mut Streams, w: Written, part: &[u8]) -> Written
     ensures beside_value { result.beside ≡ (w.beside + length part.now) % 2 ^ 64 }
     ensures failed_value { w.failed ≡ true → result.failed ≡ true }
 {
-    let beside = std::num::wrapping_add_u64(w.beside, part.len() as u64);
+    let beside = w.beside.wrapping_add(part.len() as u64);
     let failed = either_failed(!streams.put_beside(part), w.failed);
     Written {
-        bytes: w.bytes,
         beside,
         failed,
+        ..w
     }
-}
-
-// Whether a write failed.
-pub fn has_failed(w: Written) -> bool
-    ensures { result ≡ w.failed }
-{
-    w.failed
 }
 
 // ---- what a program says of its own input and output, on standard error: no part of any text, so

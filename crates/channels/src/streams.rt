@@ -13,15 +13,16 @@ pub struct Streams {
     error: Option<Error>,
 }
 
-// Writes all of `part`, up to the first write that takes nothing or fails.
+// Writes all of `part`, up to the first write that takes nothing or fails: `Write::write_all` would try
+// again where a signal interrupts a write.
 fn write_all<W: Write>(to: &mut W, part: &[u8]) -> Result<()> {
-    let mut done: usize = 0;
-    while done < part.len() {
-        let n = to.write(&part[done..])?;
+    let mut rest = part;
+    while !rest.is_empty() {
+        let n = to.write(rest)?;
         if n == 0 {
             return Err(Error::from(ErrorKind::WriteZero));
         }
-        done += n;
+        rest = &rest[n..];
     }
     Ok(())
 }
@@ -30,14 +31,12 @@ fn write_all<W: Write>(to: &mut W, part: &[u8]) -> Result<()> {
 fn text_length(text: &[u8]) -> usize
     ensures { result ≤ length text.now }
 {
-    let mut at: usize = 0;
-    while at < text.len() {
+    for at in 0..text.len() {
         if text[at..].starts_with(b" (os error ") {
             return at;
         }
-        at += 1;
     }
-    at
+    text.len()
 }
 
 impl Streams {

@@ -1,4 +1,5 @@
 -- The end of the clock: the proofs of specs/ClockEnd.
+use Rattle.std.proofs.lemmas.Bool.{or_right}
 use mathlib.Core.Path.{◌≡◌, refl, ◌∙◌}
 use mathlib.Core.Logic.{◌⊎◌, inl, inr}
 use mathlib.Core.Bool.{Bool, true, false, not, ◌||◌}
@@ -41,9 +42,7 @@ unfolding clock_bad
 no_time seq last t missed p h k = rw (ne_eqb seq 0 (λ e. omega arith), ne_eqb (last + 1 + missed) t (λ e. omega arith)) refl
 
 last_on : (a b : Bool) → a || (b || true) ≡ true
-last_on true b = refl
-last_on false true = refl
-last_on false false = refl
+last_on a b = or_right a (b || true) (or_right b true refl)
 
 -- SCHEMA stays, whatever comes beside it
 schema_stays : (a d : Bool) → T (any_of (bit_or (bit_or (bit_if a nonfinite) (bit_if true schema)) (bit_if d watchdog)) schema)
@@ -143,9 +142,7 @@ left_in zero t = last_time + 2
 left_in (suc n) t = last_time + 1 - t
 
 or_in : (a b c : Bool) → T b → T (a || (b || c))
-or_in true b c h = tt
-or_in false true c h = tt
-or_in false false c h = absurd h
+or_in a b c h = grind arith
 
 falls : (n t n' t' : ℕ) (x : TickSeen) → 0 < n' → t' ≤ last_time → T (ends_in Fault x) ⊎ (0 < n → t < t') → T (closes x) ⊎ ((0 < left_in n' t') × (left_in n' t' < left_in n t))
 falls n t zero t' x p q m = absurd (omega arith)

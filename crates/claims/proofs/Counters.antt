@@ -1,5 +1,7 @@
 -- What one tick makes of each counter: the proof of specs/Counters, by the rows of the transition
 -- table; and what follows at each end.
+use Rattle.std.proofs.Common.{None, Some, Option}
+use Rattle.std.proofs.lemmas.Bool.{and_right}
 use mathlib.Core.Path.{◌≡◌, refl}
 use mathlib.Core.Bool.{Bool, true, false, cond, ◌&&◌}
 use mathlib.Core.List.{List}
@@ -14,8 +16,6 @@ use lib.ListN.{get_or}
 use lib.Pow.{pow_pos}
 use Rattle.lictor_core.specs.declared.ack.AckDecision.{AckDecision}
 use Rattle.lictor_core.specs.declared.ack.AckDecision.TheVariants.{Resume, Abort, Retune}
-use Rattle.lictor_core.specs.declared.ack.MaybeAck.{MaybeAck}
-use Rattle.lictor_core.specs.declared.ack.MaybeAck.TheVariants.{NoAck, Given}
 use Rattle.lictor_core.specs.declared.ack.VerifiedAck.{VerifiedAck}
 use Rattle.lictor_core.specs.declared.envelope.FuseConfig.{FuseConfig}
 use Rattle.lictor_core.specs.declared.fuse.Control.{Control}
@@ -118,21 +118,21 @@ module _ (cfg : FuseConfig) (r : Control) (pos : List Float) (clean : Bool) (inp
   by_decision_lem Retune s t u f g h = h
 
   -- the row that decides, by the state
-  from_rows : (q : FuseState) (ack : MaybeAck) → Goes r (by_from cfg now pos q clean ack inp)
+  from_rows : (q : FuseState) (ack : Option VerifiedAck) → Goes r (by_from cfg now pos q clean ack inp)
   unfolding by_from held_of escalated_of latch_hold count_run
   from_rows Idle ack = search rows
   from_rows Armed ack = running_rows Armed
   from_rows Watching ack = running_rows Watching
   from_rows Clamped ack = running_rows Clamped
   from_rows Braking ack = braking_rows
-  from_rows Held NoAck = holding_rows
-  from_rows Held (Given a) = by_decision_lem a.decision _ _ _ (resume_row_lem a) (terminate_row_lem a _ _) holding_rows
-  from_rows Escalated NoAck = waiting_rows _
-  from_rows Escalated (Given a) = by_decision_lem a.decision _ _ _ (resume_row_lem a) (terminate_row_lem a _ _) (terminate_row_lem a _ _)
+  from_rows Held None = holding_rows
+  from_rows Held (Some a) = by_decision_lem a.decision _ _ _ (resume_row_lem a) (terminate_row_lem a _ _) holding_rows
+  from_rows Escalated None = waiting_rows _
+  from_rows Escalated (Some a) = by_decision_lem a.decision _ _ _ (resume_row_lem a) (terminate_row_lem a _ _) (terminate_row_lem a _ _)
   from_rows Fault ack = search rows
   from_rows Terminated ack = search rows
 
-  all_rows : (q : FuseState) (ack : MaybeAck) → Goes r (transition_of cfg now pos q clean ack inp)
+  all_rows : (q : FuseState) (ack : Option VerifiedAck) → Goes r (transition_of cfg now pos q clean ack inp)
   unfolding transition_of
   all_rows q ack = either_goes r (any_of inp.trips fault_bits) _ _ (fault_row_lem q inp.trips) (from_rows q ack)
 
@@ -249,13 +249,11 @@ module _ (r : FuseRt) (c : Call) (a : T (settings_pass c)) where
 -- ---- the stored nonces
 
 last_off : (a b c : Bool) → c ≡ false → (a && (b && c)) ≡ false
-last_off true true c e = e
-last_off true false c e = refl
-last_off false b c e = refl
+last_off a b c e = and_right a (b && c) (and_right b c e)
 
 -- a slot that stored the largest number of 64 bits accepts nothing more until new settings
 pub slot_ends : (handoff : ℕ) (nonces : List ℕ) (a : VerifiedAck) → get_or nonces a.operator_slot 0 ≡ 2 ^ 64 - 1 → a.nonce < 2 ^ 64
-    → accepted_ack handoff nonces (Given a) ≡ NoAck
+    → accepted_ack handoff nonces (Some a) ≡ None
 unfolding accepted_ack accepted_by
 slot_ends handoff nonces a e h =
     rw (last_off (ltb a.operator_slot 8) (eqb a.handoff_seq handoff) (ltb (get_or nonces a.operator_slot 0) a.nonce) (le-ltb (get_or nonces a.operator_slot 0) a.nonce (omega arith))) refl

@@ -1,14 +1,14 @@
 -- Demand 3: every tick meets the law of the arm, so every list of calls meets the claim
 -- (specs/Demand3); the part on acknowledgements is from Nonces.
+use Rattle.std.proofs.Common.{None, Option}
+use Rattle.lictor_core.specs.declared.ack.VerifiedAck.{VerifiedAck}
 use mathlib.Core.Path.{◌≡◌, refl, sym, subst, ◌∙◌}
 use mathlib.Core.Bool.{Bool, true, false, cond, not, ◌||◌}
 use mathlib.Core.List.{List}
-use Prim.Native.Nat.{ℕ, ◌-◌, ◌≤◌}
+use Prim.Native.Nat.{◌-◌, ◌≤◌}
 use native.Mathlib.Omega.{arith}
-use lib.Dec.{T, eqb}
+use lib.Dec.{eqb}
 use lib.Ieee.{Float}
-use Rattle.lictor_core.specs.declared.ack.MaybeAck.{MaybeAck}
-use Rattle.lictor_core.specs.declared.ack.MaybeAck.TheVariants.{NoAck}
 use Rattle.lictor_core.specs.declared.envelope.FuseConfig.{FuseConfig}
 use Rattle.lictor_core.specs.declared.envelope.Settings.{Settings}
 use Rattle.lictor_core.specs.declared.fuse.Control.{Control}
@@ -50,8 +50,8 @@ arm_of s r = arm_in s r.control.state r.control
 
 module _ (s : Settings) (z : Sized s) where
   -- a turn of the machine from `start`, with the bits of its input's trips
-  turns : (start : Control) (pos : List Float) (inp : FsmInput) (bits : Bool) (took shown : MaybeAck) → any_of inp.trips fault_bits ≡ bits
-      → took ≡ cond bits NoAck (taken_in start.state (accepted_ack start.handoff_seq start.last_nonce inp.ack))
+  turns : (start : Control) (pos : List Float) (inp : FsmInput) (bits : Bool) (took shown : Option VerifiedAck) → any_of inp.trips fault_bits ≡ bits
+      → took ≡ cond bits None (taken_in start.state (accepted_ack start.handoff_seq start.last_nonce inp.ack))
       → let t = next_of (config_of s) start pos inp in
       ArmLaw s (arm_in s start.state start) (record { from = start.state; to = t.state; took = took; bits = bits; ack = shown }) (arm_in s t.rt.state t.rt)
   turns start pos inp bits took shown e u =
@@ -64,7 +64,7 @@ module _ (s : Settings) (z : Sized s) where
 abbrev seen_by : FuseRt → Call → Bool → FuseState → TickSeen
 seen_by r c clean p =
     let bits = not clean || any_of (trips_of c) fault_bits in
-    record { from = r.control.state; to = p; took = cond bits NoAck (taken_in r.control.state (ack_accepted r c)); bits = bits; ack = ack_accepted r c }
+    record { from = r.control.state; to = p; took = cond bits None (taken_in r.control.state (ack_accepted r c)); bits = bits; ack = ack_accepted r c }
 
 module _ (r : FuseRt) (c : Call) (z : Sized c.settings) where
   -- the law of the arm, for a tick under the call's own settings that ends in p and leaves r'
@@ -77,7 +77,7 @@ module _ (r : FuseRt) (c : Call) (z : Sized c.settings) where
 
   fault_turns : any_of (guard_bits r c) fault_bits ≡ true → Holds false (fault_turn r c).state (fault_turn r c).rt
   unfolding fault_input
-  fault_turns e = turns c.settings z r.control _ (fault_input (config_of c.settings) c.input (guard_bits r c)) true NoAck _ e refl
+  fault_turns e = turns c.settings z r.control _ (fault_input (config_of c.settings) c.input (guard_bits r c)) true None _ e refl
 
   arm_ticks : ArmLaw c.settings (arm_of c.settings r) (seen_of r c (given_of (decided r c))) (arm_of c.settings (decided r c).rt)
   unfolding given_of took_of bits_of clean_tick close_clean fault_tick close_fault closed_of verdict_of fault_verdict

@@ -1,5 +1,7 @@
 -- The verdict's flag and the consumed acknowledgement: the proof of specs/Flag. The flag goes by
 -- the reason, so: which lines of the table give its reasons.
+use Rattle.std.proofs.Common.{None, Some, Option}
+use Rattle.lictor_core.specs.declared.ack.VerifiedAck.{VerifiedAck}
 use mathlib.Core.Path.{◌≡◌, refl, sym}
 use mathlib.Core.Bool.{Bool, true, false, cond, not, ◌&&◌, ◌||◌}
 use mathlib.Core.List.{List}
@@ -8,8 +10,6 @@ use lib.Dec.{T_not, eqb}
 use lib.Ieee.{Float}
 use Rattle.lictor_core.specs.declared.ack.AckDecision.{AckDecision}
 use Rattle.lictor_core.specs.declared.ack.AckDecision.TheVariants.{Resume, Abort, Retune}
-use Rattle.lictor_core.specs.declared.ack.MaybeAck.{MaybeAck}
-use Rattle.lictor_core.specs.declared.ack.MaybeAck.TheVariants.{NoAck, Given}
 use Rattle.lictor_core.specs.declared.envelope.FuseConfig.{FuseConfig}
 use Rattle.lictor_core.specs.declared.fuse.Control.{Control}
 use Rattle.lictor_core.specs.declared.fuse.FuseRt.{FuseRt}
@@ -109,40 +109,40 @@ module _ (cfg : FuseConfig) (rt : Control) (pos : List Float) (clean : Bool) (in
 
   -- ---- the rows of Held and Escalated, by the acknowledgement that is accepted
 
-  abbrev Tells : FuseState → MaybeAck → Type 0
+  abbrev Tells : FuseState → Option VerifiedAck → Type 0
   Tells q ack = acked (by_from cfg rt pos q clean ack inp).reason ≡ not (none? (taken_in q ack))
 
-  held_tells : (d : AckDecision) (slot nonce seq : ℕ) → Tells Held (Given (record { decision = d; operator_slot = slot; nonce = nonce; handoff_seq = seq }))
+  held_tells : (d : AckDecision) (slot nonce seq : ℕ) → Tells Held (Some (record { decision = d; operator_slot = slot; nonce = nonce; handoff_seq = seq }))
   unfolding by_from held_of resume_row terminate_row
   held_tells Resume slot nonce seq = refl
   held_tells Abort slot nonce seq = refl
   held_tells Retune slot nonce seq = holding_rows.told
 
-  escalated_tells : (d : AckDecision) (slot nonce seq : ℕ) → Tells Escalated (Given (record { decision = d; operator_slot = slot; nonce = nonce; handoff_seq = seq }))
+  escalated_tells : (d : AckDecision) (slot nonce seq : ℕ) → Tells Escalated (Some (record { decision = d; operator_slot = slot; nonce = nonce; handoff_seq = seq }))
   unfolding by_from escalated_of resume_row terminate_row
   escalated_tells Resume slot nonce seq = refl
   escalated_tells Abort slot nonce seq = refl
   escalated_tells Retune slot nonce seq = refl
 
-  row_tells : (q : FuseState) (ack : MaybeAck) → Tells q ack
+  row_tells : (q : FuseState) (ack : Option VerifiedAck) → Tells q ack
   unfolding by_from held_of escalated_of
   row_tells Idle ack = refl
   row_tells Armed ack = (running_rows Armed).told
   row_tells Watching ack = (running_rows Watching).told
   row_tells Clamped ack = (running_rows Clamped).told
   row_tells Braking ack = braking_rows.told
-  row_tells Held NoAck = holding_rows.told
-  row_tells Held (Given a) = held_tells a.decision a.operator_slot a.nonce a.handoff_seq
-  row_tells Escalated NoAck = (waiting_rows cfg.hyst.handoff_timeout_ticks).told
-  row_tells Escalated (Given a) = escalated_tells a.decision a.operator_slot a.nonce a.handoff_seq
+  row_tells Held None = holding_rows.told
+  row_tells Held (Some a) = held_tells a.decision a.operator_slot a.nonce a.handoff_seq
+  row_tells Escalated None = (waiting_rows cfg.hyst.handoff_timeout_ticks).told
+  row_tells Escalated (Some a) = escalated_tells a.decision a.operator_slot a.nonce a.handoff_seq
   row_tells Fault ack = refl
   row_tells Terminated ack = refl
 
-  transition_tells : (q : FuseState) (ack : MaybeAck)
-      → acked (transition_of cfg rt pos q clean ack inp).reason ≡ not (none? (cond (any_of inp.trips fault_bits) NoAck (taken_in q ack)))
+  transition_tells : (q : FuseState) (ack : Option VerifiedAck)
+      → acked (transition_of cfg rt pos q clean ack inp).reason ≡ not (none? (cond (any_of inp.trips fault_bits) None (taken_in q ack)))
   unfolding transition_of
   transition_tells q ack =
-      by_bool (λ b (t : Turn). acked t.reason ≡ not (none? (cond b NoAck (taken_in q ack)))) (any_of inp.trips fault_bits) _ _
+      by_bool (λ b (t : Turn). acked t.reason ≡ not (none? (cond b None (taken_in q ack)))) (any_of inp.trips fault_bits) _ _
       (fault_row_lem q inp.trips).told (row_tells q ack)
 
 -- so the reason of a turn tells whether it consumes one
@@ -153,7 +153,7 @@ reason_tells cfg rt pos inp = rw (← tells cfg rt pos inp) (transition_tells cf
 -- ---- the flag
 
 -- none is consumed where none comes
-none_taken : (q : FuseState) → not (none? (taken_in q NoAck)) ≡ false
+none_taken : (q : FuseState) → not (none? (taken_in q None)) ≡ false
 none_taken Idle = refl
 none_taken Armed = refl
 none_taken Watching = refl
@@ -164,16 +164,16 @@ none_taken Escalated = refl
 none_taken Fault = refl
 none_taken Terminated = refl
 
-brought : (bits : Bool) (q : FuseState) (handoff : ℕ) (nonces : List ℕ) (ack : MaybeAck)
-    → let took = cond bits NoAck (taken_in q (accepted_ack handoff nonces ack)) in (has_ack ack && not (none? took)) ≡ not (none? took)
+brought : (bits : Bool) (q : FuseState) (handoff : ℕ) (nonces : List ℕ) (ack : Option VerifiedAck)
+    → let took = cond bits None (taken_in q (accepted_ack handoff nonces ack)) in (has_ack ack && not (none? took)) ≡ not (none? took)
 unfolding has_ack accepted_ack
-brought bits q handoff nonces (Given a) = refl
-brought true q handoff nonces NoAck = refl
-brought false q handoff nonces NoAck = sym (none_taken q)
+brought bits q handoff nonces (Some a) = refl
+brought true q handoff nonces None = refl
+brought false q handoff nonces None = sym (none_taken q)
 
 module _ (r : FuseRt) (c : Call) where
   abbrev Tells-by : Bool → Bool → Type 0
-  Tells-by clean flag = flag ≡ not (none? (cond (not clean || any_of (trips_of c) fault_bits) NoAck (taken_in r.control.state (ack_accepted r c))))
+  Tells-by clean flag = flag ≡ not (none? (cond (not clean || any_of (trips_of c) fault_bits) None (taken_in r.control.state (ack_accepted r c))))
 
   clean_tells : Tells-by true (consumed_flag c.input.ack (clean_turn r c).reason)
   unfolding consumed_flag ready_of machine_input findings_of trips_of ack_accepted config_of consumed_of

@@ -1,11 +1,12 @@
 -- What demand 3 needs of one tick, and no more: a law of the arm and a law of the stored nonces;
 -- and what they say of a list of ticks.
+use Rattle.std.proofs.Common.{Option}
+use Rattle.lictor_core.specs.declared.ack.VerifiedAck.{VerifiedAck}
 use mathlib.Core.Bool.{Bool, not}
 use mathlib.Core.Logic.{◌⊎◌, inl, inr}
 use mathlib.Core.List.{List}
 use Prim.Native.Nat.{ℕ, ◌+◌, ◌≤◌, ◌<◌}
 use lib.Dec.{T}
-use Rattle.lictor_core.specs.declared.ack.MaybeAck.{MaybeAck}
 use Rattle.lictor_core.specs.declared.envelope.Settings.{Settings}
 use Rattle.lictor_core.specs.declared.state.FuseState.TheVariants.{Fault}
 use Rattle.claims.specs.Runs.{total}
@@ -48,7 +49,7 @@ module _ (s : Settings) {c : Arm} {l : List TickSeen} (r : Run (ArmLaw s) c l) w
 -- ---- the stored nonces, by slot: none falls, and one that is consumed lies above its slot's and
 -- is stored; of a tick only what it takes matters
 
-pub record NonceLaw (f : ℕ → ℕ) (taken : MaybeAck) (f' : ℕ → ℕ) : Type 0 where
+pub record NonceLaw (f : ℕ → ℕ) (taken : Option VerifiedAck) (f' : ℕ → ℕ) : Type 0 where
   pub kept : (slot : ℕ) → f slot ≤ f' slot
   pub fresh : (slot nonce : ℕ) → Is taken slot nonce → (f slot < nonce) × (nonce ≤ f' slot)
 

@@ -1,4 +1,6 @@
 -- The limit of demand 3 is met: the proof of specs/Limit, tick by tick through the slowest stop.
+use Rattle.std.proofs.Common.{None, Option}
+use Rattle.lictor_core.specs.declared.ack.VerifiedAck.{VerifiedAck}
 use mathlib.Core.Path.{◌≡◌, refl, sym, subst, subst₂}
 use mathlib.Core.Bool.{Bool, true, false, not, ◌||◌}
 use mathlib.Core.List.{List, [], ◌∷◌, ◌++◌}
@@ -11,9 +13,6 @@ use lib.Ieee.Scale.{finite}
 use lib.ListN.{length, take, set}
 use Rattle.fmath.specs.Float.{all_finite, add_squares, norm_of}
 use Rattle.fmath.specs.Root.{root_of}
-use Rattle.lictor_core.specs.declared.ack.MaybeAck.{MaybeAck}
-use Rattle.lictor_core.specs.declared.ack.MaybeAck.TheVariants.{NoAck}
-use Rattle.lictor_core.specs.declared.chunk.MaybeChunk.TheVariants.{NoChunk}
 use Rattle.lictor_core.specs.declared.envelope.FuseConfig.{FuseConfig}
 use Rattle.lictor_core.specs.declared.envelope.Settings.{Settings}
 use Rattle.lictor_core.specs.declared.fuse.Control.{Control}
@@ -42,7 +41,7 @@ use Rattle.lictor_fuse.specs.declared.decide.Decided.{Decided}
 use Rattle.lictor_fuse.specs.CleanTick.{ready_of, clean_clock, close_clean, clean_tick}
 use Rattle.lictor_fuse.specs.Closed.{closed_of}
 use Rattle.lictor_fuse.specs.Tick.{is_accepted, given_of}
-use Rattle.claims.specs.Runs.{All, Some, here, later, First, Where, at, past, series, Step, silent, event, and_then, course}
+use Rattle.claims.specs.Runs.{All, Any, here, later, First, Where, at, past, series, Step, silent, event, and_then, course}
 use Rattle.claims.specs.Demand3.{begins, closes, limit, StopsWithin}
 use Rattle.claims.specs.Calls.{TickSeen, Call, settings_pass, guard_bits, step_of, seen_of, ticks_from}
 use Rattle.claims.specs.ClockEnd.{last_time}
@@ -59,7 +58,7 @@ module _ {A : Type 0} (P : A → Type 0) where
   first_length (suc n) (x ∷ l) f = omega (arith, first_length n l f.1)
 
   -- none among the first n
-  first_none : (n : ℕ) (l : List A) → First P (suc n) l → Some P (take n l) → ⊥
+  first_none : (n : ℕ) (l : List A) → First P (suc n) l → Any P (take n l) → ⊥
   first_none n [] f k = f
   first_none zero (x ∷ l) f k = elim k [ ]
   first_none (suc n) (x ∷ l) f (here p) = f.0 p
@@ -101,7 +100,7 @@ module _ {R A K : Type 0} (step : R → K → Step R A) (P : A → Type 0) where
 -- ---- the state machine in Braking, with no fault bit
 
 module _ (cfg : FuseConfig) (rt : Control) (pos : List Float) (inp : FsmInput) (none : any_of inp.trips fault_bits ≡ false) where
-  braking_rows : (q : FuseState) (clean : Bool) (ack : MaybeAck) (r : Control) → T (is_state Braking q) → transition_of cfg r pos q clean ack inp ≡ braking_of cfg r pos inp
+  braking_rows : (q : FuseState) (clean : Bool) (ack : Option VerifiedAck) (r : Control) → T (is_state Braking q) → transition_of cfg r pos q clean ack inp ≡ braking_of cfg r pos inp
   unfolding transition_of by_from
   braking_rows Idle clean ack r h = absurd h
   braking_rows Armed clean ack r h = absurd h
@@ -195,7 +194,7 @@ module _ (b h e i : ℕ) (v : Float) (fine : finite v ≡ true) (r : FuseRt) (o 
   cfg = config_of (slow_settings b h e)
 
   abbrev tick : Call
-  tick = call_at (slow_settings b h e) (suc i) v true NoChunk []
+  tick = call_at (slow_settings b h e) (suc i) v true None []
 
   -- the guard finds nothing
   no_bits : guard_bits r tick ≡ 0
@@ -212,7 +211,7 @@ module _ (b h e i : ℕ) (v : Float) (fine : finite v ≡ true) (r : FuseRt) (o 
   runs_on = by_clean (λ (d : Decided). Running (suc i) d.rt) (record { filled = rw o.filled refl; begun = omega arith; time = refl; room = rw row_length o.room })
 
   -- no fault bit comes, and no acknowledgement
-  law : StopLaw cfg r.control.state false NoAck (ready_of r.control (found_of r tick)) (clean_turn r tick)
+  law : StopLaw cfg r.control.state false None (ready_of r.control (found_of r tick)) (clean_turn r tick)
   unfolding ready_of machine_input findings_of masked_of with_brake any_of accepted_ack config_of
   law = stop_law cfg (ready_of r.control (found_of r tick)) _ (machine_input cfg tick.input (found_of r tick))
 
@@ -242,12 +241,10 @@ module _ (b h e i : ℕ) (v : Float) (fine : finite v ≡ true) (r : FuseRt) (o 
 
 -- of two states that it may be, the one that it is
 or_left : (a b : Bool) → T (a || b) → (T b → ⊥) → T a
-or_left true b h n = tt
-or_left false b h n = absurd (n h)
+or_left a b h n = grind arith
 
 or_right : (a b : Bool) → T (a || b) → (T a → ⊥) → T b
-or_right true b h n = absurd (n tt)
-or_right false b h n = h
+or_right a b h n = grind arith
 
 abbrev brake : Control → ℕ
 brake c = c.brake_ticks
@@ -398,7 +395,7 @@ module _ (b h e : ℕ) (least : 1 ≤ b) (small : b ≤ 65535) (short : h ≤ 65
     unfolding next_by_rows settled_of transition_of by_from running_of brake_row ready_of machine_input findings_of masked_of with_brake any_of reset_of fresh_control config_of
     begun_turn = rw (← tells (config_of slow) (ready_of start.control (found_of start (trips slow))) _ (machine_input (config_of slow) (trips slow).input (found_of start (trips slow)))) refl
 
-    begun_law : StopLaw (config_of slow) Armed false NoAck (ready_of start.control (found_of start (trips slow))) (clean_turn start (trips slow))
+    begun_law : StopLaw (config_of slow) Armed false None (ready_of start.control (found_of start (trips slow))) (clean_turn start (trips slow))
     unfolding ready_of machine_input findings_of masked_of with_brake any_of accepted_ack config_of reset_of fresh_control
     begun_law = stop_law (config_of slow) (ready_of start.control (found_of start (trips slow))) _ (machine_input (config_of slow) (trips slow).input (found_of start (trips slow)))
 

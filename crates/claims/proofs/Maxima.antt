@@ -1,4 +1,5 @@
 -- The tally's maxima: the proofs of specs/Maxima.
+use Rattle.std.specs.Prelude.{Ok, Err}
 use mathlib.Core.Path.{◌≡◌, refl, sym, ◌∙◌, ap}
 use mathlib.Core.Bool.{Bool, true, false, cond, not, ◌&&◌, ◌||◌, true≢false}
 use mathlib.Core.List.{List, [], ◌∷◌}
@@ -8,6 +9,8 @@ use lib.Dec.{T, T_not, eqb, ltb}
 use lib.ListN.{length, get_or}
 use lib.Ieee.{Float, inf, nan, fin, is_nan}
 use lib.Ieee.Scale.{finite}
+use Rattle.std.proofs.Common.{Ok, Err}
+use Rattle.std.proofs.Math.Bool.{and-false}
 use Rattle.fmath.specs.Float.{max_of, all_finite}
 use Rattle.fmath.specs.Most.{most_of}
 use Rattle.fmath.specs.Rank.{Number}
@@ -20,7 +23,7 @@ use Rattle.lictor_core.specs.Initial.{new_of, reset_of}
 use Rattle.lictor_core.specs.FirstThat.{first_that}
 use Rattle.lictor_core.specs.Rows.{row_to}
 use Rattle.lictor_core.specs.Sizes.{features, max_d, max_pos}
-use Rattle.lictor_settings.specs.declared.SettingsCheck.TheVariants.{Accepted, BadCode, BadSize, NotFinite, BoxCrossed}
+use Rattle.lictor_settings.specs.declared.SettingsFault.TheVariants.{BadCode, BadSize, NotFinite, BoxCrossed}
 use Rattle.lictor_settings.specs.Settings.{bad_code, bad_size, bad_float, bad_box, settings_table, check_of, config_of}
 use Rattle.lictor_detect.specs.Brake.{boxed_component, boxed_row, boxed_action}
 use Rattle.lictor_table.specs.Helpers.{latched_of}
@@ -45,8 +48,7 @@ use Rattle.claims.proofs.Tallies.{tally_told}
 -- ---- a tick: what the tally takes in is what the mask and the verdict say
 
 pub and_false : (b : Bool) → (b && false) ≡ false
-and_false true = refl
-and_false false = refl
+and_false b = and-false b
 
 -- with nothing valid no channel is live
 no_valid : (mask j : ℕ) → (bit_of mask j && bit_of 0 j) ≡ false
@@ -130,18 +132,14 @@ row_same f g h zero e = refl
 row_same f g h (suc k) e = rw (row_same f g h k (λ i l. e i (omega arith)), e k (omega arith))
 
 -- accepted settings have finite floats, and so finite upper ends
-good_floats : (a b c d : Bool) → T (is_accepted (cond a BadCode (cond b BadSize (cond c NotFinite (cond d BoxCrossed Accepted))))) → c ≡ false
+good_floats : (a b c d : Bool) → T (is_accepted (cond a (Err BadCode) (cond b (Err BadSize) (cond c (Err NotFinite) (cond d (Err BoxCrossed) (Ok tt)))))) → c ≡ false
 good_floats true b c d h = absurd h
 good_floats false true c d h = absurd h
 good_floats false false true d h = absurd h
 good_floats false false false d h = refl
 
 last_of : (a b c d : Bool) → (a || (b || (c || not d))) ≡ false → d ≡ true
-last_of true b c d e = absurd (true≢false e)
-last_of false true c d e = absurd (true≢false e)
-last_of false false true d e = absurd (true≢false e)
-last_of false false false true e = refl
-last_of false false false false e = absurd (true≢false e)
+last_of a b c d e = grind arith
 
 finite_ends : (s : Settings) → T (is_accepted (check_of s)) → all_finite s.box_hi ≡ true
 unfolding check_of first_that settings_table bad_float

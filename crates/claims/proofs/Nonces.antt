@@ -1,6 +1,8 @@
 -- The stored nonces: every tick stores what it consumes and meets the law of `Law`, a reset changes
 -- none of them, so of every list of calls and resets the claim on acknowledgements holds
 -- (specs/Nonces; specs/Demand3, AcksOnce).
+use Rattle.std.proofs.Common.{None, Some, Option}
+use Rattle.lictor_core.specs.declared.ack.VerifiedAck.{VerifiedAck}
 use mathlib.Core.Path.{◌≡◌, refl, ◌∙◌}
 use mathlib.Core.Bool.{Bool, true, false, cond, not, ◌||◌}
 use mathlib.Core.List.{List, [], ◌∷◌}
@@ -10,8 +12,6 @@ use native.Mathlib.Decide.{ℕ_discrete}
 use lib.Dec.{T, T_not, eqb}
 use lib.ListN.{get_or, set, length-set}
 use lib.Seq.{get_or-set_same, get_or-set_other}
-use Rattle.lictor_core.specs.declared.ack.MaybeAck.{MaybeAck}
-use Rattle.lictor_core.specs.declared.ack.MaybeAck.TheVariants.{NoAck, Given}
 use Rattle.lictor_core.specs.declared.fuse.FuseRt.{FuseRt}
 use Rattle.lictor_core.specs.Initial.{no_nonces, fresh_control, new_of, reset_of}
 use Rattle.lictor_core.specs.Masks.{any_of, fault_bits}
@@ -40,27 +40,27 @@ abbrev pub floor_in : List ℕ → ℕ → ℕ
 floor_in l slot = get_or l slot 0
 
 module _ (l : List ℕ) (eight : Eight l) where
-  pub stored_law : (taken : MaybeAck) → Fresh l taken → NonceLaw (floor_in l) taken (floor_in (stored_in l taken))
-  stored_law NoAck f = record { kept = λ slot. omega arith; fresh = λ slot nonce u. absurd u }
-  stored_law (Given a) f = record { kept = λ slot. kept slot (ℕ_discrete slot a.operator_slot); fresh = fresh }
+  pub stored_law : (taken : Option VerifiedAck) → Fresh l taken → NonceLaw (floor_in l) taken (floor_in (stored_in l taken))
+  stored_law None f = record { kept = λ slot. omega arith; fresh = λ slot nonce u. absurd u }
+  stored_law (Some a) f = record { kept = λ slot. kept slot (ℕ_discrete slot a.operator_slot); fresh = fresh }
     where
       kept : (slot : ℕ) → Dec (slot ≡ a.operator_slot) → floor_in l slot ≤ floor_in (set l a.operator_slot a.nonce) slot
       kept slot (yes e) = rw e (rw (get_or-set_same l a.operator_slot a.nonce 0 (omega arith)) (omega arith))
       kept slot (no e) = rw (get_or-set_other l a.operator_slot slot a.nonce 0 e) (omega arith)
 
-      fresh : (slot nonce : ℕ) → Is (Given a) slot nonce → (floor_in l slot < nonce) × (nonce ≤ floor_in (set l a.operator_slot a.nonce) slot)
+      fresh : (slot nonce : ℕ) → Is (Some a) slot nonce → (floor_in l slot < nonce) × (nonce ≤ floor_in (set l a.operator_slot a.nonce) slot)
       fresh slot nonce e =
           rw (← e.0, ← e.1) (f.1, rw (get_or-set_same l a.operator_slot a.nonce 0 (omega arith)) (omega arith))
 
-  pub still_eight : (taken : MaybeAck) → Eight (stored_in l taken)
-  still_eight NoAck = eight
-  still_eight (Given a) = length-set l a.operator_slot a.nonce ∙ eight
+  pub still_eight : (taken : Option VerifiedAck) → Eight (stored_in l taken)
+  still_eight None = eight
+  still_eight (Some a) = length-set l a.operator_slot a.nonce ∙ eight
 
 -- ---- a tick stores what it consumes, and that was not stored before
 
 -- what it consumes, by the guard's test
-abbrev took_by : FuseRt → Call → Bool → MaybeAck
-took_by r c clean = cond (not clean || any_of (trips_of c) fault_bits) NoAck (taken_in r.control.state (ack_accepted r c))
+abbrev took_by : FuseRt → Call → Bool → Option VerifiedAck
+took_by r c clean = cond (not clean || any_of (trips_of c) fault_bits) None (taken_in r.control.state (ack_accepted r c))
 
 module _ (r : FuseRt) (c : Call) where
   abbrev Stored : Bool → List ℕ → Type 0

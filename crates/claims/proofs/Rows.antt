@@ -1,12 +1,12 @@
 -- A tick by the transition table (lictor_table, proofs/Stops) meets the law of the arm.
+use Rattle.std.proofs.Common.{None, Option}
+use Rattle.lictor_core.specs.declared.ack.VerifiedAck.{VerifiedAck}
 use mathlib.Core.Path.{◌≡◌}
 use mathlib.Core.Bool.{Bool, true, false, cond, not, ◌&&◌, ◌||◌}
 use Prim.Native.Nat.{ℕ, ◌+◌, ◌-◌, ◌≤◌, ◌<◌}
 use native.Mathlib.Omega.{arith}
 use lib.Dec.{T, not_T, leb→le, nleb→lt, ltb→lt, eqb→eq}
 use lib.Ieee.Fits.{and_l, and_r}
-use Rattle.lictor_core.specs.declared.ack.MaybeAck.{MaybeAck}
-use Rattle.lictor_core.specs.declared.ack.MaybeAck.TheVariants.{NoAck, Given}
 use Rattle.lictor_core.specs.declared.envelope.Settings.{Settings}
 use Rattle.lictor_core.specs.declared.fuse.Control.{Control}
 use Rattle.lictor_core.specs.declared.reason.ReasonCode.{ReasonCode}
@@ -19,7 +19,7 @@ use Rattle.lictor_table.specs.Helpers.{to}
 use Rattle.lictor_table.specs.Consumed.{taken_in}
 use Rattle.lictor_table.proofs.Lines.{by_test}
 use Rattle.lictor_table.proofs.Stops.{StopLaw}
-use Rattle.claims.specs.Demand3.{B, H, E, max_rearms, Sized, rearms_alone, none?, limit}
+use Rattle.claims.specs.Demand3.{B, H, E, max_rearms, Sized, none?, limit}
 use Rattle.claims.proofs.Law.{Arm, ArmLaw}
 
 ruleset tests = (arith, leb→le, nleb→lt, ltb→lt, eqb→eq)
@@ -41,13 +41,12 @@ or_false true h = tt
 or_false false h = h
 
 -- what is consumed unless a fault bit comes
-unless : (b : Bool) (m : MaybeAck) → T (none? (cond b NoAck m)) → T (not b) → T (none? m)
-unless true m h n = absurd n
-unless false m h n = h
+unless : (b : Bool) (m : Option VerifiedAck) → T (none? (cond b None m)) → T (not b) → T (none? m)
+unless b m h n = grind arith
 
 -- A tick from q to p, with the run state r before it and r' after it; `bits`: a fault bit came;
 -- `ack`: the acknowledgement that is accepted.
-module _ (s : Settings) (z : Sized s) (bits : Bool) (ack : MaybeAck) (r r' : Control) (extra : ℕ) (reason : ReasonCode) where
+module _ (s : Settings) (z : Sized s) (bits : Bool) (ack : Option VerifiedAck) (r r' : Control) (extra : ℕ) (reason : ReasonCode) where
   abbrev Law : FuseState → FuseState → Type 0
   Law q p = StopLaw (config_of s) q bits ack r (to p extra reason r')
 
@@ -117,7 +116,7 @@ module _ (s : Settings) (z : Sized s) (bits : Bool) (ack : MaybeAck) (r r' : Con
 
   -- a rearm that consumes no acknowledgement is below the limit and counted; no other tick lowers
   -- the count
-  spends : (q p : FuseState) (took : MaybeAck) → took ≡ cond bits NoAck (taken_in q ack) → Law q p
+  spends : (q p : FuseState) (took : Option VerifiedAck) → took ≡ cond bits None (taken_in q ack) → Law q p
       → cond (is_state Armed p && (is_state Held q && none? took)) 1 0 + (arm_in s p r').budget ≤ (arm_in s q r).budget
   unfolding config_of
   spends q p took e l =
@@ -125,12 +124,12 @@ module _ (s : Settings) (z : Sized s) (bits : Bool) (ack : MaybeAck) (r r' : Con
       (λ h.
       let a : T (is_state Armed p) = search and_l in
       let d : T (is_state Held q) = search (and_l, and_r) in
-      let n : T (none? (cond bits NoAck (taken_in q ack))) = rw e at (and_r (is_state Held q) (none? took) (and_r (is_state Armed p) (is_state Held q && none? took) h)) in
+      let n : T (none? (cond bits None (taken_in q ack))) = rw e at (and_r (is_state Held q) (none? took) (and_r (is_state Armed p) (is_state Held q && none? took) h)) in
       let b : T (not bits) = not_T bits (λ f. let g : T (is_state Fault p) = l.faults f in omega tests) in
       omega (arith, l.rearms_self a d (unless bits (taken_in q ack) n b)))
       (λ h. omega (arith, l.rearms_kept))
 
   -- `shown`: the acknowledgement that is seen
-  pub arm_law : (q p : FuseState) (took shown : MaybeAck) → took ≡ cond bits NoAck (taken_in q ack) → Law q p
+  pub arm_law : (q p : FuseState) (took shown : Option VerifiedAck) → took ≡ cond bits None (taken_in q ack) → Law q p
       → ArmLaw s (arm_in s q r) (record { from = q; to = p; took = took; bits = bits; ack = shown }) (arm_in s p r')
   arm_law q p took shown e l = record { opens = opens q p l; falls = falls q p l; latches = λ h. h; stays = stays q p l; spends = spends q p took e l }

@@ -5,7 +5,7 @@ use mathlib.Core.List.{List, [], ◌∷◌, ◌++◌}
 use Prim.Native.Nat.{ℕ, zero, suc, ◌+◌, ◌≤◌, ◌<◌}
 use native.Mathlib.Omega.{arith}
 use lib.ListN.{length, take}
-use Rattle.claims.specs.Runs.{Each, All, Some, here, later, First, total, Step, silent, event, and_then, course}
+use Rattle.claims.specs.Runs.{Each, All, Any, here, later, First, total, Step, silent, event, and_then, course}
 
 -- ---- `Each` speaks of every place where the list can be cut
 
@@ -66,20 +66,20 @@ module _ {R A K S : Type 0} (step : R → K → Step R A) (view : R → S) (Ok :
 
 module _ {S A : Type 0} (L : S → A → S → Type 0) (left : S → ℕ) (Goal : A → Type 0)
     (falls : (c : S) (x : A) (c' : S) → L c x c' → 0 < left c → Goal x ⊎ ((0 < left c') × (left c' < left c))) where
-  settles : (n : ℕ) {c : S} {l : List A} → 0 < left c → left c ≤ n → n ≤ length l → Run L c l → Some Goal (take n l)
+  settles : (n : ℕ) {c : S} {l : List A} → 0 < left c → left c ≤ n → n ≤ length l → Run L c l → Any Goal (take n l)
   settles zero p q k r = absurd (omega arith)
   settles (suc n) p q k done = absurd (omega arith)
   settles (suc n) {c} p q k (next {x = x} {c' = c'} {l = l} h r) = go (λ p' q' k'. settles n p' q' k' r) (falls c x c' h p)
     where
-      go : (0 < left c' → left c' ≤ n → n ≤ length l → Some Goal (take n l))
-          → Goal x ⊎ ((0 < left c') × (left c' < left c)) → Some Goal (x ∷ take n l)
+      go : (0 < left c' → left c' ≤ n → n ≤ length l → Any Goal (take n l))
+          → Goal x ⊎ ((0 < left c') × (left c' < left c)) → Any Goal (x ∷ take n l)
       go rest (inl g) = here g
       go rest (inr s) = later (rest s.0 (omega arith) (omega arith))
 
   pub answered : (Opens : A → Type 0) (n : ℕ) → ((c : S) (x : A) (c' : S) → L c x c' → Opens x → (0 < left c') × (left c' ≤ n))
-      → {c : S} {l : List A} → Run L c l → Each (λ x after. Opens x → n ≤ length after → Some Goal (take n after)) l
+      → {c : S} {l : List A} → Run L c l → Each (λ x after. Opens x → n ≤ length after → Any Goal (take n after)) l
   answered Opens n opens r =
-      each (λ x after. Opens x → n ≤ length after → Some Goal (take n after))
+      each (λ x after. Opens x → n ≤ length after → Any Goal (take n after))
       (λ c x c' l h r' o k. settles n (opens c x c' h o).0 (opens c x c' h o).1 k r') r
 
 -- ---- an answer at the n-th step: `wait` counts down while the events are calm

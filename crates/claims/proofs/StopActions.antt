@@ -35,7 +35,7 @@ use Rattle.claims.specs.Tallies.{how_many, ended_in, history_from, verdicts_from
 use Rattle.claims.specs.StopActions.{InMode, verdict_on, TickStops, StopActionsOf, StopActionsTold}
 use Rattle.claims.proofs.ClockEnd.{row_one}
 use Rattle.claims.proofs.Tick.{by_call, by_guard, decided, clean_turn, fault_turn, guard_faults, holds_true}
-use Rattle.claims.proofs.Maxima.{and_false}
+use Rattle.std.proofs.Math.Bool.{and-false}
 use Rattle.claims.proofs.Tallies.{same_number, tally_told}
 
 -- ---- the action of a clean tick, by the state that it ends in
@@ -44,7 +44,7 @@ module _ (cfg : FuseConfig) (m : Motion) (hold : List Float) (out : Outcome) whe
   -- Observe passes the policy's row
   passes : (s : FuseState) → cfg.mode ≡ Observe → (is_stop s && is_stop_action (act_of cfg s m hold out).src) ≡ false
   unfolding act_of by_mode passed_of
-  passes s e = rw e (and_false (is_stop s))
+  passes s e = rw e (and-false (is_stop s))
 
   -- Enforce passes no row in a stop state
   stands : (s : FuseState) → cfg.mode ≡ Enforce → (is_stop s && is_stop_action (act_of cfg s m hold out).src) ≡ is_stop s

@@ -1,5 +1,5 @@
 -- The proof of specs/Witness: every tick of the list is computed.
-use mathlib.Core.Path.{◌≡◌, refl}
+use mathlib.Core.Path.{refl}
 use Prim.Native.Nat.{◌≤◌}
 use native.Mathlib.Omega.{arith}
 use Rattle.samples.proofs.Opened.{opened}

@@ -1,8 +1,7 @@
 -- A list of calls of `tick`, and what is seen of each (01-scope.md, The list in demand 3);
 -- and one with resets among them (02-change-requests.md, Ask 6).
-use Rattle.std.specs.Prelude.{◌≡◌, Bool, cond, not, ◌||◌, List, [], ◌∷◌, ℕ, T, eqb, Float}
-use Rattle.lictor_core.specs.declared.ack.MaybeAck.{MaybeAck}
-use Rattle.lictor_core.specs.declared.ack.MaybeAck.TheVariants.{NoAck}
+use Rattle.std.specs.Prelude.{◌≡◌, Bool, cond, not, ◌||◌, List, [], ◌∷◌, ℕ, T, eqb, Float, None, Option}
+use Rattle.lictor_core.specs.declared.ack.VerifiedAck.{VerifiedAck}
 use Rattle.lictor_core.specs.declared.envelope.Settings.{Settings}
 use Rattle.lictor_core.specs.declared.fuse.FuseRt.{FuseRt}
 use Rattle.lictor_core.specs.declared.fuse.TickInput.{TickInput}
@@ -60,15 +59,15 @@ bits_of r c = not (eqb (guard_bits r c) 0) || any_of (trips_of c) fault_bits
 
 -- the acknowledgement that comes, if it is accepted
 -- (01-scope.md, Transitions; lictor_table, specs/Helpers, accepted_by)
-unfoldable pub ack_accepted : FuseRt → Call → MaybeAck
+unfoldable pub ack_accepted : FuseRt → Call → Option VerifiedAck
 ack_accepted r c = accepted_ack r.control.handoff_seq r.control.last_nonce c.input.ack
 
 -- The one that the tick consumes (01-scope.md, The list in demand 3), from what the tick brings and
 -- the state that it starts from. A fault bit decides the tick before the lines for Held and
 -- Escalated; where none comes, these decide the ticks from those two states, and taken_in says what
 -- they consume. That the verdict's flag says the same is proved too (Flag).
-unfoldable pub took_of : FuseRt → Call → MaybeAck
-took_of r c = cond (bits_of r c) NoAck (taken_in r.control.state (ack_accepted r c))
+unfoldable pub took_of : FuseRt → Call → Option VerifiedAck
+took_of r c = cond (bits_of r c) None (taken_in r.control.state (ack_accepted r c))
 
 -- ---- what is seen of a tick
 
@@ -78,10 +77,10 @@ pub record TickSeen : Type 0 where
   -- the state of its verdict
   pub to : FuseState
   -- the acknowledgement that it consumes
-  pub took : MaybeAck
+  pub took : Option VerifiedAck
   -- whether a fault bit came, and the acknowledgement that came and is accepted
   pub bits : Bool
-  pub ack : MaybeAck
+  pub ack : Option VerifiedAck
 
 -- of the call c on the run state r, which was answered a
 abbrev pub seen_of : FuseRt → Call → Ticked → TickSeen

@@ -6,17 +6,16 @@
 -- Of other files it names: what is said of a list (Runs); a call, its settings, what is seen of its
 -- tick, the ticks of a list, with resets among its calls or not (Calls); that eight nonces are stored
 -- (Nonces); the states that settings and `reset` leave (lictor_core, specs/Initial, new_of, reset_of).
-use Rattle.std.specs.Prelude.{Bool, true, false, cond, not, ◌&&◌, ◌||◌, List, ◌≡◌, ℕ, ◌+◌, ◌≤◌, T, length, take}
-use Rattle.lictor_core.specs.declared.ack.MaybeAck.{MaybeAck}
-use Rattle.lictor_core.specs.declared.ack.MaybeAck.TheVariants.{NoAck, Given}
+use Rattle.std.specs.Prelude.{Bool, true, false, cond, not, ◌&&◌, ◌||◌, List, ◌≡◌, ℕ, ◌+◌, ◌≤◌, T, length, take, None, Some, Option}
+use Rattle.lictor_core.specs.declared.ack.VerifiedAck.{VerifiedAck}
 use Rattle.lictor_core.specs.declared.envelope.Settings.{Settings}
 use Rattle.lictor_core.specs.declared.fuse.FuseRt.{FuseRt}
 use Rattle.lictor_core.specs.declared.state.FuseState.{FuseState}
 use Rattle.lictor_core.specs.declared.state.FuseState.TheVariants.{Armed, Braking, Held, Fault, Terminated}
-use Rattle.lictor_core.specs.Cases.{by_ack}
+use Rattle.lictor_core.specs.Cases.{by_option}
 use Rattle.lictor_core.specs.Codes.{is_state}
 use Rattle.lictor_core.specs.Initial.{new_of, reset_of}
-use Rattle.claims.specs.Runs.{Each, All, Some, total}
+use Rattle.claims.specs.Runs.{Each, All, Any, total}
 use Rattle.claims.specs.Calls.{Call, Under, TickSeen, ticks_from, Entry, ticks_among}
 use Rattle.claims.specs.Nonces.{nonces_of, Eight}
 
@@ -64,16 +63,16 @@ abbrev pub closes : TickSeen → Bool
 closes x = ends_in Armed x || (ends_in Fault x || ends_in Terminated x)
 
 -- it is the acknowledgement with this slot and nonce: these two alone tell one from another
-abbrev pub Is : MaybeAck → ℕ → ℕ → Type 0
-Is NoAck slot nonce = ⊥
-Is (Given a) slot nonce = (a.operator_slot ≡ slot) × (a.nonce ≡ nonce)
+abbrev pub Is : Option VerifiedAck → ℕ → ℕ → Type 0
+Is None slot nonce = ⊥
+Is (Some a) slot nonce = (a.operator_slot ≡ slot) × (a.nonce ≡ nonce)
 
 -- the tick consumes that one (what it consumes, if anything: Calls, took_of)
 abbrev pub Consumes : TickSeen → ℕ → ℕ → Type 0
 Consumes x slot nonce = Is x.took slot nonce
 
-abbrev pub none? : MaybeAck → Bool
-none? ack = by_ack ack true (λ a. false)
+abbrev pub none? : Option VerifiedAck → Bool
+none? ack = by_option ack true (λ a. false)
 
 -- the fuse rearms by itself in this tick: 1, or it does not: 0
 abbrev pub rearms_alone : TickSeen → ℕ
@@ -87,7 +86,7 @@ limit s = B s + H s + E s + 2
 
 -- of every tick that begins a stop: of the n after it, where there are as many, one closes the stop
 abbrev pub StopsWithin : ℕ → List TickSeen → Type 0
-StopsWithin n l = Each (λ x after. T (begins x) → n ≤ length after → Some (λ y. T (closes y)) (take n after)) l
+StopsWithin n l = Each (λ x after. T (begins x) → n ≤ length after → Any (λ y. T (closes y)) (take n after)) l
 
 -- stops: within the limit
 abbrev pub Stops : Settings → List TickSeen → Type 0

@@ -4,10 +4,8 @@
 -- (At B = 0 the first tick in Braking ends in Fault. Where the sum passes 4294967296 the clock's
 -- end closes the stop first: specs/ClockEnd, `ClockCloses`.)
 -- It is of demand 3's first part (00-demands.md, Demand 3), and beyond what the papers ask.
-use Rattle.std.specs.Prelude.{◌≡◌, Bool, true, false, List, [], ◌∷◌, ◌++◌, ℕ, ◌+◌, ◌-◌, ◌≤◌, T, Float}
-use Rattle.lictor_core.specs.declared.ack.MaybeAck.TheVariants.{NoAck}
-use Rattle.lictor_core.specs.declared.chunk.MaybeChunk.{MaybeChunk}
-use Rattle.lictor_core.specs.declared.chunk.MaybeChunk.TheVariants.{NoChunk, Delivered}
+use Rattle.std.specs.Prelude.{◌≡◌, Bool, true, false, List, [], ◌∷◌, ◌++◌, ℕ, ◌+◌, ◌-◌, ◌≤◌, T, Float, None, Some, Option}
+use Rattle.lictor_core.specs.declared.chunk.ChunkHead.{ChunkHead}
 use Rattle.lictor_core.specs.declared.envelope.Hysteresis.{Hysteresis}
 use Rattle.lictor_core.specs.declared.envelope.Settings.{Settings}
 use Rattle.lictor_core.specs.declared.fuse.FuseRt.{FuseRt}
@@ -42,11 +40,11 @@ slow_settings b h e = sample_settings (slow_limits b h e) 0 0 one_float
 
 module _ (s : Settings) where
   -- a call at t with this velocity, and a chunk or none; its brake is feasible or not
-  abbrev pub call_at : ℕ → Float → Bool → MaybeChunk → List Float → Call
+  abbrev pub call_at : ℕ → Float → Bool → Option ChunkHead → List Float → Call
   call_at t v feasible head values =
       record {
         settings = s;
-        input = sample_input t 0 true head NoAck;
+        input = sample_input t 0 true head None;
         outcome = sample_outcome 0 feasible zero_float;
         pos = zero_float ∷ [];
         vel = v ∷ [];
@@ -57,14 +55,14 @@ module _ (s : Settings) where
 
   -- the first call: a chunk whose brake is infeasible, so that braking begins
   abbrev pub trips : Call
-  trips = call_at 0 zero_float false (Delivered (sample_chunk 0)) (zero_float ∷ [])
+  trips = call_at 0 zero_float false (Some (sample_chunk 0)) (zero_float ∷ [])
 
   -- later ones: the arm moves, or stands
   abbrev pub moves : ℕ → Call
-  moves t = call_at t one_float true NoChunk []
+  moves t = call_at t one_float true None []
 
   abbrev pub stands : ℕ → Call
-  stands t = call_at t zero_float true NoChunk []
+  stands t = call_at t zero_float true None []
 
 -- braking begins; B - 1 ticks that move; one that stands, and Held begins;
 -- H that wait there, one that escalates; E that wait there, one that terminates

@@ -1,10 +1,10 @@
 -- The stored nonces: what each call makes of them (01-scope.md, Transitions, the accepted
 -- acknowledgement; 02-change-requests.md, Ask 6).
 -- Proved in proofs/Nonces, `nonces_told`.
-use Rattle.std.specs.Prelude.{◌≡◌, not, List, ℕ, T, length, set}
-use Rattle.lictor_core.specs.declared.ack.MaybeAck.{MaybeAck}
+use Rattle.std.specs.Prelude.{◌≡◌, not, List, ℕ, T, length, set, Option}
+use Rattle.lictor_core.specs.declared.ack.VerifiedAck.{VerifiedAck}
 use Rattle.lictor_core.specs.declared.fuse.FuseRt.{FuseRt}
-use Rattle.lictor_core.specs.Cases.{by_ack}
+use Rattle.lictor_core.specs.Cases.{by_option}
 use Rattle.lictor_core.specs.Initial.{no_nonces, new_of, reset_of}
 use Rattle.lictor_core.specs.Sizes.{operators}
 use Rattle.claims.specs.Calls.{Call, settings_pass, tick_answer, took_of}
@@ -19,8 +19,8 @@ abbrev pub Eight : List ℕ → Type 0
 Eight nonces = length nonces ≡ operators
 
 -- with the nonce of what was consumed in its slot, and the other seven as they were
-abbrev pub stored_in : List ℕ → MaybeAck → List ℕ
-stored_in nonces taken = by_ack taken nonces (λ a. set nonces a.operator_slot a.nonce)
+abbrev pub stored_in : List ℕ → Option VerifiedAck → List ℕ
+stored_in nonces taken = by_option taken nonces (λ a. set nonces a.operator_slot a.nonce)
 
 -- nothing else writes a nonce
 pub record NoncesTold : Type 0 where

@@ -16,9 +16,9 @@ module _ {A : Type 0} where
   All P l = Each (λ x after. P x) l
 
   -- of one element at least
-  pub data Some (P : A → Type 0) : List A → Type 0 where
-    here : {x : A} {l : List A} → P x → Some P (x ∷ l)
-    later : {x : A} {l : List A} → Some P l → Some P (x ∷ l)
+  pub data Any (P : A → Type 0) : List A → Type 0 where
+    here : {x : A} {l : List A} → P x → Any P (x ∷ l)
+    later : {x : A} {l : List A} → Any P l → Any P (x ∷ l)
 
   -- of one element at least, and of those after it
   pub data Where (P : A → List A → Type 0) : List A → Type 0 where

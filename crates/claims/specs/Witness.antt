@@ -4,16 +4,14 @@
 -- resets in it, over which an acknowledgement stays spent (02-change-requests.md, Ask 6).
 -- Proved by computing every tick, proofs/Witness, `witnessed` and `spent_witnessed`.
 -- (That the limit of the first part is met, for all B, H and E: specs/Limit.)
-use Rattle.std.specs.Prelude.{◌≡◌, Bool, true, false, cond, List, [], ◌∷◌, map, ℕ, ◌≤◌, T, Float, length}
+use Rattle.std.specs.Prelude.{◌≡◌, Bool, true, false, cond, List, [], ◌∷◌, map, ℕ, ◌≤◌, T, Float, length, None, Some, Option}
+use Rattle.lictor_core.specs.declared.chunk.ChunkHead.{ChunkHead}
+use Rattle.lictor_core.specs.declared.ack.VerifiedAck.{VerifiedAck}
 use Rattle.lictor_core.specs.declared.ack.AckDecision.TheVariants.{Resume}
-use Rattle.lictor_core.specs.declared.ack.MaybeAck.{MaybeAck}
-use Rattle.lictor_core.specs.declared.ack.MaybeAck.TheVariants.{NoAck, Given}
-use Rattle.lictor_core.specs.declared.chunk.MaybeChunk.{MaybeChunk}
-use Rattle.lictor_core.specs.declared.chunk.MaybeChunk.TheVariants.{NoChunk, Delivered}
 use Rattle.lictor_core.specs.declared.envelope.RearmPolicy.TheVariants.{Auto}
 use Rattle.lictor_core.specs.declared.envelope.Settings.{Settings}
 use Rattle.lictor_core.specs.declared.state.FuseState.TheVariants.{Fault}
-use Rattle.lictor_core.specs.Cases.{by_ack}
+use Rattle.lictor_core.specs.Cases.{by_option}
 use Rattle.lictor_core.specs.Codes.{state_code}
 use Rattle.lictor_core.specs.Initial.{zero_float, one_float, new_of, reset_of}
 use Rattle.lictor_core.specs.Masks.{nonfinite}
@@ -47,7 +45,7 @@ story_settings =
 
 -- at t, with these trips, a brake that is feasible or not, a chunk and its values, an
 -- acknowledgement; the arm stands
-abbrev pub story_call : (t trips : ℕ) → Bool → MaybeChunk → List Float → MaybeAck → Call
+abbrev pub story_call : (t trips : ℕ) → Bool → Option ChunkHead → List Float → Option VerifiedAck → Call
 story_call t trips feasible head values ack = record {
   settings = story_settings;
   input = sample_input t 0 false head ack;
@@ -61,24 +59,24 @@ story_call t trips feasible head values ack = record {
 
 -- the first: chunk 0, whose brake is infeasible
 abbrev pub first_call : Call
-first_call = story_call 0 0 false (Delivered (numbered_chunk 0 0)) (zero_float ∷ []) NoAck
+first_call = story_call 0 0 false (Some (numbered_chunk 0 0)) (zero_float ∷ []) None
 
 -- an infeasible brake; nothing; the chunk with this number; the acknowledgement with this nonce;
 -- a fault bit
 abbrev pub brakes : ℕ → Call
-brakes t = story_call t 0 false NoChunk [] NoAck
+brakes t = story_call t 0 false None [] None
 
 abbrev pub stands : ℕ → Call
-stands t = story_call t 0 true NoChunk [] NoAck
+stands t = story_call t 0 true None [] None
 
 abbrev pub delivers : ℕ → ℕ → Call
-delivers n t = story_call t 0 true (Delivered (numbered_chunk n t)) (zero_float ∷ []) NoAck
+delivers n t = story_call t 0 true (Some (numbered_chunk n t)) (zero_float ∷ []) None
 
 abbrev pub resumes : ℕ → ℕ → Call
-resumes n t = story_call t 0 true NoChunk [] (Given (record { decision = Resume; operator_slot = 3; nonce = n; handoff_seq = 0 }))
+resumes n t = story_call t 0 true None [] (Some (record { decision = Resume; operator_slot = 3; nonce = n; handoff_seq = 0 }))
 
 abbrev pub faulted : ℕ → Call
-faulted t = story_call t nonfinite true NoChunk [] NoAck
+faulted t = story_call t nonfinite true None [] None
 
 -- two stops that the fuse ends itself; one that it may not end, by an acknowledgement; one in which
 -- that comes again, and a fault
@@ -127,7 +125,7 @@ sequel =
 
 -- the nonce that the tick consumes, or 0
 abbrev pub nonce_taken : TickSeen → ℕ
-nonce_taken x = by_ack x.took 0 (λ a. a.nonce)
+nonce_taken x = by_option x.took 0 (λ a. a.nonce)
 
 pub record SpentWitness (l : List TickSeen) : Type 0 where
   pub states : map (λ x. state_code x.to) l ≡ 7 ∷ 4 ∷ 5 ∷ 1 ∷ 4 ∷ 5 ∷ 5 ∷ 1 ∷ []

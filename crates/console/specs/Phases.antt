@@ -1,26 +1,26 @@
--- Whether a program goes on with its journal, or why not.
-use Rattle.std.specs.Prelude.{Bool, true, false, cond, ℕ, eqb}
+-- Whether a program goes on with its input, or why not.
+use Rattle.std.specs.Prelude.{Bool, true, false, cond, ℕ, eqb, Option, None, Some}
 use Rattle.journal_refusals.specs.declared.Refusal.TheVariants.{CutBody}
 use Rattle.journal_refusals.specs.Table.{number_of}
 use Rattle.channels.specs.declared.intake.Supply.{Supply}
 use Rattle.channels.specs.declared.intake.Supply.TheVariants.{More, Over, Failed, Spent}
-use Rattle.console.specs.declared.Phase.{Phase}
-use Rattle.console.specs.declared.Phase.TheVariants.{Plays, Waits, Refused, InputOver, ReadFailed, ReadsOver, WriteFailed}
+use Rattle.console.specs.declared.phases.Phase.{Phase}
+use Rattle.console.specs.declared.phases.Phase.TheVariants.{Plays, Waits, Refused, InputOver, ReadFailed, ReadsOver, WriteFailed}
 
 abbrev pub is_going : Phase → Bool
 is_going Plays = true
 is_going Waits = true
-is_going Refused = false
+is_going (Refused number) = false
 is_going InputOver = false
 is_going ReadFailed = false
 is_going ReadsOver = false
 is_going WriteFailed = false
 
--- bytes have to come before records can be played
+-- bytes have to come before records can be taken
 abbrev pub is_waiting : Phase → Bool
 is_waiting Plays = false
 is_waiting Waits = true
-is_waiting Refused = false
+is_waiting (Refused number) = false
 is_waiting InputOver = false
 is_waiting ReadFailed = false
 is_waiting ReadsOver = false
@@ -30,7 +30,7 @@ is_waiting WriteFailed = false
 abbrev pub has_ending : Phase → Bool
 has_ending Plays = false
 has_ending Waits = false
-has_ending Refused = true
+has_ending (Refused number) = true
 has_ending InputOver = true
 has_ending ReadFailed = false
 has_ending ReadsOver = false
@@ -40,15 +40,20 @@ has_ending WriteFailed = false
 abbrev pub is_unwritten : Phase → Bool
 is_unwritten Plays = false
 is_unwritten Waits = false
-is_unwritten Refused = false
+is_unwritten (Refused number) = false
 is_unwritten InputOver = false
 is_unwritten ReadFailed = false
 is_unwritten ReadsOver = false
 is_unwritten WriteFailed = true
 
--- after records were played: whether a write failed, the room for text is full, one was refused
-unfoldable pub phase_played : Bool → Bool → ℕ → Phase
-phase_played failed full refused = cond failed WriteFailed (cond full Plays (cond (eqb refused 0) Waits Refused))
+-- no more is to be had of the bytes at hand: more have to come, or a record is refused
+abbrev pub phase_rested : Option ℕ → Phase
+phase_rested None = Waits
+phase_rested (Some number) = Refused number
+
+-- after records were taken: whether a write failed, the room for text is full, one was refused
+abbrev pub phase_played : Bool → Bool → Option ℕ → Phase
+phase_played failed full refused = cond failed WriteFailed (cond full Plays (phase_rested refused))
 
 -- after a read
 abbrev pub phase_read : Supply → Phase
@@ -62,15 +67,15 @@ abbrev pub phase_ended : Phase → Bool → Phase
 phase_ended phase failed = cond failed WriteFailed phase
 
 -- bytes that are left over when the input is over are a record that its end cut
-unfoldable pub number_left : ℕ → ℕ
-number_left have = cond (eqb have 0) 0 (number_of CutBody)
+abbrev pub number_left : ℕ → Option ℕ
+number_left have = cond (eqb have 0) None (Some (number_of CutBody))
 
--- the number of the refusal, or 0
-abbrev pub number_ended : Phase → ℕ → ℕ → ℕ
-number_ended Plays refused have = refused
-number_ended Waits refused have = refused
-number_ended Refused refused have = refused
-number_ended InputOver refused have = number_left have
-number_ended ReadFailed refused have = refused
-number_ended ReadsOver refused have = refused
-number_ended WriteFailed refused have = refused
+-- the number of the refusal
+abbrev pub number_ended : Phase → ℕ → Option ℕ
+number_ended Plays have = None
+number_ended Waits have = None
+number_ended (Refused number) have = Some number
+number_ended InputOver have = number_left have
+number_ended ReadFailed have = None
+number_ended ReadsOver have = None
+number_ended WriteFailed have = None

@@ -1,4 +1,3 @@
 -- Laws that belong to no one function, and theorems.
-pub mod Known
-pub mod Rounds
+pub mod Converting
 pub mod Runs

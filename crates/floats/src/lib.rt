@@ -8,6 +8,8 @@ ghost use Rattle.std.specs.Prelude.{◌≡◌};
 ghost use Rattle.std.specs.Float.{binary64};
 ghost use Rattle.std.specs.Float.Ieee.{of_bits};
 
+use std::num::f64_from_bits_with_nan;
+
 // 2 ^ 52: the place of the exponent field, and of the digit that a normal number does not store.
 pub const PLACE: u64 = 0x10_0000_0000_0000;
 
@@ -16,13 +18,10 @@ pub const MINUS_ZERO: u64 = 0x8000_0000_0000_0000;
 
 pub const INF: u64 = 0x7ff0_0000_0000_0000;
 
-// The double of a bit pattern. A pattern above the infinity's, its sign left out, is a NaN's, and
-// zero divided by zero is given for it: which pattern that has is the program's choice.
+// The double of a bit pattern. A pattern above the infinity's, its sign left out, is a NaN's, and a
+// NaN is given for it: which pattern that has is the program's choice.
 pub fn double(b: u64) -> f64
     ensures { result ≡ of_bits binary64 b }
 {
-    if b % MINUS_ZERO > INF {
-        return 0.0 / 0.0;
-    }
-    f64::from_bits(b)
+    f64_from_bits_with_nan(b)
 }

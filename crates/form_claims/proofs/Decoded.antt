@@ -1,5 +1,6 @@
 -- What the reader does with a wide record whose NaNs are quiet: what it does with the record. By
 -- kind: settings, value, outcome, width; the others have no floats.
+use Rattle.std.proofs.Common.{Ok, Err}
 use Prim.Native.Nat.{ℕ, ◌≤◌}
 use mathlib.Core.Path.{◌≡◌, refl, sym, ap, subst, ◌∙◌}
 use mathlib.Core.Bool.{Bool, true, false}
@@ -17,10 +18,8 @@ use Rattle.journal_records.specs.Little.{byte_at, float_at}
 use Rattle.journal_records.specs.Body.{decode_of}
 use Rattle.journal_records.specs.Long.{limits_of, calibration_of, settings_of, scores_in, outcome_of}
 use Rattle.journal_refusals.specs.declared.Seen.{Seen}
-use Rattle.journal_refusals.specs.declared.Judged.{Judged}
-use Rattle.journal_refusals.specs.declared.Judged.TheVariants.{Accepted, Refused}
 use Rattle.journal_refusals.specs.Causes.{before_settings, again, code_not_listed, size_outside, float_outside, box_crossed, list_full, not_ready}
-use Rattle.journal_refusals.specs.Table.{order_rows, content_rows, whole_rows, whole_of}
+use Rattle.journal_refusals.specs.Table.{Judged, order_rows, content_rows, whole_rows, whole_of}
 use Rattle.journal_reader.specs.State.{State, seen_in}
 use Rattle.journal_reader.specs.Reading.{on_record, on_judged, on_whole}
 use Rattle.journal_forms.specs.declared.Form.TheVariants.{Wide}
@@ -113,8 +112,8 @@ module _ (st : State) (n : ℕ) (s t : List ℕ) where
   read_by k w d r = rw (w, d) (by (whole_of (seen_in st) k s))
     where
       by : (j : Judged) → on_judged st t n (decode_of k s) j ≡ on_judged st s n (decode_of k s) j
-      by (Refused x) = refl
-      by Accepted = r
+      by (Err x) = refl
+      by (Ok _) = r
 
   read_settings : settings_of t ≡ settings_of s → on_whole st settings_kind t n ≡ on_whole st settings_kind s n
   unfolding decode_of on_record

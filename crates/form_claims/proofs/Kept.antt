@@ -1,4 +1,5 @@
 -- Narrowing and then widening keeps what a journal means.
+use Rattle.std.proofs.Common.{Ok, Err}
 use Prim.Native.Nat.{ℕ, suc, ◌+◌, ◌-◌}
 use mathlib.Core.Path.{◌≡◌, refl, sym, ap, ◌∙◌}
 use mathlib.Core.Bool.{true}
@@ -14,9 +15,7 @@ use Rattle.journal_records.specs.declared.Record.{Record}
 use Rattle.journal_records.specs.declared.Record.TheVariants.{Settings, Reset, Ack, Head, Value, Outcome, Tick, Width}
 use Rattle.journal_records.specs.Body.{decode_of}
 use Rattle.journal_refusals.specs.declared.Refusal.{Refusal}
-use Rattle.journal_refusals.specs.declared.Judged.{Judged}
-use Rattle.journal_refusals.specs.declared.Judged.TheVariants.{Accepted, Refused}
-use Rattle.journal_refusals.specs.Table.{whole_of}
+use Rattle.journal_refusals.specs.Table.{Judged, whole_of}
 use Rattle.journal_reader.specs.State.{State, seen_in}
 use Rattle.journal_reader.specs.Reading.{Instruction, on_record, on_judged, on_whole, on_bytes}
 use Rattle.journal_reader.proofs.Reading.{machine, next_frame}
@@ -70,8 +69,8 @@ moves_on st b n (Tick t) = tells _ _
 moves_on st b n (Width w) = tells _ _
 
 moves_by : (st : State) (b : List ℕ) (n : ℕ) (x : Record) (j : Judged) → Moves n (on_judged st b n x j)
-moves_by st b n x (Refused r) = stops r
-moves_by st b n x Accepted = moves_on st b n x
+moves_by st b n x (Err r) = stops r
+moves_by st b n x (Ok _) = moves_on st b n x
 
 moves : (st : State) (k : ℕ) (b : List ℕ) (n : ℕ) → Moves n (on_whole st k b n)
 unfolding on_whole

@@ -4,8 +4,9 @@
 // All that matters is in the libraries (crates/console).
 #![tactic(auto)]
 
+use printer::lines::Lines;
 use std::rt::HostRuntime;
 
 fn main(rt: HostRuntime) {
-    console::play(&rt, b"fuse", printer::LINES);
+    console::play::<Lines>(&rt, b"fuse");
 }

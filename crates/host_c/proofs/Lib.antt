@@ -1,3 +1,2 @@
-pub mod Refused
-pub mod Says
 pub mod Stored
+pub mod Refused

@@ -22,6 +22,7 @@ use Rattle.host_layout.specs.State.{state_in, state_out, tally_out}
 use Rattle.host_layout.specs.Verdict.{verdict_out}
 use Rattle.host.proofs.Refused.{by_test}
 use Rattle.host_layout.proofs.Stored.{stored_back, tally_back}
+use Rattle.lictor_fuse.proofs.Accepted.{accepted_is}
 use Rattle.host_c.specs.Call.{ticked_out, kept_of, call_of, reset_run, joined_tally}
 
 pub reset_on_stored : (r : FuseRt) → reset_run (state_out r) ≡ state_out (reset_of r)
@@ -37,7 +38,7 @@ by_check s r inp out pos vel aux ext chunk true e =
     subst (λ (t : Ticked). call_of (state_out r) t ≡ ticked_out t) (sym d) refl
 by_check s r inp out pos vel aux ext chunk false e =
     let d : tick_of s r inp out pos vel aux ext chunk ≡ refused_tick (check_of s) r = by_test s r inp out pos vel aux ext chunk false e in
-    subst (λ (t : Ticked). call_of (state_out r) t ≡ ticked_out t) (sym d) (λ j. record { number = check_number (check_of s); rt = cond (e j) (state_out r) (state_out r); verdict = verdict_out no_verdict })
+    subst (λ (t : Ticked). call_of (state_out r) t ≡ ticked_out t) (sym d) (λ j. record { number = check_number (check_of s); rt = cond ((sym (accepted_is (check_of s)) ∙ e) j) (state_out r) (state_out r); verdict = verdict_out no_verdict })
 
 pub tick_on_stored : (s : Settings) (r : FuseRt) (inp : TickInput) (out : Outcome) (pos vel aux ext chunk : List Float)
     → call_of (state_out r) (tick_of s (state_in (state_out r)) inp out pos vel aux ext chunk) ≡ ticked_out (tick_of s r inp out pos vel aux ext chunk)

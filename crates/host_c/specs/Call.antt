@@ -4,13 +4,11 @@
 use Rattle.std.specs.Prelude.{cond, List, ℕ, eqb, Float}
 use Rattle.lictor_core.specs.Initial.{reset_of}
 use Rattle.lictor_settings.specs.Settings.{check_number}
-use Rattle.lictor_settings.specs.declared.SettingsCheck.{SettingsCheck}
 use Rattle.lictor_fuse.specs.declared.Ticked.{Ticked}
-use Rattle.lictor_fuse.specs.Tick.{no_verdict, tick_of}
+use Rattle.lictor_fuse.specs.Tick.{tick_of}
 use Rattle.lictor_tally.specs.Join.{join_of}
 use Rattle.host_c.specs.declared.Answer.{Answer}
 use Rattle.host_c.specs.declared.Called.{Called}
-use Rattle.host_c.specs.declared.Checked.{Checked}
 use Rattle.host_layout.specs.declared.input.Input.{Input}
 use Rattle.host_layout.specs.declared.input.Outcome.{Outcome}
 use Rattle.host_layout.specs.declared.input.Settings.{Settings}
@@ -19,11 +17,6 @@ use Rattle.host_layout.specs.declared.state.Tally.{Tally}
 use Rattle.host_layout.specs.Input.{settings_in, input_in, outcome_in}
 use Rattle.host_layout.specs.State.{state_in, state_out, tally_in, tally_out}
 use Rattle.host_layout.specs.Verdict.{verdict_out}
-
--- what the test of the settings gives: its number, and the answer of a refused call, which has no
--- verdict
-abbrev pub refusal_out : SettingsCheck → Checked
-refusal_out c = record { number = check_number c; answer = record { number = check_number c; verdict = verdict_out no_verdict } }
 
 -- what the fuse gives, as numbers
 unfoldable pub ticked_out : Ticked → Called

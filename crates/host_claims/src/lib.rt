@@ -4,6 +4,8 @@
 // and the theorems are in proofs/ under the same names.
 // The definitions are those that `host_c` and `lictor_fuse` promise,
 // so the only code here is what ties the sizes of settings and run state to their types.
+// They are no twins of those in `claims`: they say another thing, of another type, and
+// docs/ARCHITECTURE.md names both.
 #![tactic(auto)]
 
 ghost use Rattle.std.specs.Prelude.{◌≡◌, true};

@@ -2,6 +2,7 @@
 --     stored_back      what `state_out` gives means what it was made of
 --     tally_back       the same of `tally_out`
 -- Assumes nothing.
+use Rattle.std.proofs.Common.{None, Some, Option, ℕ}
 use mathlib.Core.Path.{◌≡◌, refl, ap}
 use mathlib.Core.Bool.{Bool, true, false}
 use Rattle.lictor_core.specs.Codes.{state_code, reason_code}
@@ -13,10 +14,6 @@ use Rattle.lictor_core.specs.declared.reason.ReasonCode.{ReasonCode}
 use Rattle.lictor_core.specs.declared.reason.ReasonCode.TheVariants as W
 use Rattle.lictor_core.specs.declared.state.FuseState.{FuseState}
 use Rattle.lictor_core.specs.declared.state.FuseState.TheVariants as S
-use Rattle.lictor_core.specs.declared.tally.Mark.{Mark}
-use Rattle.lictor_core.specs.declared.tally.Mark.TheVariants.{Never, At}
-use Rattle.lictor_core.specs.declared.tally.ReasonMark.{ReasonMark}
-use Rattle.lictor_core.specs.declared.tally.ReasonMark.TheVariants.{NoReason, For}
 use Rattle.lictor_core.specs.declared.tally.Tally.{Tally}
 use Rattle.host_layout.specs.Flags.{flag_of, flag_code}
 use Rattle.host_layout.specs.State.{states, state_of, reasons, reason_of, mark_in, mark_out, reason_mark_in, reason_set, reason_mark_out, control_in, control_out, motion_in, motion_out, clock_in, clock_out, tally_in, tally_out, state_in, state_out}
@@ -70,15 +67,15 @@ reason_back W.TerminatedTimeout = refl
 reason_back W.TerminatedRetune = refl
 reason_back W.EpisodeEnd = refl
 
-mark_back : (m : Mark) → mark_in (mark_out m) ≡ m
+mark_back : (m : Option ℕ) → mark_in (mark_out m) ≡ m
 unfolding mark_in mark_out
-mark_back Never = refl
-mark_back (At t) = refl
+mark_back None = refl
+mark_back (Some t) = refl
 
-reason_mark_back : (m : ReasonMark) → reason_mark_in (reason_mark_out m) ≡ m
+reason_mark_back : (m : Option ReasonCode) → reason_mark_in (reason_mark_out m) ≡ m
 unfolding reason_mark_in reason_mark_out reason_set
-reason_mark_back NoReason = refl
-reason_mark_back (For w) = ap For (reason_back w)
+reason_mark_back None = refl
+reason_mark_back (Some w) = ap Some (reason_back w)
 
 -- ---- the groups
 control_back : (c : Control) → control_in (control_out c) ≡ c

@@ -2,12 +2,10 @@
 -- but for flags and what they are beside. It joins the layout of C to the types of lictor_core:
 -- settings, input, chunk head, acknowledgement, outcome (01-scope.md, Journal, kinds 1, 3, 4, 6,
 -- 7).
-use Rattle.std.specs.Prelude.{cond, ℕ, eqb, leb}
+use Rattle.std.specs.Prelude.{cond, ℕ, eqb, leb, None, Some, Option}
+use Rattle.lictor_core.specs.declared.chunk.ChunkHead.{ChunkHead}
+use Rattle.lictor_core.specs.declared.ack.VerifiedAck.{VerifiedAck}
 use Rattle.lictor_core.specs.Codes.{decision_of, decisions}
-use Rattle.lictor_core.specs.declared.ack.MaybeAck.{MaybeAck}
-use Rattle.lictor_core.specs.declared.ack.MaybeAck.TheVariants.{NoAck, Given}
-use Rattle.lictor_core.specs.declared.chunk.MaybeChunk.{MaybeChunk}
-use Rattle.lictor_core.specs.declared.chunk.MaybeChunk.TheVariants.{NoChunk, Delivered}
 use Rattle.lictor_core.specs.declared.envelope.Settings.{Settings as FuseSettings}
 use Rattle.lictor_core.specs.declared.fuse.TickInput.{TickInput}
 use Rattle.lictor_core.specs.declared.outcome.Outcome.{Outcome as FuseOutcome}
@@ -54,10 +52,10 @@ settings_in s = record {
 }
 
 -- a chunk's head, where its flag is not 0: a chunk is checked, and none is not
-unfoldable pub chunk_in : ℕ → Chunk → MaybeChunk
+unfoldable pub chunk_in : ℕ → Chunk → Option ChunkHead
 chunk_in has c =
-    cond (eqb has 0) NoChunk
-    (Delivered
+    cond (eqb has 0) None
+    (Some
     (record {
       seq = c.seq;
       t_emit = c.t_emit;
@@ -67,9 +65,9 @@ chunk_in has c =
     }))
 
 -- an acknowledgement, where its flag is 1 and its decision is one of the three
-unfoldable pub ack_given : Ack → MaybeAck
+unfoldable pub ack_given : Ack → Option VerifiedAck
 ack_given a =
-    Given
+    Some
     (record {
       decision = decision_of a.decision;
       operator_slot = a.operator_slot;
@@ -77,11 +75,11 @@ ack_given a =
       handoff_seq = a.handoff_seq;
     })
 
-unfoldable pub ack_by : Ack → MaybeAck
-ack_by a = cond (leb decisions a.decision) NoAck (ack_given a)
+unfoldable pub ack_by : Ack → Option VerifiedAck
+ack_by a = cond (leb decisions a.decision) None (ack_given a)
 
-unfoldable pub ack_in : ℕ → Ack → MaybeAck
-ack_in has a = cond (sure_of has) (ack_by a) NoAck
+unfoldable pub ack_in : ℕ → Ack → Option VerifiedAck
+ack_in has a = cond (sure_of has) (ack_by a) None
 
 unfoldable pub input_in : Input → TickInput
 input_in i = record {

@@ -2,8 +2,8 @@
 -- but that the library's has a number for each code, mark and flag. It joins the layout of C to
 -- `FuseRt` of lictor_core (fuse.rs, FuseRt; tally.rs, Tally), with the codes of 01-scope.md,
 -- Modules 1.
-use Rattle.std.specs.Prelude.{cond, List, [], ◌∷◌, ℕ, eqb, get_or}
-use Rattle.lictor_core.specs.Cases.{by_mark, by_reason_mark}
+use Rattle.std.specs.Prelude.{cond, List, [], ◌∷◌, ℕ, eqb, get_or, None, Some, Option}
+use Rattle.lictor_core.specs.Cases.{by_option}
 use Rattle.lictor_core.specs.Codes.{state_code, reason_code}
 use Rattle.lictor_core.specs.declared.fuse.Control.{Control as FuseControl}
 use Rattle.lictor_core.specs.declared.fuse.Motion.{Motion as FuseMotion}
@@ -13,10 +13,6 @@ use Rattle.lictor_core.specs.declared.reason.ReasonCode.{ReasonCode}
 use Rattle.lictor_core.specs.declared.reason.ReasonCode.TheVariants as W
 use Rattle.lictor_core.specs.declared.state.FuseState.{FuseState}
 use Rattle.lictor_core.specs.declared.state.FuseState.TheVariants as S
-use Rattle.lictor_core.specs.declared.tally.Mark.{Mark as FuseMark}
-use Rattle.lictor_core.specs.declared.tally.Mark.TheVariants.{Never, At}
-use Rattle.lictor_core.specs.declared.tally.ReasonMark.{ReasonMark as FuseReasonMark}
-use Rattle.lictor_core.specs.declared.tally.ReasonMark.TheVariants.{NoReason, For}
 use Rattle.lictor_core.specs.declared.tally.Tally.{Tally as FuseTally}
 use Rattle.host_layout.specs.declared.state.Control.{Control}
 use Rattle.host_layout.specs.declared.state.Motion.{Motion}
@@ -51,20 +47,20 @@ reason_of n = get_or reasons n W.EpisodeEnd
 
 -- ---- marks
 
-unfoldable pub mark_in : Mark → FuseMark
-mark_in m = cond (eqb m.set 0) Never (At m.at)
+unfoldable pub mark_in : Mark → Option ℕ
+mark_in m = cond (eqb m.set 0) None (Some m.at)
 
-unfoldable pub mark_out : FuseMark → Mark
-mark_out m = by_mark m (record { set = 0; at = 0 }) (λ t. record { set = 1; at = t })
+unfoldable pub mark_out : Option ℕ → Mark
+mark_out m = by_option m (record { set = 0; at = 0 }) (λ t. record { set = 1; at = t })
 
-unfoldable pub reason_mark_in : ReasonMark → FuseReasonMark
-reason_mark_in m = cond (eqb m.set 0) NoReason (For (reason_of m.reason))
+unfoldable pub reason_mark_in : ReasonMark → Option ReasonCode
+reason_mark_in m = cond (eqb m.set 0) None (Some (reason_of m.reason))
 
 unfoldable pub reason_set : ReasonCode → ReasonMark
 reason_set w = record { set = 1; reason = reason_code w }
 
-unfoldable pub reason_mark_out : FuseReasonMark → ReasonMark
-reason_mark_out m = by_reason_mark m (record { set = 0; reason = 0 }) reason_set
+unfoldable pub reason_mark_out : Option ReasonCode → ReasonMark
+reason_mark_out m = by_option m (record { set = 0; reason = 0 }) reason_set
 
 -- ---- what a lent run state means
 

@@ -1,22 +1,20 @@
 -- The numbers that a verdict is given as: field by field the same, but for codes and flags.
 -- It joins `SafetyVerdict` of lictor_core (verdict.rs) to the layout of C,
 -- with the codes of 01-scope.md, Modules 1.
-use Rattle.std.specs.Prelude.{ℕ}
+use Rattle.std.specs.Prelude.{ℕ, None, Some, Option}
 use Rattle.lictor_core.specs.Codes.{state_code, status_code, source_code, reason_code}
-use Rattle.lictor_core.specs.declared.verdict.MaybeHandoff.{MaybeHandoff}
-use Rattle.lictor_core.specs.declared.verdict.MaybeHandoff.TheVariants.{NoHandoff, Begun}
 use Rattle.lictor_core.specs.declared.verdict.SafetyVerdict.{SafetyVerdict}
 use Rattle.host_layout.specs.declared.verdict.Verdict.{Verdict}
 use Rattle.host_layout.specs.Flags.{flag_code}
 
 -- whether a handoff begins, and its number, or 0
-abbrev pub handoff_set : MaybeHandoff → ℕ
-handoff_set NoHandoff = 0
-handoff_set (Begun n) = 1
+abbrev pub handoff_set : Option ℕ → ℕ
+handoff_set None = 0
+handoff_set (Some n) = 1
 
-abbrev pub handoff_number : MaybeHandoff → ℕ
-handoff_number NoHandoff = 0
-handoff_number (Begun n) = n
+abbrev pub handoff_number : Option ℕ → ℕ
+handoff_number None = 0
+handoff_number (Some n) = n
 
 unfoldable pub verdict_out : SafetyVerdict → Verdict
 verdict_out v = record {

@@ -1,12 +1,12 @@
 // What a tick is given, as numbers in the layout of C, and what it means.
+// Numbers for codes and flags, and a flag beside what it is of: they are the C interface.
 // A flag is 0 or 1, and where it is 0, what is beside it is not looked at.
 // Any other value is taken as the safe choice: no for `feasible` and `has_ack`, yes for the others.
 ghost use Rattle.std.specs.Prelude.{◌≡◌};
-ghost use Rattle.host_layout.specs.Flags.{flag_of, sure_of};
-ghost use Rattle.host_layout.specs.Input.{settings_in, chunk_in, ack_given, ack_by, ack_in, input_in, outcome_in};
+ghost use Rattle.host_layout.specs.Input.{settings_in, chunk_in, ack_by, ack_in, input_in, outcome_in};
 
-use lictor_core::ack::{DECISIONS, MaybeAck, VerifiedAck, decision_of};
-use lictor_core::chunk::{ChunkHead, MAX_D, MAX_POS, MaybeChunk};
+use lictor_core::ack::{AckDecision, VerifiedAck};
+use lictor_core::chunk::{ChunkHead, MAX_D, MAX_POS};
 use lictor_core::envelope::{Calibration, Hysteresis};
 use lictor_core::fuse::TickInput;
 use lictor_core::scores::{NFEAT, Scores};
@@ -97,155 +97,133 @@ pub struct Outcome {
     pub clamped: [f64; MAX_D],
 }
 
-// Any value but 0 is a yes.
-pub fn flag(n: u8) -> bool
-    ensures { result ≡ flag_of n }
-{
-    n != 0
-}
-
-// 1 alone is a yes.
-fn sure(n: u8) -> bool
-    ensures { result ≡ sure_of n }
-{
-    n == 1
-}
-
 // Which pattern a NaN has is the program's choice.
-pub fn settings_in(given: Settings) -> lictor_core::envelope::Settings
-    ensures { result ≡ settings_in given }
-{
-    let box_lo = given.box_lo;
-    let box_hi = given.box_hi;
-    let hyst = Hysteresis {
-        k: given.k,
-        warn_margin: given.warn_margin,
-        clear_ticks: given.clear_ticks,
-        clamp_streak_to_brake: given.clamp_streak_to_brake,
-        max_clamps_per_episode: given.max_clamps_per_episode,
-        stop_confirm_ticks: given.stop_confirm_ticks,
-        v_stop_eps: given.v_stop_eps,
-        brake_timeout_ticks: given.brake_timeout_ticks,
-        rearm_hold: given.rearm_hold,
-        max_rearms: given.max_rearms,
-        escalate_after_hold_ticks: given.escalate_after_hold_ticks,
-        handoff_timeout_ticks: given.handoff_timeout_ticks,
-        watchdog_ticks: given.watchdog_ticks,
-    };
-    let calib = Calibration {
-        mask: given.calib_mask,
-        tau: given.tau,
-    };
-    lictor_core::envelope::Settings {
-        mode: given.mode,
-        kind: given.kind,
-        clamp: given.clamp,
-        rearm: given.rearm,
-        dim: given.dim,
-        pos_dim: given.pos_dim,
-        horizon: given.horizon,
-        exec: given.exec,
-        dt: given.dt,
-        inv_dt: given.inv_dt,
-        a_max: given.a_max,
-        box_lo,
-        box_hi,
-        hyst,
-        window_mask: given.window_mask,
-        tier0_enabled: given.tier0_enabled,
-        calib,
+#[tactic(auto, unfolding(crate::specs::Input::settings_in))]
+impl From<Settings> for lictor_core::envelope::Settings {
+    ghost from_gives = { λ s r. r ≡ settings_in s };
+
+    fn from(given: Settings) -> Self {
+        let box_lo = given.box_lo;
+        let box_hi = given.box_hi;
+        lictor_core::envelope::Settings {
+            mode: given.mode,
+            kind: given.kind,
+            clamp: given.clamp,
+            rearm: given.rearm,
+            dim: given.dim,
+            pos_dim: given.pos_dim,
+            horizon: given.horizon,
+            exec: given.exec,
+            dt: given.dt,
+            inv_dt: given.inv_dt,
+            a_max: given.a_max,
+            box_lo,
+            box_hi,
+            hyst: Hysteresis {
+                k: given.k,
+                warn_margin: given.warn_margin,
+                clear_ticks: given.clear_ticks,
+                clamp_streak_to_brake: given.clamp_streak_to_brake,
+                max_clamps_per_episode: given.max_clamps_per_episode,
+                stop_confirm_ticks: given.stop_confirm_ticks,
+                v_stop_eps: given.v_stop_eps,
+                brake_timeout_ticks: given.brake_timeout_ticks,
+                rearm_hold: given.rearm_hold,
+                max_rearms: given.max_rearms,
+                escalate_after_hold_ticks: given.escalate_after_hold_ticks,
+                handoff_timeout_ticks: given.handoff_timeout_ticks,
+                watchdog_ticks: given.watchdog_ticks,
+            },
+            window_mask: given.window_mask,
+            tier0_enabled: given.tier0_enabled,
+            calib: Calibration {
+                mask: given.calib_mask,
+                tau: given.tau,
+            },
+        }
     }
 }
 
-fn chunk_in(has: u8, given: Chunk) -> MaybeChunk
+#[tactic(auto, unfolding(crate::specs::Input::chunk_in))]
+fn chunk_in(has: u8, given: Chunk) -> Option<ChunkHead>
     ensures { result ≡ chunk_in has given }
 {
     if has == 0 {
-        return MaybeChunk::NoChunk;
+        return None;
     }
-    let head = ChunkHead {
+    Some(ChunkHead {
         seq: given.seq,
         t_emit: given.t_emit,
         horizon: given.horizon,
         dim: given.dim,
         exec_steps: given.exec_steps,
-    };
-    MaybeChunk::Delivered(head)
+    })
 }
 
-fn ack_given(ack: Ack) -> MaybeAck
-    ensures { result ≡ ack_given ack }
-{
-    let decision = decision_of(ack.decision);
-    let given = VerifiedAck {
-        decision,
-        operator_slot: ack.operator_slot,
-        nonce: ack.nonce,
-        handoff_seq: ack.handoff_seq,
-    };
-    MaybeAck::Given(given)
-}
+#[tactic(auto, unfolding(crate::specs::Input::ack_by, crate::specs::Input::ack_given, lictor_core::specs::Codes::listed))]
+impl From<Ack> for Option<VerifiedAck> {
+    ghost from_gives = { λ a r. r ≡ ack_by a };
 
-fn ack_by(ack: Ack) -> MaybeAck
-    ensures { result ≡ ack_by ack }
-{
-    if DECISIONS <= ack.decision {
-        return MaybeAck::NoAck;
+    fn from(ack: Ack) -> Self {
+        match AckDecision::try_from(ack.decision) {
+            Ok(decision) => Some(VerifiedAck {
+                decision,
+                operator_slot: ack.operator_slot,
+                nonce: ack.nonce,
+                handoff_seq: ack.handoff_seq,
+            }),
+            Err(_) => None,
+        }
     }
-    ack_given(ack)
 }
 
-fn ack_in(has: u8, ack: Ack) -> MaybeAck
+// 1 alone says that an acknowledgement is there.
+#[tactic(auto, unfolding(crate::specs::Input::ack_in, crate::specs::Flags::sure_of))]
+fn ack_in(has: u8, ack: Ack) -> Option<VerifiedAck>
     ensures { result ≡ ack_in has ack }
 {
-    let given = sure(has);
-    if given {
-        return ack_by(ack);
-    }
-    MaybeAck::NoAck
+    if has == 1 { ack.into() } else { None }
 }
 
-pub fn input_in(given: Input) -> TickInput
-    ensures { result ≡ input_in given }
-{
-    let c = given.chunk;
-    let a = given.ack;
-    let schema_fault = flag(given.schema_fault);
-    let has_vel = flag(given.has_vel);
-    let chunk = chunk_in(given.has_chunk, c);
-    let ack = ack_in(given.has_ack, a);
-    TickInput {
-        t: given.t,
-        idx: given.idx,
-        missed_ticks: given.missed_ticks,
-        schema_fault,
-        has_vel,
-        chunk,
-        ack,
+#[tactic(auto, unfolding(crate::specs::Input::input_in, crate::specs::Flags::flag_of))]
+impl From<Input> for TickInput {
+    ghost from_gives = { λ i r. r ≡ input_in i };
+
+    fn from(given: Input) -> Self {
+        TickInput {
+            t: given.t,
+            idx: given.idx,
+            missed_ticks: given.missed_ticks,
+            schema_fault: given.schema_fault != 0,
+            has_vel: given.has_vel != 0,
+            chunk: chunk_in(given.has_chunk, given.chunk),
+            ack: ack_in(given.has_ack, given.ack),
+        }
     }
 }
 
 // Which pattern a NaN has is the program's choice.
-pub fn outcome_in(given: Outcome) -> lictor_core::outcome::Outcome
-    ensures { result ≡ outcome_in given }
-{
-    let standardised = given.z;
-    let policy = given.policy;
-    let clamped = given.clamped;
-    let feasible = sure(given.feasible);
-    let scores = Scores {
-        z: standardised,
-        s: given.s,
-        valid: given.valid,
-        fired: given.fired,
-    };
-    lictor_core::outcome::Outcome {
-        trips: given.trips,
-        clamped_dims: given.clamped_dims,
-        feasible,
-        margin: given.margin,
-        scores,
-        policy,
-        clamped,
+#[tactic(auto, unfolding(crate::specs::Input::outcome_in, crate::specs::Flags::sure_of))]
+impl From<Outcome> for lictor_core::outcome::Outcome {
+    ghost from_gives = { λ o r. r ≡ outcome_in o };
+
+    fn from(given: Outcome) -> Self {
+        let z = given.z;
+        let policy = given.policy;
+        let clamped = given.clamped;
+        lictor_core::outcome::Outcome {
+            trips: given.trips,
+            clamped_dims: given.clamped_dims,
+            feasible: given.feasible == 1,
+            margin: given.margin,
+            scores: Scores {
+                z,
+                s: given.s,
+                valid: given.valid,
+                fired: given.fired,
+            },
+            policy,
+            clamped,
+        }
     }
 }

@@ -1,18 +1,17 @@
 // The run state as numbers in the layout of C, to and from the fuse's.
 // Field names are the fuse's, and their order is that of fuse.rs in each group.
+// Numbers for codes, marks and flags: they are the C interface.
 // A host has no need to look inside: it lends what `disklorva_new` gave it.
 // Any bytes are a run state: an unlisted code of a state is Fault, one of a reason EpisodeEnd.
 ghost use Rattle.std.specs.Prelude.{◌≡◌};
-ghost use Rattle.host_layout.specs.State.{state_of, reason_of, mark_in, mark_out, reason_mark_in, reason_set, reason_mark_out, control_in, control_out, motion_in, motion_out, clock_in, clock_out, tally_in, tally_out, state_in, state_out};
+ghost use Rattle.host_layout.specs.State.{state_of, reason_of, mark_in, mark_out, reason_mark_in, reason_mark_out, control_in, control_out, motion_in, motion_out, clock_in, clock_out, tally_in, tally_out, state_in, state_out};
 
-use crate::input::flag;
-use crate::verdict::code;
 use lictor_core::chunk::{MAX_D, MAX_POS};
 use lictor_core::envelope::MAX_OPERATORS;
 use lictor_core::fuse::{FuseRt, Window};
-use lictor_core::reason::{ReasonCode, reason_code};
+use lictor_core::reason::ReasonCode;
 use lictor_core::scores::NFEAT;
-use lictor_core::state::{FuseState, Time, state_code};
+use lictor_core::state::{FuseState, Time};
 use lictor_core::verdict::TRIP_BITS;
 
 // The rows are before the small fields, as in lictor_core: with a gap in front of a row a copy of it
@@ -114,6 +113,8 @@ pub struct RunState {
     pub tally: Tally,
 }
 
+// A function and no TryFrom: every number has a meaning here (`state_of`, specs/State).
+#[tactic(auto, unfolding(crate::specs::State::states))]
 fn state_of(n: u8) -> FuseState
     ensures { result ≡ state_of n }
 {
@@ -131,6 +132,7 @@ fn state_of(n: u8) -> FuseState
     }
 }
 
+#[tactic(auto, unfolding(crate::specs::State::reasons))]
 fn reason_of(n: u8) -> ReasonCode
     ensures { result ≡ reason_of n }
 {
@@ -167,298 +169,285 @@ fn reason_of(n: u8) -> ReasonCode
     }
 }
 
-fn mark_in(m: Mark) -> lictor_core::tally::Mark
-    ensures { result ≡ mark_in m }
-{
-    if m.set == 0 {
-        return lictor_core::tally::Mark::Never;
-    }
-    lictor_core::tally::Mark::At(m.at)
-}
+#[tactic(auto, unfolding(crate::specs::State::mark_in))]
+impl From<Mark> for Option<Time> {
+    ghost from_gives = { λ m r. r ≡ mark_in m };
 
-fn mark_out(m: lictor_core::tally::Mark) -> Mark
-    ensures { result ≡ mark_out m }
-{
-    match m {
-        lictor_core::tally::Mark::Never => Mark { set: 0, at: 0 },
-        lictor_core::tally::Mark::At(t) => Mark { set: 1, at: t },
+    fn from(m: Mark) -> Self {
+        if m.set == 0 { None } else { Some(m.at) }
     }
 }
 
-fn reason_mark_in(m: ReasonMark) -> lictor_core::tally::ReasonMark
-    ensures { result ≡ reason_mark_in m }
-{
-    if m.set == 0 {
-        return lictor_core::tally::ReasonMark::NoReason;
-    }
-    let why = reason_of(m.reason);
-    lictor_core::tally::ReasonMark::For(why)
-}
+#[tactic(auto, unfolding(crate::specs::State::mark_out))]
+impl From<Option<Time>> for Mark {
+    ghost from_gives = { λ m r. r ≡ mark_out m };
 
-fn reason_set(why: ReasonCode) -> ReasonMark
-    ensures { result ≡ reason_set why }
-{
-    let n = reason_code(why);
-    ReasonMark { set: 1, reason: n }
-}
-
-fn reason_mark_out(m: lictor_core::tally::ReasonMark) -> ReasonMark
-    ensures { result ≡ reason_mark_out m }
-{
-    match m {
-        lictor_core::tally::ReasonMark::NoReason => ReasonMark { set: 0, reason: 0 },
-        lictor_core::tally::ReasonMark::For(why) => reason_set(why),
+    fn from(m: Option<Time>) -> Self {
+        match m {
+            None => Mark { set: 0, at: 0 },
+            Some(at) => Mark { set: 1, at },
+        }
     }
 }
 
-fn control_in(given: Control) -> lictor_core::fuse::Control
-    ensures { result ≡ control_in given }
-{
-    let hold = given.hold;
-    let last_nonce = given.last_nonce;
-    let window = Window { bits: given.window };
-    let state = state_of(given.state);
-    let handoff_pending = flag(given.handoff_pending);
-    lictor_core::fuse::Control {
-        window,
-        state,
-        hold,
-        clean_run: given.clean_run,
-        clamp_streak: given.clamp_streak,
-        clamps: given.clamps,
-        brake_ticks: given.brake_ticks,
-        stopped_ticks: given.stopped_ticks,
-        held_ticks: given.held_ticks,
-        held_clean: given.held_clean,
-        escalated_ticks: given.escalated_ticks,
-        rearms: given.rearms,
-        handoff_seq: given.handoff_seq,
-        handoff_pending,
-        last_nonce,
+#[tactic(auto, unfolding(crate::specs::State::reason_mark_in))]
+impl From<ReasonMark> for Option<ReasonCode> {
+    ghost from_gives = { λ m r. r ≡ reason_mark_in m };
+
+    fn from(m: ReasonMark) -> Self {
+        if m.set == 0 {
+            None
+        } else {
+            Some(reason_of(m.reason))
+        }
     }
 }
 
-fn motion_in(given: Motion) -> lictor_core::fuse::Motion
-    ensures { result ≡ motion_in given }
-{
-    let pos = given.pos;
-    let prev_pos = given.prev_pos;
-    let vel = given.vel;
-    let last_cmd = given.last_cmd;
-    let have_prev_pos = flag(given.have_prev_pos);
-    lictor_core::fuse::Motion {
-        pos,
-        prev_pos,
-        vel,
-        have_prev_pos,
-        last_cmd,
+#[tactic(auto, unfolding(crate::specs::State::reason_mark_out, crate::specs::State::reason_set))]
+impl From<Option<ReasonCode>> for ReasonMark {
+    ghost from_gives = { λ m r. r ≡ reason_mark_out m };
+
+    fn from(m: Option<ReasonCode>) -> Self {
+        match m {
+            None => ReasonMark { set: 0, reason: 0 },
+            Some(why) => ReasonMark {
+                set: 1,
+                reason: why as u8,
+            },
+        }
     }
 }
 
-fn clock_in(given: Clock) -> lictor_core::fuse::Clock
-    ensures { result ≡ clock_in given }
-{
-    let filled = flag(given.filled);
-    let chunk_ok_this_tick = flag(given.chunk_ok_this_tick);
-    lictor_core::fuse::Clock {
-        filled,
-        seq: given.seq,
-        last_t: given.last_t,
-        next_chunk_seq: given.next_chunk_seq,
-        chunk_ok_this_tick,
+#[tactic(auto, unfolding(crate::specs::State::control_in, crate::specs::Flags::flag_of))]
+impl From<Control> for lictor_core::fuse::Control {
+    ghost from_gives = { λ c r. r ≡ control_in c };
+
+    fn from(given: Control) -> Self {
+        let hold = given.hold;
+        let last_nonce = given.last_nonce;
+        lictor_core::fuse::Control {
+            window: Window { bits: given.window },
+            state: state_of(given.state),
+            hold,
+            clean_run: given.clean_run,
+            clamp_streak: given.clamp_streak,
+            clamps: given.clamps,
+            brake_ticks: given.brake_ticks,
+            stopped_ticks: given.stopped_ticks,
+            held_ticks: given.held_ticks,
+            held_clean: given.held_clean,
+            escalated_ticks: given.escalated_ticks,
+            rearms: given.rearms,
+            handoff_seq: given.handoff_seq,
+            handoff_pending: given.handoff_pending != 0,
+            last_nonce,
+        }
     }
 }
 
-// Which pattern a NaN has is the program's choice.
-pub fn tally_in(given: Tally) -> lictor_core::tally::Tally
-    ensures { result ≡ tally_in given }
-{
-    let trips_by_bit = given.trips_by_bit;
-    let fired_by_feat = given.fired_by_feat;
-    let trip_at = given.first_trip_tick;
-    let trip_why = given.first_trip_reason;
-    let stop_at = given.first_stop_tick;
-    let handoff_at = given.handoff_tick;
-    let max_z = given.max_z;
-    let first_trip_tick = mark_in(trip_at);
-    let first_trip_reason = reason_mark_in(trip_why);
-    let first_stop_tick = mark_in(stop_at);
-    let handoff_tick = mark_in(handoff_at);
-    let terminal_state = state_of(given.terminal_state);
-    lictor_core::tally::Tally {
-        ticks: given.ticks,
-        nominal: given.nominal,
-        watching: given.watching,
-        clamped: given.clamped,
-        braking: given.braking,
-        held: given.held,
-        escalated: given.escalated,
-        fault: given.fault,
-        terminated: given.terminated,
-        substituted: given.substituted,
-        chunks_seen: given.chunks_seen,
-        chunks_rejected: given.chunks_rejected,
-        clamps: given.clamps,
-        holds: given.holds,
-        rearms: given.rearms,
-        escalations: given.escalations,
-        trips_by_bit,
-        fired_by_feat,
-        first_trip_tick,
-        first_trip_reason,
-        first_stop_tick,
-        handoff_tick,
-        violations_reached_env: given.violations_reached_env,
-        max_s: given.max_s,
-        max_z,
-        terminal_state,
-        stop_actions: given.stop_actions,
+#[tactic(auto, unfolding(crate::specs::State::motion_in, crate::specs::Flags::flag_of))]
+impl From<Motion> for lictor_core::fuse::Motion {
+    ghost from_gives = { λ c r. r ≡ motion_in c };
+
+    fn from(given: Motion) -> Self {
+        let pos = given.pos;
+        let prev_pos = given.prev_pos;
+        let vel = given.vel;
+        let last_cmd = given.last_cmd;
+        lictor_core::fuse::Motion {
+            pos,
+            prev_pos,
+            vel,
+            have_prev_pos: given.have_prev_pos != 0,
+            last_cmd,
+        }
     }
 }
 
-fn control_out(control: lictor_core::fuse::Control) -> Control
-    ensures { result ≡ control_out control }
-{
-    let window = control.window;
-    let now = control.state;
-    let hold = control.hold;
-    let last_nonce = control.last_nonce;
-    let state = state_code(now);
-    let handoff_pending = code(control.handoff_pending);
-    Control {
-        window: window.bits,
-        state,
-        hold,
-        clean_run: control.clean_run,
-        clamp_streak: control.clamp_streak,
-        clamps: control.clamps,
-        brake_ticks: control.brake_ticks,
-        stopped_ticks: control.stopped_ticks,
-        held_ticks: control.held_ticks,
-        held_clean: control.held_clean,
-        escalated_ticks: control.escalated_ticks,
-        rearms: control.rearms,
-        handoff_seq: control.handoff_seq,
-        handoff_pending,
-        last_nonce,
-    }
-}
+#[tactic(auto, unfolding(crate::specs::State::clock_in, crate::specs::Flags::flag_of))]
+impl From<Clock> for lictor_core::fuse::Clock {
+    ghost from_gives = { λ c r. r ≡ clock_in c };
 
-fn motion_out(motion: lictor_core::fuse::Motion) -> Motion
-    ensures { result ≡ motion_out motion }
-{
-    let pos = motion.pos;
-    let prev_pos = motion.prev_pos;
-    let vel = motion.vel;
-    let last_cmd = motion.last_cmd;
-    let have_prev_pos = code(motion.have_prev_pos);
-    Motion {
-        pos,
-        prev_pos,
-        vel,
-        have_prev_pos,
-        last_cmd,
-    }
-}
-
-fn clock_out(clock: lictor_core::fuse::Clock) -> Clock
-    ensures { result ≡ clock_out clock }
-{
-    let filled = code(clock.filled);
-    let chunk_ok_this_tick = code(clock.chunk_ok_this_tick);
-    Clock {
-        filled,
-        seq: clock.seq,
-        last_t: clock.last_t,
-        next_chunk_seq: clock.next_chunk_seq,
-        chunk_ok_this_tick,
+    fn from(given: Clock) -> Self {
+        lictor_core::fuse::Clock {
+            filled: given.filled != 0,
+            seq: given.seq,
+            last_t: given.last_t,
+            next_chunk_seq: given.next_chunk_seq,
+            chunk_ok_this_tick: given.chunk_ok_this_tick != 0,
+        }
     }
 }
 
 // Which pattern a NaN has is the program's choice.
-pub fn tally_out(tally: lictor_core::tally::Tally) -> Tally
-    ensures { result ≡ tally_out tally }
-{
-    let trips_by_bit = tally.trips_by_bit;
-    let fired_by_feat = tally.fired_by_feat;
-    let trip_at = tally.first_trip_tick;
-    let trip_why = tally.first_trip_reason;
-    let stop_at = tally.first_stop_tick;
-    let handoff_at = tally.handoff_tick;
-    let max_z = tally.max_z;
-    let ended = tally.terminal_state;
-    let first_trip_tick = mark_out(trip_at);
-    let first_trip_reason = reason_mark_out(trip_why);
-    let first_stop_tick = mark_out(stop_at);
-    let handoff_tick = mark_out(handoff_at);
-    let terminal_state = state_code(ended);
-    Tally {
-        ticks: tally.ticks,
-        nominal: tally.nominal,
-        watching: tally.watching,
-        clamped: tally.clamped,
-        braking: tally.braking,
-        held: tally.held,
-        escalated: tally.escalated,
-        fault: tally.fault,
-        terminated: tally.terminated,
-        substituted: tally.substituted,
-        chunks_seen: tally.chunks_seen,
-        chunks_rejected: tally.chunks_rejected,
-        clamps: tally.clamps,
-        holds: tally.holds,
-        rearms: tally.rearms,
-        escalations: tally.escalations,
-        trips_by_bit,
-        fired_by_feat,
-        first_trip_tick,
-        first_trip_reason,
-        first_stop_tick,
-        handoff_tick,
-        violations_reached_env: tally.violations_reached_env,
-        max_s: tally.max_s,
-        max_z,
-        terminal_state,
-        stop_actions: tally.stop_actions,
+#[tactic(auto, unfolding(crate::specs::State::tally_in))]
+impl From<Tally> for lictor_core::tally::Tally {
+    ghost from_gives = { λ c r. r ≡ tally_in c };
+
+    fn from(given: Tally) -> Self {
+        let trips_by_bit = given.trips_by_bit;
+        let fired_by_feat = given.fired_by_feat;
+        let max_z = given.max_z;
+        lictor_core::tally::Tally {
+            ticks: given.ticks,
+            nominal: given.nominal,
+            watching: given.watching,
+            clamped: given.clamped,
+            braking: given.braking,
+            held: given.held,
+            escalated: given.escalated,
+            fault: given.fault,
+            terminated: given.terminated,
+            substituted: given.substituted,
+            chunks_seen: given.chunks_seen,
+            chunks_rejected: given.chunks_rejected,
+            clamps: given.clamps,
+            holds: given.holds,
+            rearms: given.rearms,
+            escalations: given.escalations,
+            trips_by_bit,
+            fired_by_feat,
+            first_trip_tick: given.first_trip_tick.into(),
+            first_trip_reason: given.first_trip_reason.into(),
+            first_stop_tick: given.first_stop_tick.into(),
+            handoff_tick: given.handoff_tick.into(),
+            violations_reached_env: given.violations_reached_env,
+            max_s: given.max_s,
+            max_z,
+            terminal_state: state_of(given.terminal_state),
+            stop_actions: given.stop_actions,
+        }
+    }
+}
+
+#[tactic(auto, unfolding(crate::specs::State::control_out, crate::specs::Flags::flag_code))]
+impl From<lictor_core::fuse::Control> for Control {
+    ghost from_gives = { λ c r. r ≡ control_out c };
+
+    fn from(control: lictor_core::fuse::Control) -> Self {
+        let hold = control.hold;
+        let last_nonce = control.last_nonce;
+        Control {
+            window: control.window.bits,
+            state: control.state as u8,
+            hold,
+            clean_run: control.clean_run,
+            clamp_streak: control.clamp_streak,
+            clamps: control.clamps,
+            brake_ticks: control.brake_ticks,
+            stopped_ticks: control.stopped_ticks,
+            held_ticks: control.held_ticks,
+            held_clean: control.held_clean,
+            escalated_ticks: control.escalated_ticks,
+            rearms: control.rearms,
+            handoff_seq: control.handoff_seq,
+            handoff_pending: u8::from(control.handoff_pending),
+            last_nonce,
+        }
+    }
+}
+
+#[tactic(auto, unfolding(crate::specs::State::motion_out, crate::specs::Flags::flag_code))]
+impl From<lictor_core::fuse::Motion> for Motion {
+    ghost from_gives = { λ c r. r ≡ motion_out c };
+
+    fn from(motion: lictor_core::fuse::Motion) -> Self {
+        let pos = motion.pos;
+        let prev_pos = motion.prev_pos;
+        let vel = motion.vel;
+        let last_cmd = motion.last_cmd;
+        Motion {
+            pos,
+            prev_pos,
+            vel,
+            have_prev_pos: u8::from(motion.have_prev_pos),
+            last_cmd,
+        }
+    }
+}
+
+#[tactic(auto, unfolding(crate::specs::State::clock_out, crate::specs::Flags::flag_code))]
+impl From<lictor_core::fuse::Clock> for Clock {
+    ghost from_gives = { λ c r. r ≡ clock_out c };
+
+    fn from(clock: lictor_core::fuse::Clock) -> Self {
+        Clock {
+            filled: u8::from(clock.filled),
+            seq: clock.seq,
+            last_t: clock.last_t,
+            next_chunk_seq: clock.next_chunk_seq,
+            chunk_ok_this_tick: u8::from(clock.chunk_ok_this_tick),
+        }
     }
 }
 
 // Which pattern a NaN has is the program's choice.
-pub fn state_in(rt: RunState) -> FuseRt
-    ensures { result ≡ state_in rt }
-{
-    let c = rt.control;
-    let m = rt.motion;
-    let k = rt.clock;
-    let t = rt.tally;
-    let control = control_in(c);
-    let motion = motion_in(m);
-    let clock = clock_in(k);
-    let tally = tally_in(t);
-    FuseRt {
-        control,
-        motion,
-        clock,
-        tally,
+#[tactic(auto, unfolding(crate::specs::State::tally_out))]
+impl From<lictor_core::tally::Tally> for Tally {
+    ghost from_gives = { λ c r. r ≡ tally_out c };
+
+    fn from(tally: lictor_core::tally::Tally) -> Self {
+        let trips_by_bit = tally.trips_by_bit;
+        let fired_by_feat = tally.fired_by_feat;
+        let max_z = tally.max_z;
+        Tally {
+            ticks: tally.ticks,
+            nominal: tally.nominal,
+            watching: tally.watching,
+            clamped: tally.clamped,
+            braking: tally.braking,
+            held: tally.held,
+            escalated: tally.escalated,
+            fault: tally.fault,
+            terminated: tally.terminated,
+            substituted: tally.substituted,
+            chunks_seen: tally.chunks_seen,
+            chunks_rejected: tally.chunks_rejected,
+            clamps: tally.clamps,
+            holds: tally.holds,
+            rearms: tally.rearms,
+            escalations: tally.escalations,
+            trips_by_bit,
+            fired_by_feat,
+            first_trip_tick: tally.first_trip_tick.into(),
+            first_trip_reason: tally.first_trip_reason.into(),
+            first_stop_tick: tally.first_stop_tick.into(),
+            handoff_tick: tally.handoff_tick.into(),
+            violations_reached_env: tally.violations_reached_env,
+            max_s: tally.max_s,
+            max_z,
+            terminal_state: tally.terminal_state as u8,
+            stop_actions: tally.stop_actions,
+        }
     }
 }
 
 // Which pattern a NaN has is the program's choice.
-pub fn state_out(rt: FuseRt) -> RunState
-    ensures { result ≡ state_out rt }
-{
-    let c = rt.control;
-    let m = rt.motion;
-    let k = rt.clock;
-    let t = rt.tally;
-    let control = control_out(c);
-    let motion = motion_out(m);
-    let clock = clock_out(k);
-    let tally = tally_out(t);
-    RunState {
-        control,
-        motion,
-        clock,
-        tally,
+#[tactic(auto, unfolding(crate::specs::State::state_in))]
+impl From<RunState> for FuseRt {
+    ghost from_gives = { λ s r. r ≡ state_in s };
+
+    fn from(rt: RunState) -> Self {
+        FuseRt {
+            control: rt.control.into(),
+            motion: rt.motion.into(),
+            clock: rt.clock.into(),
+            tally: rt.tally.into(),
+        }
+    }
+}
+
+// Which pattern a NaN has is the program's choice.
+#[tactic(auto, unfolding(crate::specs::State::state_out))]
+impl From<FuseRt> for RunState {
+    ghost from_gives = { λ s r. r ≡ state_out s };
+
+    fn from(rt: FuseRt) -> Self {
+        RunState {
+            control: rt.control.into(),
+            motion: rt.motion.into(),
+            clock: rt.clock.into(),
+            tally: rt.tally.into(),
+        }
     }
 }

@@ -1,5 +1,6 @@
 -- Demand 1: every journal ends, with its events and the end of its bytes, or with a refusal; and
 -- exactly the causes of the table refuse a record.
+use Rattle.std.proofs.Common.{Ok, Err}
 use Prim.Native.Nat.{ℕ, ◌+◌, ◌-◌, ◌<◌}
 use mathlib.Core.Path.{◌≡◌, refl, sym, ap, ap₂, ◌∙◌}
 use mathlib.Core.List.{List, [], ◌∷◌, ◌++◌}
@@ -11,10 +12,8 @@ use Rattle.journal_frames.specs.Frames.{body_len}
 use Rattle.journal_records.specs.Little.{byte_at}
 use Rattle.journal_refusals.specs.declared.Refusal.{Refusal}
 use Rattle.journal_refusals.specs.declared.Refusal.TheVariants.{CutBody}
-use Rattle.journal_refusals.specs.declared.Judged.{Judged}
-use Rattle.journal_refusals.specs.declared.Judged.TheVariants.{Accepted, Refused}
 use Rattle.journal_refusals.specs.declared.Seen.{Seen}
-use Rattle.journal_refusals.specs.Table.{judged_of}
+use Rattle.journal_refusals.specs.Table.{Accepted, Refused, Judged, judged_of}
 use Rattle.journal_refusals.proofs.Exactly.{numbers}
 use Rattle.stream.specs.Stream.{wait, halt, End, awaits, halted, Settled, telling, settled}
 use Rattle.journal_reader.specs.State.{State, seen_in}
@@ -85,8 +84,8 @@ module _ (kinds s : List ℕ) (a : Settled State Instruction Refusal) (e : settl
 -- no refusal has been there before the end
 no_refusal : (kinds s : List ℕ) → (journal_of kinds s).ending ≡ ended → ((r : Refusal) (p : ℕ) → RefusedAt kinds s r p → (journal_of kinds s).ending ≡ refused r p)
     → (p : ℕ) → p < length s → (journal_of kinds (take p s)).ending ≡ ended → (x : Judged) → judged_at kinds (journal_of kinds (take p s)).left.state s p ≡ x → x ≡ Accepted
-no_refusal kinds s e back p h b Accepted c = refl
-no_refusal kinds s e back p h b (Refused r) c =
+no_refusal kinds s e back p h b (Ok _) c = refl
+no_refusal kinds s e back p h b (Err r) c =
     let q : ended ≡ refused r p = sym e ∙ back r p (record { inside = h; before = b; cause = c }) in
     impossible cc
 

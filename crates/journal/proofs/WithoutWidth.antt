@@ -1,5 +1,6 @@
 -- A journal with a width comes to what it comes to without that record (specs/Widths).
 -- A reader that has seen a width does with every other record what one does that has not.
+use Rattle.std.proofs.Common.{Ok, Err}
 use Prim.Native.Nat.{ℕ, zero, suc, ◌+◌, ◌-◌, ◌≤◌}
 use mathlib.Core.Bool.{Bool, true, false}
 use mathlib.Core.List.{List, [], ◌∷◌, ◌++◌}
@@ -22,10 +23,8 @@ use Rattle.journal_records.specs.Body.{decode_of}
 use Rattle.journal_refusals.specs.declared.Seen.{Seen}
 use Rattle.journal_refusals.specs.declared.Refusal.{Refusal}
 use Rattle.journal_refusals.specs.declared.Refusal.TheVariants.{BeforeSettings, Again}
-use Rattle.journal_refusals.specs.declared.Judged.{Judged}
-use Rattle.journal_refusals.specs.declared.Judged.TheVariants.{Accepted, Refused}
 use Rattle.journal_refusals.specs.Causes.{before_settings, again, code_not_listed, size_outside, float_outside, box_crossed, list_full, not_ready}
-use Rattle.journal_refusals.specs.Table.{order_rows, content_rows, whole_rows, judged_of, whole_of}
+use Rattle.journal_refusals.specs.Table.{Refused, Judged, order_rows, content_rows, whole_rows, judged_of, whole_of}
 use Rattle.stream.specs.Stream.{wait, halt, go, tell, End, awaits, halted, Settled, telling, after, settle, settled}
 use Rattle.stream.proofs.Stream.{impossible, joined, settled_tell, Front, front as front_of}
 use Rattle.journal_reader.specs.State.{State, seen_in, seen_width, ack_waits, head_waits, value_waits, stored, outcome_waits, settings_came, width_came, emptied, values_of, input_of}
@@ -78,8 +77,8 @@ record_same st b n (Tick t) = refl
 record_same st b n (Width w) = refl
 
 judged_same : (st : State) (b : List ℕ) (n : ℕ) (x : Record) (j : Judged) → on_judged (measured st) b n x j ≡ moved (on_judged st b n x j)
-judged_same st b n x (Refused r) = refl
-judged_same st b n x Accepted = record_same st b n x
+judged_same st b n x (Err r) = refl
+judged_same st b n x (Ok _) = record_same st b n x
 
 -- ---- one record
 

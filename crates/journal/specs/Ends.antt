@@ -4,9 +4,7 @@ use Rattle.std.specs.Prelude.{List, ◌≡◌, ℕ, ◌+◌, ◌≤◌, ◌<◌,
 use Rattle.journal_records.specs.Little.{byte_at}
 use Rattle.journal_frames.specs.Frames.{body_len}
 use Rattle.journal_refusals.specs.declared.Refusal.{Refusal}
-use Rattle.journal_refusals.specs.declared.Judged.TheVariants.{Accepted, Refused}
-use Rattle.journal_refusals.specs.Table.{number_of, last_number, judged_of}
-use Rattle.journal_refusals.specs.declared.Judged.{Judged}
+use Rattle.journal_refusals.specs.Table.{Accepted, Refused, Judged, number_of, last_number, judged_of}
 use Rattle.journal_reader.specs.State.{State, seen_in}
 use Rattle.journal.specs.Journal.{ended, refused, journal_of}
 

@@ -7,8 +7,7 @@ use Rattle.journal_frames.specs.Frames.{body_len}
 use Rattle.journal_records.specs.Little.{byte_at}
 use Rattle.journal_records.specs.Kinds.{width_kind}
 use Rattle.journal_refusals.specs.declared.Refusal.{Refusal}
-use Rattle.journal_refusals.specs.declared.Judged.TheVariants.{Accepted}
-use Rattle.journal_refusals.specs.Table.{judged_of}
+use Rattle.journal_refusals.specs.Table.{Accepted, judged_of}
 use Rattle.journal_reader.specs.State.{State, seen_in, width_came}
 use Rattle.journal_reader.specs.Reading.{Instruction, begin, restart, tick, width, with_reader}
 use Rattle.journal.specs.declared.tick.Run.{Run}

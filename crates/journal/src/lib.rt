@@ -9,33 +9,41 @@ ghost use Rattle.journal.specs.Events.{begun_of, restarted_of};
 ghost use Rattle.journal.specs.Journal.{start_run};
 
 use crate::tick::Run;
+use journal_records::long::read_settings;
+use lictor_fuse::episode::{new, reset};
+use lictor_settings::config;
 
-// Settings with this body: the fuse begins anew.
-// Which pattern a NaN has is the program's choice.
-pub fn begin(body: &[u8]) -> Run
-    ensures { result ≡ begun_of (settings_of body.now) }
-{
-    let settings = journal_records::long::read_settings(body);
-    let config = lictor_settings::config(settings);
-    let rt = lictor_fuse::episode::new();
-    Run { config, rt }
-}
+impl Run {
+    // Settings with this body: the fuse begins anew.
+    // Which pattern a NaN has is the program's choice.
+    #[tactic(auto, unfolding(crate::specs::Events::begun_of))]
+    pub fn begin(body: &[u8]) -> Self
+        ensures { result ≡ begun_of (settings_of body.now) }
+    {
+        Run {
+            config: config(read_settings(body)),
+            rt: new(),
+        }
+    }
 
-// A reset.
-// Which pattern a NaN has is the program's choice.
-pub fn restart(run: Run) -> Run
-    ensures { result ≡ restarted_of run }
-{
-    let config = run.config;
-    let old = run.rt;
-    let rt = lictor_fuse::episode::reset(old);
-    Run { config, rt }
-}
+    // A reset.
+    // Which pattern a NaN has is the program's choice.
+    #[tactic(auto, unfolding(crate::specs::Events::restarted_of))]
+    pub fn restart(self) -> Self
+        ensures { result ≡ restarted_of self }
+    {
+        Run {
+            rt: reset(self.rt),
+            ..self
+        }
+    }
 
-// The fuse before the first byte.
-// Which pattern a NaN has is the program's choice.
-pub fn start() -> Run
-    ensures { result ≡ start_run }
-{
-    begin(b"")
+    // The fuse before the first byte.
+    // Which pattern a NaN has is the program's choice.
+    #[tactic(auto, unfolding(crate::specs::Journal::start_run))]
+    pub fn start() -> Self
+        ensures { result ≡ start_run }
+    {
+        Run::begin(b"")
+    }
 }

@@ -1,14 +1,14 @@
 // A tick of a journal on the fuse, with all that was collected for it.
 ghost use Rattle.std.specs.Prelude.{◌≡◌, ◌<◌, length};
 ghost use Rattle.journal_refusals.specs.Causes.{capacities, pos_list};
-ghost use Rattle.journal_reader.specs.State.{places, values_of};
+ghost use Rattle.journal_reader.specs.State.{values_of};
 ghost use Rattle.journal_reader.specs.Reading.{brought_of};
 ghost use Rattle.journal.specs.Events.{reported_of};
 
-use journal_reader::waiting::{PLACES, Reader};
-use journal_refusals::{AUX, CHUNK, EXT, POS, Seen, VEL};
+use journal_reader::waiting::{PLACES, Reader, base};
+use journal_refusals::{AUX, CHUNK, EXT, POS, Seen, VEL, capacity};
 use lictor_core::envelope::FuseConfig;
-use lictor_core::fuse::{FuseRt, TickInput};
+use lictor_core::fuse::{FuseRt, Lists, TickInput};
 use lictor_core::verdict::SafetyVerdict;
 use lictor_fuse::decide::decide_by;
 
@@ -29,15 +29,13 @@ pub struct Reported {
     pub run: Run,
 }
 
-// The values of a list.
-fn values(seen: Seen, lists: &[f64], c: usize) -> &[f64]
-    requires { (c < length capacities) × (length lists.now ≡ places) }
+// The values of a list, by its number, as `values_of` has it.
+fn values(seen: Seen, lists: &[f64; PLACES], c: usize) -> &[f64]
+    requires { c < length capacities }
     ensures { result.now ≡ values_of seen lists.now c }
 {
-    let counts = seen.counts;
-    let n = lictor_core::num::least(counts[c], journal_refusals::capacity(c));
-    let from = journal_reader::waiting::base(c);
-    let end = from + n;
+    let from = base(c);
+    let end = from + seen.counts[c].min(capacity(c));
     &lists[from..end]
 }
 
@@ -45,40 +43,36 @@ fn values(seen: Seen, lists: &[f64], c: usize) -> &[f64]
 pub fn lent_positions(seen: Seen, lists: &[f64; PLACES]) -> &[f64]
     ensures { result.now ≡ values_of seen lists.now pos_list }
 {
-    values(seen, &lists[..], POS)
+    values(seen, lists, POS)
 }
 
-// The tick that comes next, on all that was collected.
-// Which pattern a NaN has is the program's choice.
-pub fn tick(rd: Reader, run: Run, lists: &[f64; PLACES], inp: TickInput) -> Reported
-    ensures { result ≡ reported_of run (brought_of (record { reader = rd; lists = lists.now }) inp) }
-{
-    let waiting = rd.waiting;
-    let seen = waiting.seen;
-    let outcome = rd.outcome;
-    let config = run.config;
-    let before = run.rt;
-    let clock = before.clock;
-    let lent = &lists[..];
-    let pos = values(seen, lent, POS);
-    let vel = values(seen, lent, VEL);
-    let guard = lictor_guard::guard(
-        config,
-        clock,
-        inp,
-        pos,
-        vel,
-        values(seen, lent, AUX),
-        values(seen, lent, EXT),
-        values(seen, lent, CHUNK),
-    );
-    let decided = decide_by(config, before, inp, outcome, guard, pos, vel);
-    let rt = decided.rt;
-    let verdict = decided.verdict;
-    let after = Run { config, rt };
-    Reported {
-        guard,
-        verdict,
-        run: after,
+impl Run {
+    // The tick that comes next, on all that was collected.
+    // Which pattern a NaN has is the program's choice.
+    #[tactic(auto, unfolding(crate::specs::Events::reported_of, crate::specs::Events::report_of, crate::specs::Events::ticked_of, crate::specs::Events::decided_of, lictor_fuse::specs::Decide::decide_of, journal_reader::specs::Reading::brought_of))]
+    pub fn tick(self, rd: Reader, lists: &[f64; PLACES], inp: TickInput) -> Reported
+        ensures { result ≡ reported_of self (brought_of (record { reader = rd; lists = lists.now }) inp) }
+    {
+        let seen = rd.waiting.seen;
+        let pos = values(seen, lists, POS);
+        let vel = values(seen, lists, VEL);
+        let lent = Lists {
+            pos,
+            vel,
+            aux: values(seen, lists, AUX),
+            ext: values(seen, lists, EXT),
+            chunk: values(seen, lists, CHUNK),
+        };
+        let guard = lictor_guard::guard(self.config, self.rt.clock, inp, lent);
+        let decided = decide_by(self.config, self.rt, inp, rd.outcome, guard, pos, vel);
+        let run = Run {
+            rt: decided.rt,
+            ..self
+        };
+        Reported {
+            guard,
+            verdict: decided.verdict,
+            run,
+        }
     }
 }

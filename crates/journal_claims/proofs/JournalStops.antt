@@ -1,6 +1,7 @@
 -- Demand 3 of journals: an episode's ticks are calls of `tick` under the journal's settings, from a
 -- reset on, and the whole journal is a list of calls and resets from its settings on
 -- (specs/JournalStops).
+use Rattle.std.specs.Prelude.{Ok}
 use mathlib.Core.Path.{◌≡◌, refl, sym, ap, subst, ◌∙◌}
 use mathlib.Core.List.{List, [], ◌∷◌, ◌++◌, map}
 use Prim.Native.Nat.{ℕ}
@@ -9,7 +10,6 @@ use lib.Dec.{T, T_not}
 use Rattle.lictor_core.specs.declared.envelope.FuseConfig.{FuseConfig}
 use Rattle.lictor_core.specs.declared.envelope.Settings.{Settings}
 use Rattle.lictor_core.specs.declared.fuse.FuseRt.{FuseRt}
-use Rattle.lictor_settings.specs.declared.SettingsCheck.TheVariants.{Accepted}
 use Rattle.lictor_core.specs.Initial.{fresh_control, new_of, reset_of}
 use Rattle.lictor_settings.specs.Settings.{check_of, config_of}
 use Rattle.lictor_fuse.specs.Tick.{given_of}
@@ -67,7 +67,7 @@ configured (j ∷ is) i js r w rest e n =
 
 -- ---- the ticks of an episode as calls of `tick`
 
-module _ (w : Settings) (k : check_of w ≡ Accepted) where
+module _ (w : Settings) (k : check_of w ≡ Ok tt) where
   passes : (c : Brought) → T (settings_pass (call_under w c))
   passes c = rw k tt
 

@@ -1,6 +1,7 @@
 -- What a journal tells is nothing, or its settings, then one width or none, and then resets and ticks:
 -- the judge refuses what comes before settings, settings again, and a width again or after a reset or
 -- a tick.
+use Rattle.std.proofs.Common.{Ok, Err}
 use mathlib.Core.Path.{◌≡◌, refl, sym, ap, ◌∙◌}
 use mathlib.Core.Bool.{Bool, true, false, cond, not, ◌&&◌, ◌||◌}
 use mathlib.Core.List.{List, [], ◌∷◌}
@@ -11,7 +12,6 @@ use lib.Dec.{eqb}
 use lib.Ieee.{Float}
 use lib.ListN.{take, drop}
 use Rattle.lictor_core.specs.declared.envelope.Settings as S
-use Rattle.lictor_settings.specs.declared.SettingsCheck.TheVariants as K
 use Rattle.lictor_core.specs.FirstThat.{first_that}
 use Rattle.lictor_settings.specs.Settings.{bad_size, settings_table, check_of}
 use Rattle.claims.specs.Runs.{All}
@@ -29,10 +29,8 @@ use Rattle.journal_records.specs.Body.{decode_of}
 use Rattle.journal_refusals.specs.declared.Refusal.{Refusal}
 use Rattle.journal_refusals.specs.declared.Refusal.TheVariants.{UnknownKind, BeforeSettings, Again, BadCode, BadSize, BadFloat, BoxCrossed}
 use Rattle.journal_refusals.specs.declared.Seen.{Seen}
-use Rattle.journal_refusals.specs.declared.Judged.{Judged}
-use Rattle.journal_refusals.specs.declared.Judged.TheVariants.{Accepted, Refused}
 use Rattle.journal_refusals.specs.Causes.{before_settings, again, code_not_listed, size_outside, float_outside, box_crossed}
-use Rattle.journal_refusals.specs.Table.{order_rows, content_rows, whole_rows, whole_of}
+use Rattle.journal_refusals.specs.Table.{Accepted, Judged, order_rows, content_rows, whole_rows, whole_of}
 use Rattle.journal_refusals.proofs.Exactly.{cause_of, no_cause}
 use Rattle.stream.specs.Stream.{Next, wait, halt, go, tell, after, settle, settled}
 use Rattle.journal_reader.specs.State.{State, seen_in, ack_waits, head_waits, value_waits, outcome_waits, settings_came, width_came, emptied, start_reader}
@@ -88,7 +86,7 @@ past st = wide st || st.reader.waiting.seen.underway
 -- what is known of settings that the bytes s held: they passed the check, and their limits have the
 -- sizes of their fields
 pub record Checked (s : List ℕ) (w : S.Settings) : Type 0 where
-  pub check : check_of w ≡ K.Accepted
+  pub check : check_of w ≡ Ok tt
   pub sizes : bad_size w ≡ false
   pub sized : Bytes s → Sized w
 
@@ -164,14 +162,14 @@ module _ (st : State) (s : List ℕ) (k : ℕ) (b : List ℕ) (n : ℕ) (h : Byt
   unfolding decode_of before_settings again code_not_listed size_outside float_outside box_crossed check_of settings_table first_that
   kind_moves p true e =
       let z = rw e at p.sizes in
-      let c : check_of (settings_of b) ≡ K.Accepted = rw (rw e at p.codes, z, rw e at p.floats, rw e at p.box) refl in
+      let c : check_of (settings_of b) ≡ Ok tt = rw (rw e at p.codes, z, rw e at p.floats, rw e at p.box) refl in
       rw e (settings_move st s b n (rw e at p.twice) (record { check = c; sizes = z; sized = λ q. read_sized b (h q) }))
   kind_moves p false e =
       others_move st s b n k e (both_false (came st) (rw e at p.order)) (λ q. sym (ap (λ (j : ℕ). again (seen_in st) j b) q) ∙ p.twice)
 
   judged_moves : (j : Judged) → whole_of (seen_in st) k b ≡ j → Moves st s (on_judged st b n (decode_of k b) j)
-  judged_moves (Refused r) e = tt
-  judged_moves Accepted e = kind_moves (passed_by (seen_in st) k b e) (eqb k settings_kind) refl
+  judged_moves (Err r) e = tt
+  judged_moves (Ok _) e = kind_moves (passed_by (seen_in st) k b e) (eqb k settings_kind) refl
 
 frame_moves : (st : State) (s : List ℕ) (x : Frame) → Moves st s (on_frame UnknownKind on_whole st s x)
 unfolding on_whole

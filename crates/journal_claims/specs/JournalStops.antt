@@ -6,11 +6,10 @@
 -- and Runs); the meaning of a journal (journal, specs/Journal, journal_of, and specs/Events), of which
 -- the fuse's events (specs/Widths, of_fuse); its instructions (Instructions). (00-demands.md, Demand
 -- 3; 01-scope.md, The list in demand 3 and Journal; 02-change-requests.md, Ask 6.)
-use Rattle.std.specs.Prelude.{List, [], ◌∷◌, ◌++◌, map, ◌≡◌, ℕ, ◌<◌}
+use Rattle.std.specs.Prelude.{List, [], ◌∷◌, ◌++◌, map, ◌≡◌, ℕ, ◌<◌, Ok}
 use Rattle.lictor_core.specs.declared.envelope.Settings.{Settings}
 use Rattle.lictor_core.specs.declared.fuse.FuseRt.{FuseRt}
 use Rattle.lictor_core.specs.Initial.{new_of}
-use Rattle.lictor_settings.specs.declared.SettingsCheck.TheVariants.{Accepted}
 use Rattle.lictor_settings.specs.Settings.{check_of, config_of}
 use Rattle.lictor_fuse.specs.declared.Ticked.{Ticked}
 use Rattle.claims.specs.Runs.{All, course}
@@ -43,7 +42,7 @@ pub record SettledBy (w : Settings) (is : List Instruction) : Type 0 where
   pub rest : List Instruction
   pub first : is ≡ begin w ∷ rest
   pub once : All GoesOn rest
-  pub check : check_of w ≡ Accepted
+  pub check : check_of w ≡ Ok tt
   pub sized : Sized w
 
 -- ---- an episode

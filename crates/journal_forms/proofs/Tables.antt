@@ -1,17 +1,15 @@
 -- The tables of both forms fit each other: a test that is computed for each kind, and what it says.
 use Prim.Native.Nat.{ℕ, zero, suc, ◌+◌, ◌≤◌, ◌<◌}
 use mathlib.Core.Path.{◌≡◌, refl, ap, ◌∙◌}
-use mathlib.Core.Bool.{Bool, true, false, cond, ◌&&◌}
-use mathlib.Core.List.{List, [], ◌∷◌}
+use mathlib.Core.Bool.{Bool, true, false, ◌&&◌}
+use mathlib.Core.List.{[], ◌∷◌}
 use native.Mathlib.Omega.{arith}
 use lib.Dec.{eqb, leb, ltb}
-use lib.ListN.{get_or}
 use borrow.Author.Tests.{eqb-true, eqb-false, leb-true, ltb-true, ne_eqb}
 use Rattle.journal_records.specs.Kinds.{settings_kind, value_kind, outcome_kind, width_kind}
 use Rattle.journal_frames.specs.Frames.{is_known, body_len}
 use Rattle.journal_forms.specs.declared.Form.{Form}
 use Rattle.journal_forms.specs.declared.Form.TheVariants.{Wide, Narrow}
-use Rattle.journal_forms.specs.declared.body.Run.{Run}
 use Rattle.journal_forms.specs.Forms.{kinds_of, run, runs_of, record_most}
 use Rattle.journal_forms.specs.Body.{runs_bytes}
 use Rattle.journal_forms.proofs.Floats.{and_both}
@@ -82,23 +80,3 @@ pub record NoFloats (k : ℕ) : Type 0 where
 pub no_floats : (k : ℕ) → NoFloats k → (run 0 0 ∷ run 0 0 ∷ []) ≡ runs_of k
 unfolding runs_of
 no_floats k n = simp (ne_eqb k settings_kind n.settings, ne_eqb k value_kind n.value, ne_eqb k outcome_kind n.outcome, ne_eqb k width_kind n.width)
-
--- every kind has two runs
-abbrev rows : Bool → Bool → Bool → Bool → List Run
-rows p q r w =
-    cond p (run 44 22 ∷ run 0 0 ∷ [])
-    (cond q (run 1 1 ∷ run 0 0 ∷ [])
-    (cond r (run 9 2 ∷ run 8 28 ∷ [])
-    (cond w (run 0 1 ∷ run 0 0 ∷ [])
-    (run 0 0 ∷ run 0 0 ∷ []))))
-
-two_rows : (p q r w : Bool) (d : Run) → get_or (rows p q r w) 0 d ∷ get_or (rows p q r w) 1 d ∷ [] ≡ rows p q r w
-two_rows true q r w d = refl
-two_rows false true r w d = refl
-two_rows false false true w d = refl
-two_rows false false false true d = refl
-two_rows false false false false d = refl
-
-pub two_runs : (k : ℕ) (d : Run) → get_or (runs_of k) 0 d ∷ get_or (runs_of k) 1 d ∷ [] ≡ runs_of k
-unfolding runs_of
-two_runs k d = two_rows (eqb k settings_kind) (eqb k value_kind) (eqb k outcome_kind) (eqb k width_kind) d

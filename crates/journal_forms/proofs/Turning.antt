@@ -9,6 +9,7 @@ use lib.Seq.{drop-drop, take_at, take-length}
 use borrow.Author.Tests.{leb-true, leb-false, le-leb, lt-leb}
 use Rattle.text.specs.Memory.{Put, has_room}
 use Rattle.text.proofs.Puts.{put_none, put_on}
+use Rattle.std.proofs.Common.{Option, Some, None}
 use Rattle.stream.specs.Stream.{Next, wait, halt, go, tell, takes, size, End, awaits, halted, Settled, telling, settled}
 use Rattle.stream.proofs.Stream.{impossible, tells_on, settled_wait, settled_halt, settled_tell, telling_telling}
 use Rattle.journal_frames.specs.Frames.{Framed, bytes_of}
@@ -16,8 +17,8 @@ use Rattle.journal_forms.specs.declared.Form.{Form}
 use Rattle.journal_forms.specs.declared.Cause.{Cause}
 use Rattle.journal_forms.specs.declared.Converted.{Converted}
 use Rattle.journal_forms.specs.Forms.{other, record_most}
-use Rattle.journal_forms.specs.Conversion.{on_form, number_of}
-use Rattle.journal_forms.specs.Turns.{Stop, refuses, full, record_of, counted, into_room, part_of, is_full, refused_by, answer_of, PartConverted, step_of, memory_of, Stepped, goes_on_of, Rests}
+use Rattle.journal_forms.specs.Conversion.{on_form}
+use Rattle.journal_forms.specs.Turns.{Stop, refuses, full, record_of, counted, into_room, part_of, is_full, refused_by, number_if, answer_of, PartConverted, step_of, memory_of, Stepped, goes_on_of, Rests}
 use Rattle.journal_forms.proofs.Records.{form_machine, Turn, waits, not_known, is_turned, not_held, turn}
 
 -- the bytes of records, and of more after them
@@ -68,20 +69,20 @@ module _ (a : Form) (room : ℕ) where
   into_there n s y = there_by n s (has_room record_most n room) refl y
 
   -- no record is taken, and why
-  pub record Stopped (n : ℕ) (s : List ℕ) (more : Bool) (refused : ℕ) : Type 0 where
+  pub record Stopped (n : ℕ) (s : List ℕ) (more : Bool) (refused : Option Cause) : Type 0 where
     pub end : End Stop
     pub stays : settled into n s ≡ record { state = n; rest = s; told = []; end = end }
     pub more_is : more ≡ is_full end
     pub refused_is : refused ≡ refused_by end
 
-  stops_full : (n : ℕ) (s : List ℕ) → room < n + record_most → Stopped n s true 0
+  stops_full : (n : ℕ) (s : List ℕ) → room < n + record_most → Stopped n s true None
   stops_full n s h = record { end = halted full; stays = settled_halt into into_there n s full (into_full n s h); more_is = refl; refused_is = refl }
 
-  stops_waiting : (n : ℕ) (s : List ℕ) → n + record_most ≤ room → on_form a (other a) tt s ≡ wait → Stopped n s false 0
+  stops_waiting : (n : ℕ) (s : List ℕ) → n + record_most ≤ room → on_form a (other a) tt s ≡ wait → Stopped n s false None
   unfolding counted
   stops_waiting n s h e = record { end = awaits; stays = settled_wait into into_there n s (into_room_lem n s h wait e); more_is = refl; refused_is = refl }
 
-  stops_refused : (n : ℕ) (s : List ℕ) → n + record_most ≤ room → (c : Cause) → on_form a (other a) tt s ≡ halt c → Stopped n s false (number_of c)
+  stops_refused : (n : ℕ) (s : List ℕ) → n + record_most ≤ room → (c : Cause) → on_form a (other a) tt s ≡ halt c → Stopped n s false (Some c)
   unfolding counted
   stops_refused n s h c e = record { end = halted (refuses c); stays = settled_halt into into_there n s (refuses c) (into_room_lem n s h (halt c) e); more_is = refl; refused_is = refl }
 
@@ -113,11 +114,11 @@ room_left more n room m e y = by (has_room record_most n room) refl
     by false h = let z : false ≡ true = sym (rw h at (sym y ∙ e)) in impossible cc
 
 -- where there may be more, and it is over, the room is full
-over_full : (a : Form) (s : List ℕ) (n room : ℕ) (m : Bool) → m ≡ goes_on_of true n room → m ≡ false → Stopped a room n s true 0
+over_full : (a : Form) (s : List ℕ) (n room : ℕ) (m : Bool) → m ≡ goes_on_of true n room → m ≡ false → Stopped a room n s true None
 unfolding goes_on_of
 over_full a s n room m e y = by (has_room record_most n room) refl
   where
-    by : (t : Bool) → has_room record_most n room ≡ t → Stopped a room n s true 0
+    by : (t : Bool) → has_room record_most n room ≡ t → Stopped a room n s true None
     by true h = let z : true ≡ false = sym (rw h at (sym y ∙ e)) in impossible cc
     by false h = stops_full a room n s (leb-false (n + record_most) room h)
 
@@ -134,7 +135,7 @@ one_or_none true = omega arith
 one_or_none false = omega arith
 
 abbrev first : Converted
-first = record { at = 0; n = 0; more = true; refused = 0 }
+first = record { at = 0; n = 0; more = true; refused = None }
 
 pub since_first : (a : Form) (s out : List ℕ) (more : Bool) → more ≡ goes_on_of true 0 (length out) → Since a s out first out more
 unfolding bytes_of
@@ -149,9 +150,9 @@ since_first a s out more e = record {
 }
 
 -- nothing was put
-since_over : (a : Form) (s out₀ : List ℕ) (q : Converted) (out : List ℕ) → Since a s out₀ q out true → (number : ℕ) → Stopped a (length out₀) q.n (drop q.at s) false number
-    → (r : Converted) → r ≡ record { at = q.at; n = q.n; more = false; refused = number } → (more : Bool) → Since a s out₀ r out more
-since_over a s out₀ q out i number o r e more = rw e (record {
+since_over : (a : Form) (s out₀ : List ℕ) (q : Converted) (out : List ℕ) → Since a s out₀ q out true → (why : Option Cause) → Stopped a (length out₀) q.n (drop q.at s) false why
+    → (r : Converted) → r ≡ record { at = q.at; n = q.n; more = false; refused = why } → (more : Bool) → Since a s out₀ r out more
+since_over a s out₀ q out i why o r e more = rw e (record {
   told = i.told;
   within = i.within;
   goes = i.goes;
@@ -194,15 +195,15 @@ module _ (a : Form) (s out₀ : List ℕ) (q : Converted) (out : List ℕ) (i : 
         over = over_full a (drop (q.at + n) s) (q.n + length (record_of f)) (length out₀) more m;
       })
 
-  since_none : (number : ℕ) → Stopped a (length out₀) q.n rest false number → r ≡ record { at = q.at; n = q.n; more = false; refused = number } → out' ≡ out
+  since_none : (why : Option Cause) → Stopped a (length out₀) q.n rest false why → r ≡ record { at = q.at; n = q.n; more = false; refused = why } → out' ≡ out
       → (more : Bool) → more ≡ goes_on_of r.more r.n (length out') → Since a s out₀ r out' more
-  since_none number o x y more z =
-      rw y (since_over a s out₀ q out i number o r x more)
+  since_none why o x y more z =
+      rw y (since_over a s out₀ q out i why o r x more)
 
   since_by : Turn a (other a) rest → (x : Next (Unit {0}) Framed Cause) → on_form a (other a) tt rest ≡ x → Stepped q x out r out'
       → (more : Bool) → more ≡ goes_on_of r.more r.n (length out') → Since a s out₀ r out' more
   unfolding step_of memory_of
-  since_by (waits f e) x y p = let z : x ≡ wait = sym y ∙ e in since_none 0 (stops_waiting a (length out₀) q.n rest enough e) (rw z at p.answer) (rw z at p.memory)
+  since_by (waits f e) x y p = let z : x ≡ wait = sym y ∙ e in since_none None (stops_waiting a (length out₀) q.n rest enough e) (rw z at p.answer) (rw z at p.memory)
   since_by (not_known f e) x y p = let z = sym y ∙ e in since_none _ (stops_refused a (length out₀) q.n rest enough _ e) (rw z at p.answer) (rw z at p.memory)
   since_by (not_held j n f h e) x y p = let z = sym y ∙ e in since_none _ (stops_refused a (length out₀) q.n rest enough _ e) (rw z at p.answer) (rw z at p.memory)
   since_by (is_turned j n f h e) x y p = let z = sym y ∙ e in since_one (suc n) _ e (rw z at p.answer) (rw z at p.memory)
@@ -211,9 +212,9 @@ module _ (a : Form) (s out₀ : List ℕ) (q : Converted) (out : List ℕ) (i : 
   since_more p = since_by (turn a (other a) rest) (on_form a (other a) tt rest) refl p
 
   -- each step goes further, or is the last
-  less_none : (number : ℕ) → r ≡ record { at = q.at; n = q.n; more = false; refused = number } → (more : Bool) → more ≡ goes_on_of r.more r.n (length out')
+  less_none : (why : Option Cause) → r ≡ record { at = q.at; n = q.n; more = false; refused = why } → (more : Bool) → more ≡ goes_on_of r.more r.n (length out')
       → length s - r.at + cond more 1 0 < length s - q.at + 1
-  less_none number x more y = let z : more ≡ false = rw x at y ∙ goes_off q.n (length out') in rw (x, z) (omega arith)
+  less_none why x more y = let z : more ≡ false = rw x at y ∙ goes_off q.n (length out') in rw (x, z) (omega arith)
 
   less_one : (n : ℕ) (f : Framed) → on_form a (other a) tt rest ≡ tell tt n f → r ≡ step_of q (tell tt n f) → (more : Bool) → length s - r.at + cond more 1 0 < length s - q.at + 1
   unfolding step_of
@@ -224,7 +225,7 @@ module _ (a : Form) (s out₀ : List ℕ) (q : Converted) (out : List ℕ) (i : 
   less_by : Turn a (other a) rest → (x : Next (Unit {0}) Framed Cause) → on_form a (other a) tt rest ≡ x → r ≡ step_of q x → (more : Bool) → more ≡ goes_on_of r.more r.n (length out')
       → length s - r.at + cond more 1 0 < length s - q.at + 1
   unfolding step_of
-  less_by (waits f e) x y p more w = let z = sym y ∙ e in less_none 0 (rw z at p) more w
+  less_by (waits f e) x y p more w = let z = sym y ∙ e in less_none None (rw z at p) more w
   less_by (not_known f e) x y p more w = let z = sym y ∙ e in less_none _ (rw z at p) more w
   less_by (not_held j n f h e) x y p more w = let z = sym y ∙ e in less_none _ (rw z at p) more w
   less_by (is_turned j n f h e) x y p more w = let z = sym y ∙ e in less_one (suc n) _ e (rw z at p) more
@@ -261,10 +262,10 @@ module _ (a : Form) (room : ℕ) where
     rest_is : m.rest ≡ drop place s
     same : settled form tt s ≡ telling m.told (settled form tt m.rest)
     count : m.state ≡ n + length (bytes_of m.told)
-    rests : is_full m.end ≡ false → Rests a m.rest (refused_by m.end)
+    rests : is_full m.end ≡ false → Rests a m.rest (number_if (refused_by m.end))
     further : n + record_most ≤ room → is_full m.end ≡ true → 0 < place
 
-  follows_none : (n : ℕ) (s : List ℕ) (x : End Stop) → (is_full x ≡ false → Rests a s (refused_by x)) → (n + record_most ≤ room → is_full x ≡ true → ⊥) → Follows n s (record { state = n; rest = s; told = []; end = x })
+  follows_none : (n : ℕ) (s : List ℕ) (x : End Stop) → (is_full x ≡ false → Rests a s (number_if (refused_by x))) → (n + record_most ≤ room → is_full x ≡ true → ⊥) → Follows n s (record { state = n; rest = s; told = []; end = x })
   unfolding bytes_of
   follows_none n s x q h = record {
     place = 0;
@@ -322,7 +323,7 @@ pub record Followed (a : Form) (s out : List ℕ) (r : Converted) (out' : List �
   pub text : take r.n out' ≡ bytes_of told
   pub fits : r.n ≤ length out'
   pub further : record_most ≤ length out → r.more ≡ true → 0 < r.at
-  pub stops : r.more ≡ false → Rests a (drop r.at s) r.refused
+  pub stops : r.more ≡ false → Rests a (drop r.at s) (number_if r.refused)
 
 pub followed : (a : Form) (s out : List ℕ) (r : Converted) (out' : List ℕ) → PartConverted a s out r out' → Followed a s out r out'
 unfolding part_of answer_of

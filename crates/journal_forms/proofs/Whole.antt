@@ -4,8 +4,9 @@ use mathlib.Core.Path.{◌≡◌, refl, sym, ap, ap₂, ◌∙◌}
 use mathlib.Core.Bool.{true, false}
 use mathlib.Core.List.{List, [], ◌∷◌, ◌++◌}
 use native.Mathlib.Omega.{arith}
-use lib.ListN.{length, take, drop, get_or, set, length-set, length-drop}
+use lib.ListN.{length, take, drop, set, length-set, length-drop}
 use lib.Seq.{drop-drop}
+use Rattle.std.proofs.Common.{Some, None}
 use Rattle.text.specs.Memory.{Put}
 use Rattle.text.proofs.Puts.{put_on}
 use Rattle.journal_frames.specs.declared.Frame.{Frame}
@@ -16,26 +17,20 @@ use Rattle.journal_forms.specs.declared.Form.{Form}
 use Rattle.journal_forms.specs.declared.Cause.TheVariants.{UnknownKind, NotHeld}
 use Rattle.journal_forms.specs.declared.Converted.{Converted}
 use Rattle.journal_forms.specs.declared.body.Run.{Run}
-use Rattle.journal_forms.specs.Forms.{other, kinds_of, run, runs_of, record_most}
+use Rattle.journal_forms.specs.Forms.{other, kinds_of, runs_of, record_most}
 use Rattle.journal_forms.specs.Body.{runs_bytes, body_to, body_held}
-use Rattle.journal_forms.specs.Conversion.{turns, on_form, number_of}
+use Rattle.journal_forms.specs.Conversion.{turns, on_form}
 use Rattle.journal_forms.specs.Turns.{step_of, memory_of, Stepped}
 use Rattle.journal_forms.proofs.Bodies.{body_long}
 use Rattle.journal_forms.proofs.Putting.{put_byte}
-use Rattle.journal_forms.proofs.Tables.{known_fits, two_runs}
+use Rattle.journal_forms.proofs.Tables.{known_fits}
 use Rattle.journal_forms.proofs.Records.{turns_by, WholeAt, whole_at}
 
 -- ---- a body of its kind's length, with the runs that were looked up
 
 module _ (a : Form) (k : ℕ) (body : List ℕ) (known : is_known (kinds_of a) k ≡ true) (len : length body ≡ body_len (kinds_of a) k) (rs : List Run) (e : rs ≡ runs_of k) where
-  abbrev pair : List Run
-  pair = get_or rs 0 (run 0 0) ∷ get_or rs 1 (run 0 0) ∷ []
-
-  pair_is : pair ≡ runs_of k
-  pair_is = rw e (two_runs k (run 0 0))
-
-  pub whole_inside : runs_bytes a pair ≤ length body
-  whole_inside = rw pair_is (omega (arith, (known_fits a (other a) k known).inside, len))
+  pub whole_inside : runs_bytes a rs ≤ length body
+  whole_inside = rw e (omega (arith, (known_fits a (other a) k known).inside, len))
 
   long : length (body_to a (other a) (runs_of k) body) < record_most
   long =
@@ -43,25 +38,25 @@ module _ (a : Form) (k : ℕ) (body : List ℕ) (known : is_known (kinds_of a) k
       omega (arith, body_long a (other a) (runs_of k) body (omega (arith, f.inside, len)), f.lengths, f.short, len)
 
   -- there is room for it after its kind
-  pub whole_room : (out : List ℕ) (n : ℕ) → n + record_most ≤ length out → n + 1 + length (body_to a (other a) pair body) ≤ length (set out n k)
-  whole_room out n h = rw pair_is (omega (arith, long, length-set out n k))
+  pub whole_room : (out : List ℕ) (n : ℕ) → n + record_most ≤ length out → n + 1 + length (body_to a (other a) rs body) ≤ length (set out n k)
+  whole_room out n h = rw e (omega (arith, long, length-set out n k))
 
   -- the record is put
-  pub whole_put : (p : Converted) (out : List ℕ) → p.n + record_most ≤ length out → body_held a (other a) pair body ≡ true → (r : ℕ) (out' : List ℕ)
-      → Put (set out p.n k) (p.n + 1) (body_to a (other a) pair body) r out' → (at : ℕ) → at ≡ p.at + suc (length body)
-      → Stepped p (turns a (other a) tt k body (suc (length body))) out (record { at = at; n = r; more = true; refused = 0 }) out'
+  pub whole_put : (p : Converted) (out : List ℕ) → p.n + record_most ≤ length out → body_held a (other a) rs body ≡ true → (r : ℕ) (out' : List ℕ)
+      → Put (set out p.n k) (p.n + 1) (body_to a (other a) rs body) r out' → (at : ℕ) → at ≡ p.at + suc (length body)
+      → Stepped p (turns a (other a) tt k body (suc (length body))) out (record { at = at; n = r; more = true; refused = None }) out'
   unfolding step_of memory_of
   whole_put p out h i r out' q at y =
       let made = body_to a (other a) (runs_of k) body in
-      let o : Put out p.n ((k ∷ []) ++ made) r out' = put_on out p.n (k ∷ []) (p.n + 1) (set out p.n k) made r out' (omega arith) (put_byte out p.n k (omega arith)) (rw pair_is at q) in
-      rw (turns_by a (other a) tt k body (suc (length body)) true (rw pair_is at i))
-      (record { answer = ap₂ (λ (x z : ℕ). record { at = x; n = z; more = true; refused = 0 }) y o.ends; memory = o.memory })
+      let o : Put out p.n ((k ∷ []) ++ made) r out' = put_on out p.n (k ∷ []) (p.n + 1) (set out p.n k) made r out' (omega arith) (put_byte out p.n k (omega arith)) (rw e at q) in
+      rw (turns_by a (other a) tt k body (suc (length body)) true (rw e at i))
+      (record { answer = ap₂ (λ (x z : ℕ). record { at = x; n = z; more = true; refused = None }) y o.ends; memory = o.memory })
 
   -- or refused
-  pub whole_refused : (p : Converted) (out : List ℕ) → body_held a (other a) pair body ≡ false → (m : ℕ) → m ≡ number_of NotHeld
-      → (r : Converted) → r ≡ record { at = p.at; n = p.n; more = false; refused = m } → Stepped p (turns a (other a) tt k body (suc (length body))) out r out
+  pub whole_refused : (p : Converted) (out : List ℕ) → body_held a (other a) rs body ≡ false
+      → (r : Converted) → r ≡ record { at = p.at; n = p.n; more = false; refused = Some NotHeld } → Stepped p (turns a (other a) tt k body (suc (length body))) out r out
   unfolding step_of memory_of
-  whole_refused p out i m y r z = rw (turns_by a (other a) tt k body (suc (length body)) false (rw pair_is at i)) (record { answer = rw (z, y) refl; memory = refl })
+  whole_refused p out i r z = rw (turns_by a (other a) tt k body (suc (length body)) false (rw e at i)) (record { answer = z; memory = refl })
 
 -- ---- by the frame
 
@@ -69,14 +64,14 @@ pub framed_by : (a : Form) (kinds u : List ℕ) (f x : Frame) → kinds ≡ kind
 framed_by a kinds u f x e g h = ap (λ (l : List ℕ). frame_of l u) (sym e) ∙ sym g ∙ h
 
 module _ (a b : Form) (p : Converted) (u out : List ℕ) where
-  pub one_waits : frame_of (kinds_of a) u ≡ Waits → (r : Converted) → r ≡ record { at = p.at; n = p.n; more = false; refused = 0 } → Stepped p (on_form a b tt u) out r out
+  pub one_waits : frame_of (kinds_of a) u ≡ Waits → (r : Converted) → r ≡ record { at = p.at; n = p.n; more = false; refused = None } → Stepped p (on_form a b tt u) out r out
   unfolding on_form step_of memory_of
   one_waits e r z = rw (by_frame (kinds_of a) UnknownKind (turns a b) tt u Waits e) (record { answer = z; memory = refl })
 
-  pub one_unknown : frame_of (kinds_of a) u ≡ Unknown → (m : ℕ) → m ≡ number_of UnknownKind → (r : Converted) → r ≡ record { at = p.at; n = p.n; more = false; refused = m }
+  pub one_unknown : frame_of (kinds_of a) u ≡ Unknown → (r : Converted) → r ≡ record { at = p.at; n = p.n; more = false; refused = Some UnknownKind }
       → Stepped p (on_form a b tt u) out r out
   unfolding on_form step_of memory_of
-  one_unknown e m y r z = rw (by_frame (kinds_of a) UnknownKind (turns a b) tt u Unknown e) (record { answer = rw (z, y) refl; memory = refl })
+  one_unknown e r z = rw (by_frame (kinds_of a) UnknownKind (turns a b) tt u Unknown e) (record { answer = z; memory = refl })
 
 -- a whole record at a place
 module _ (a : Form) (s : List ℕ) (at k n : ℕ) (e : frame_of (kinds_of a) (drop at s) ≡ Whole k n) where

@@ -1,7 +1,7 @@
 -- What is claimed of the conversion of every list of bytes (00-demands.md, Demand 1;
 -- 02-change-requests.md, Ask 9). `conversion_ends` in proofs/Ends and `there_and_back` in proofs/Back
 -- prove it.
-use Rattle.std.specs.Prelude.{Bool, true, false, not, ◌&&◌, ◌||◌, List, [], ◌∷◌, map, ◌≡◌, ℕ, ◌<◌, eqb, length, take, Float}
+use Rattle.std.specs.Prelude.{Bool, true, false, not, ◌||◌, List, [], ◌∷◌, map, ◌≡◌, ℕ, ◌<◌, eqb, length, take, Float}
 use Rattle.std.specs.Float.Ieee.{is_nan}
 use Rattle.journal_records.specs.Little.{byte_at}
 use Rattle.journal_frames.specs.Frames.{bytes_of}

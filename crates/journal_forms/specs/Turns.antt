@@ -1,7 +1,7 @@
 -- What is made of the bytes at hand: records in the other form, put into memory one after the other
 -- while there is room for the longest (02-change-requests.md, Ask 9). It joins the code of
 -- `journal_forms::convert` to `conversion_of`.
-use Rattle.std.specs.Prelude.{Bool, true, false, cond, List, [], ◌∷◌, ◌++◌, ◌≡◌, ℕ, ◌+◌, ◌-◌, length, drop}
+use Rattle.std.specs.Prelude.{Option, Some, None, Bool, true, false, cond, List, [], ◌∷◌, ◌++◌, ◌≡◌, ℕ, ◌+◌, ◌-◌, length, drop}
 use Rattle.std.proofs.Math.Seq.{paste}
 use Rattle.stream.specs.Stream.{Next, wait, halt, go, tell, End, awaits, halted, Settled, settled}
 use Rattle.journal_frames.specs.Frames.{Framed, bytes_of}
@@ -43,11 +43,16 @@ is_full awaits = false
 is_full (halted (refuses c)) = false
 is_full (halted full) = true
 
--- the number of a refusal, or 0
-abbrev pub refused_by : End Stop → ℕ
-refused_by awaits = 0
-refused_by (halted (refuses c)) = number_of c
-refused_by (halted full) = 0
+-- why a record is refused, if one is
+abbrev pub refused_by : End Stop → Option Cause
+refused_by awaits = None
+refused_by (halted (refuses c)) = Some c
+refused_by (halted full) = None
+
+-- as a number, or 0
+abbrev pub number_if : Option Cause → ℕ
+number_if None = 0
+number_if (Some c) = number_of c
 
 unfoldable pub answer_of : List ℕ → Settled ℕ Framed Stop → Converted
 answer_of s m = record {
@@ -66,10 +71,10 @@ pub record PartConverted (a : Form) (s out : List ℕ) (r : Converted) (out' : L
 
 -- the answer after what the journal does next
 unfoldable pub step_of : Converted → Next (Unit {0}) Framed Cause → Converted
-step_of p wait = record { at = p.at; n = p.n; more = false; refused = 0 }
-step_of p (halt c) = record { at = p.at; n = p.n; more = false; refused = number_of c }
+step_of p wait = record { at = p.at; n = p.n; more = false; refused = None }
+step_of p (halt c) = record { at = p.at; n = p.n; more = false; refused = Some c }
 step_of p (go r k) = p
-step_of p (tell r k f) = record { at = p.at + k; n = p.n + length (record_of f); more = true; refused = 0 }
+step_of p (tell r k f) = record { at = p.at + k; n = p.n + length (record_of f); more = true; refused = None }
 
 -- and memory, in which a record goes after the first n bytes
 unfoldable pub memory_of : List ℕ → ℕ → Next (Unit {0}) Framed Cause → List ℕ

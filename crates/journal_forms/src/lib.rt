@@ -21,24 +21,20 @@ pub enum Form {
     Narrow,
 }
 
-// Why a record is refused, in the order in which the causes are looked for.
+// Why a record is refused, in the order in which the causes are looked for, each with its number.
 #[derive(Clone, Copy)]
 pub enum Cause {
-    UnknownKind,
-    CutBody,
+    UnknownKind = 5,
+    CutBody = 6,
     // a float that the other form cannot hold exactly
-    NotHeld,
+    NotHeld = 11,
 }
 
 // The refusal's number.
 pub fn number(cause: Cause) -> u8
     ensures { result ≡ number_of cause }
 {
-    match cause {
-        Cause::UnknownKind => 5,
-        Cause::CutBody => 6,
-        Cause::NotHeld => 11,
-    }
+    cause as u8
 }
 
 // How long the bodies of kinds 1, 2 and so on are in a form.
@@ -62,18 +58,19 @@ pub struct Converted {
     pub n: usize,
     // there may be more to be had of these bytes
     pub more: bool,
-    // the number of a refusal, or 0
-    pub refused: u8,
+    // why a record is refused, if one is
+    pub refused: Option<Cause>,
 }
 
 // No more is to be had.
-fn stopped(p: Converted, refused: u8) -> Converted
+fn stopped(p: Converted, refused: Option<Cause>) -> Converted
     ensures { result ≡ record { at = p.at; n = p.n; more = false; refused = refused } }
 {
-    let mut over = p;
-    over.more = false;
-    over.refused = refused;
-    over
+    Converted {
+        more: false,
+        refused,
+        ..p
+    }
 }
 
 // A whole record with this body. All of it is judged before a byte of it is put.
@@ -82,21 +79,19 @@ fn convert_whole(from: Form, kind: u8, body: &[u8], p: Converted, out: &mut [u8]
     ensures { Stepped p (turns from (other from) tt kind body.now (suc (length body.now))) out.old result out.new }
 {
     let runs = runs_of(kind);
-    let first = runs[0];
-    let second = runs[1];
-    if is_held(from, first, second, body) {
+    if is_held(from, &runs, body) {
         let place = p.n;
         out[place] = kind;
-        let n = put_body(from, first, second, body, out, place + 1);
+        let n = put_body(from, &runs, body, out, place + 1);
         let at = p.at + 1 + body.len();
         return Converted {
             at,
             n,
             more: true,
-            refused: 0,
+            refused: None,
         };
     }
-    stopped(p, number(Cause::NotHeld))
+    stopped(p, Some(Cause::NotHeld))
 }
 
 // The record at a place, if there is one.
@@ -106,8 +101,8 @@ fn convert_one(kinds: &[u16], from: Form, s: &[u8], p: Converted, out: &mut [u8]
 {
     let at = p.at;
     match journal_frames::frame_at(kinds, s, at) {
-        Frame::Waits => stopped(p, 0),
-        Frame::Unknown => stopped(p, number(Cause::UnknownKind)),
+        Frame::Waits => stopped(p, None),
+        Frame::Unknown => stopped(p, Some(Cause::UnknownKind)),
         Frame::Whole(kind, len) => {
             let start = at + 1;
             let end = start + len;
@@ -120,10 +115,7 @@ fn convert_one(kinds: &[u16], from: Form, s: &[u8], p: Converted, out: &mut [u8]
 fn goes_on(more: bool, n: usize, room: usize) -> bool
     ensures { result ≡ goes_on_of more n room }
 {
-    if has_room(RECORD_MOST, n, room) {
-        return more;
-    }
-    false
+    has_room(RECORD_MOST, n, room) && more
 }
 
 // Converts the records at the front of s to the other form as long as there is room for the longest
@@ -137,7 +129,7 @@ pub fn convert(from: Form, s: &[u8], out: &mut [u8]) -> Converted
         at: 0,
         n: 0,
         more: true,
-        refused: 0,
+        refused: None,
     };
     let mut more = goes_on(done.more, done.n, out.len());
     while more {

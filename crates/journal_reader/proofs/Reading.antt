@@ -1,5 +1,6 @@
 -- The reader is a machine over bytes that come in parts, whatever the kinds are.
 -- What it leaves over is shorter than a record, and it refuses what the table refuses.
+use Rattle.std.proofs.Common.{Ok, Err}
 use Prim.Native.Nat.{ℕ, suc, ◌+◌, ◌-◌, ◌≤◌, ◌<◌}
 use mathlib.Core.Path.{◌≡◌, refl, sym, ap, ap₂, subst, ◌∙◌}
 use mathlib.Core.List.{List, ◌∷◌}
@@ -20,10 +21,8 @@ use Rattle.journal_records.specs.Body.{decode_of}
 use Rattle.journal_records.specs.Long.{settings_of}
 use Rattle.journal_refusals.specs.declared.Refusal.{Refusal}
 use Rattle.journal_refusals.specs.declared.Refusal.TheVariants.{UnknownKind, CutBody}
-use Rattle.journal_refusals.specs.declared.Judged.{Judged}
-use Rattle.journal_refusals.specs.declared.Judged.TheVariants.{Accepted, Refused}
 use Rattle.journal_refusals.specs.declared.Seen.{Seen}
-use Rattle.journal_refusals.specs.Table.{judged_of, whole_of, framed_as}
+use Rattle.journal_refusals.specs.Table.{Accepted, Refused, Judged, judged_of, whole_of, framed_as}
 use Rattle.journal_refusals.proofs.Framing.{judged_framed}
 use Rattle.stream.specs.Stream.{Next, wait, halt, go, tell, goes_on, takes, size, Machine, awaits, settled, Advanced, advanced}
 use Rattle.journal_reader.specs.declared.What.{What}
@@ -66,12 +65,12 @@ takes_on (goes st) r e = impossible cc
 takes_on (tells st i) r e = impossible cc
 
 judged_size : (st : State) (b : List ℕ) (n : ℕ) (x : Record) (j : Judged) → takes (on_judged st b n x j) ≡ true → size (on_judged st b n x j) ≡ n
-judged_size st b n x (Refused r) p = impossible cc
-judged_size st b n x Accepted p = takes_size (record_takes st b n x)
+judged_size st b n x (Err r) p = impossible cc
+judged_size st b n x (Ok _) p = takes_size (record_takes st b n x)
 
 judged_moves : (st : State) (b : List ℕ) (n : ℕ) (x : Record) (j : Judged) → on_judged st b n x j ≡ wait → ⊥
-judged_moves st b n x (Refused r) e = impossible cc
-judged_moves st b n x Accepted e = takes_moves (record_takes st b n x) e
+judged_moves st b n x (Err r) e = impossible cc
+judged_moves st b n x (Ok _) e = takes_moves (record_takes st b n x) e
 
 takes_whole : TakesWhole on_whole
 unfolding on_whole
@@ -124,8 +123,8 @@ module _ (kinds : List ℕ) (st : State) (k : ℕ) (u : List ℕ) where
 
   whole_does : frame_of kinds (k ∷ u) ≡ F.Whole k (body_len kinds k) → (j : Judged) → whole_of (seen_in st) k body ≡ j → Does j
   unfolding on_whole
-  whole_does f (Refused r) e = halts r (next_frame kinds st (k ∷ u) _ f ∙ rw e refl)
-  whole_does f Accepted e = takes_it (next_frame kinds st (k ∷ u) _ f ∙ rw e refl)
+  whole_does f (Err r) e = halts r (next_frame kinds st (k ∷ u) _ f ∙ rw e refl)
+  whole_does f (Ok _) e = takes_it (next_frame kinds st (k ∷ u) _ f ∙ rw e refl)
 
   frame_does : {x : Frame} → FrameAt kinds k u x → frame_of kinds (k ∷ u) ≡ x → Does (framed_as (seen_in st) u x)
   frame_does (unknown e) f = halts UnknownKind (next_frame kinds st (k ∷ u) _ f)
@@ -189,8 +188,8 @@ module _ (kinds : List ℕ) (st st' : State) (k : ℕ) (u v : List ℕ) (same_se
   same_frame (whole e h) = whole e (omega (arith, length-take (body_len kinds k) u, length-take (body_len kinds k) v, ap length same_body))
 
   alike_by : (b c : List ℕ) (n : ℕ) (x y : Record) (j : Judged) → Alike (on_judged st b n x j) (on_judged st' c n y j)
-  alike_by b c n x y (Refused r) = record { waits = λ e. e; refused = λ r' e. e }
-  alike_by b c n x y Accepted = record {
+  alike_by b c n x y (Err r) = record { waits = λ e. e; refused = λ r' e. e }
+  alike_by b c n x y (Ok _) = record {
     waits = λ e. absurd (takes_moves (record_takes st b n x) e);
     refused = λ r e. absurd (takes_on (record_takes st b n x) r e);
   }
@@ -235,8 +234,8 @@ record_says st b n (Tick t) = refl
 record_says st b n (Width w) = refl
 
 judged_says : (st : State) (b : List ℕ) (n : ℕ) (x : Record) (j : Judged) → Says st b n (on_judged st b n x j) (what_of (on_judged st b n x j))
-judged_says st b n x (Refused r) = tt
-judged_says st b n x Accepted = record_says st b n x
+judged_says st b n x (Err r) = tt
+judged_says st b n x (Ok _) = record_says st b n x
 
 module _ (kinds : List ℕ) (st : State) (u : List ℕ) where
   -- the record at the front

@@ -1,7 +1,7 @@
 -- What a journal's bytes say, record by record (01-scope.md, Journal; of a width
 -- 02-change-requests.md, Ask 7): instructions. The run state has no part in it. Which kinds there
 -- are, and how long their bodies are, is the parameter `kinds` (journal_frames, specs/Frames).
-use Rattle.std.specs.Prelude.{List, ℕ, ◌+◌, Float}
+use Rattle.std.specs.Prelude.{Ok, Err, List, ℕ, ◌+◌, Float}
 use Rattle.lictor_core.specs.declared.envelope.Settings as S
 use Rattle.lictor_core.specs.declared.fuse.TickInput.{TickInput}
 use Rattle.lictor_core.specs.declared.outcome.Outcome as O
@@ -12,10 +12,8 @@ use Rattle.journal_records.specs.Body.{decode_of}
 use Rattle.journal_records.specs.Long.{settings_of, outcome_of}
 use Rattle.journal_refusals.specs.declared.Refusal.{Refusal}
 use Rattle.journal_refusals.specs.declared.Refusal.TheVariants.{UnknownKind}
-use Rattle.journal_refusals.specs.declared.Judged.{Judged}
-use Rattle.journal_refusals.specs.declared.Judged.TheVariants.{Accepted, Refused}
 use Rattle.journal_refusals.specs.Causes.{chunk_list, pos_list, vel_list, aux_list, ext_list}
-use Rattle.journal_refusals.specs.Table.{whole_of}
+use Rattle.journal_refusals.specs.Table.{Judged, whole_of}
 use Rattle.journal_reader.specs.declared.waiting.Reader.{Reader}
 use Rattle.journal_reader.specs.declared.What.{What}
 use Rattle.journal_reader.specs.declared.What.TheVariants.{Waits, Refuses, Begins, Resets, Ticks, GivesWidth}
@@ -81,8 +79,8 @@ on_record st b n (Width w) = tell (with_reader st (width_came st.reader)) n (wid
 
 -- by what the table says of it
 abbrev pub on_judged : State → List ℕ → ℕ → Record → Judged → Next State Instruction Refusal
-on_judged st b n x (Refused r) = halt r
-on_judged st b n x Accepted = on_record st b n x
+on_judged st b n x (Err r) = halt r
+on_judged st b n x (Ok _) = on_record st b n x
 
 -- a record of kind k, with body b, that is there whole
 unfoldable pub on_whole : OnWhole State Instruction Refusal

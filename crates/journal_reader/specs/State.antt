@@ -1,11 +1,9 @@
 -- What a reader of a journal holds between records (01-scope.md, Journal; 02-change-requests.md, Ask
 -- 7): what came once and for all, what waits for the next tick, and the lent memory of the collected
 -- values.
-use Rattle.std.specs.Prelude.{Bool, true, false, cond, List, [], ◌∷◌, ℕ, ◌+◌, ◌*◌, min, length, get_or, set, take, drop, replicate, Float}
+use Rattle.std.specs.Prelude.{Bool, true, false, cond, List, [], ◌∷◌, ℕ, ◌+◌, ◌*◌, min, length, get_or, set, take, drop, replicate, Float, None, Some}
 use Rattle.lictor_core.specs.declared.ack.VerifiedAck.{VerifiedAck}
-use Rattle.lictor_core.specs.declared.ack.MaybeAck.TheVariants.{NoAck, Given}
 use Rattle.lictor_core.specs.declared.chunk.ChunkHead.{ChunkHead}
-use Rattle.lictor_core.specs.declared.chunk.MaybeChunk.TheVariants.{NoChunk, Delivered}
 use Rattle.lictor_core.specs.declared.fuse.TickInput.{TickInput}
 use Rattle.lictor_core.specs.declared.outcome.Outcome.{Outcome}
 use Rattle.journal_records.specs.declared.TickNumbers.{TickNumbers}
@@ -150,6 +148,6 @@ input_of w n = record {
   missed_ticks = n.missed_ticks;
   schema_fault = n.schema_fault;
   has_vel = n.has_vel;
-  chunk = cond w.seen.head (Delivered w.head) NoChunk;
-  ack = cond w.seen.ack (Given w.ack) NoAck;
+  chunk = cond w.seen.head (Some w.head) None;
+  ack = cond w.seen.ack (Some w.ack) None;
 }

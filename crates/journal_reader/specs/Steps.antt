@@ -1,7 +1,7 @@
 -- What the reader's own functions promise each other: one record, a run of records that only wait,
 -- one turn of the reader. It joins the code of `journal_reader` to specs/Reading, and states
 -- nothing of the papers.
-use Rattle.std.specs.Prelude.{Bool, true, false, List, ◌≡◌, ℕ, suc, ◌+◌, ◌-◌, ◌≤◌, ◌<◌, length, drop, get_or, Float}
+use Rattle.std.specs.Prelude.{Ok, Err, Option, Some, None, Bool, true, false, List, ◌≡◌, ℕ, suc, ◌<◌, length, drop, get_or, Float}
 use Rattle.lictor_core.specs.declared.outcome.Outcome as O
 use Rattle.journal_records.specs.declared.Record.{Record}
 use Rattle.journal_records.specs.declared.Record.TheVariants.{Settings, Reset, Ack, Head, Value, Outcome, Tick, Width}
@@ -12,19 +12,17 @@ use Rattle.journal_frames.specs.Frames.{body_of, frame_of}
 use Rattle.journal_refusals.specs.declared.Seen.{Seen}
 use Rattle.journal_refusals.specs.declared.Refusal.{Refusal}
 use Rattle.journal_refusals.specs.declared.Refusal.TheVariants.{UnknownKind}
-use Rattle.journal_refusals.specs.declared.Judged.{Judged}
-use Rattle.journal_refusals.specs.declared.Judged.TheVariants.{Accepted, Refused}
-use Rattle.journal_refusals.specs.Table.{whole_of}
+use Rattle.journal_refusals.specs.Table.{Judged, whole_of}
 use Rattle.journal_refusals.specs.Causes.{capacities, count_of}
 use Rattle.journal_reader.specs.declared.waiting.Waiting.{Waiting}
-use Rattle.journal_reader.specs.declared.waiting.Reader.{Reader}
 use Rattle.journal_reader.specs.declared.Look.{Look}
 use Rattle.journal_reader.specs.declared.Look.TheVariants as L
 use Rattle.journal_reader.specs.declared.Took.{Took}
-use Rattle.journal_reader.specs.declared.Stretch.{Stretch}
-use Rattle.stream.specs.Stream.{Next, wait, halt, go, goes_on, size, Reached}
-use Rattle.journal_reader.specs.State.{State}
-use Rattle.journal_reader.specs.Reading.{Instruction, on_record, on_bytes, what_of}
+use Rattle.journal_reader.specs.declared.What.{What}
+use Rattle.journal_reader.specs.declared.What.TheVariants as W
+use Rattle.stream.specs.Stream.{Next, wait, halt, go, Reached}
+use Rattle.journal_reader.specs.State.{State, input_of}
+use Rattle.journal_reader.specs.Reading.{Instruction, on_record, on_bytes}
 
 abbrev pub state_with : Waiting → O.Outcome → List Float → State
 state_with w o l = record { reader = record { waiting = w; outcome = o }; lists = l }
@@ -33,8 +31,8 @@ state_with w o l = record { reader = record { waiting = w; outcome = o }; lists 
 
 -- refused, or the record and the length of its body
 abbrev pub look_as : ℕ → List ℕ → ℕ → Judged → Look
-look_as k b n (Refused r) = L.Refuses r
-look_as k b n Accepted = L.Found (decode_of k b) n
+look_as k b n (Err r) = L.Refuses r
+look_as k b n (Ok _) = L.Found (decode_of k b) n
 
 abbrev pub look_in : Seen → List ℕ → Frame → Look
 look_in seen s F.Waits = L.Waits
@@ -72,27 +70,10 @@ looks_small L.Waits = false
 looks_small (L.Refuses r) = false
 looks_small (L.Found r n) = is_small r
 
--- a record at place `at`, with a body of n bytes, was added to what waits, or it is not of the
--- small kinds
-pub record Added (w : Waiting) (l : List Float) (at n : ℕ) (x : Record) (r : Took) (l' : List Float) : Type 0 where
-  pub waits : r.more ≡ true → (o : O.Outcome) (b : List ℕ) → on_record (state_with w o l) b (suc n) x ≡ go (state_with r.waiting o l') (suc n)
-  pub past : r.more ≡ true → r.at ≡ at + suc n
-  pub other : r.more ≡ false → is_small x ≡ false
-  pub look : r.more ≡ false → r.look ≡ L.Found x n
-  pub same_waiting : r.more ≡ false → r.waiting ≡ w
-  pub same_lists : r.more ≡ false → l' ≡ l
-  pub same_place : r.more ≡ false → r.at ≡ at
-
--- the record at place `at` of s was added to what waits, or it is none of the small kinds, and
--- `look` says what it is
-pub record TookOne (kinds : List ℕ) (w : Waiting) (l : List Float) (s : List ℕ) (at : ℕ) (r : Took) (l' : List Float) : Type 0 where
-  pub waits : r.more ≡ true → (o : O.Outcome) → on_bytes kinds (state_with w o l) (drop at s) ≡ go (state_with r.waiting o l') (r.at - at)
-  pub from : at ≤ r.at
-  pub other : r.more ≡ false → looks_small r.look ≡ false
-  pub look : r.more ≡ false → r.look ≡ look_of kinds w.seen (drop at s)
-  pub same_waiting : r.more ≡ false → r.waiting ≡ w
-  pub same_lists : r.more ≡ false → l' ≡ l
-  pub same_place : r.more ≡ false → r.at ≡ at
+-- a small record was added to what waits, or it is not small, and the lists are as they were
+abbrev pub Added : Waiting → List Float → Record → Option Waiting → List Float → Type 0
+Added w l x None l' = (is_small x ≡ false) × (l' ≡ l)
+Added w l x (Some w') l' = (o : O.Outcome) (b : List ℕ) (n : ℕ) → on_record (state_with w o l) b n x ≡ go (state_with w' o l') n
 
 -- all small records from place `at` on were added, whatever outcome waits, and what is after them
 -- is none
@@ -101,20 +82,13 @@ pub record Collected (kinds : List ℕ) (w : Waiting) (l : List Float) (s : List
   pub other : looks_small r.look ≡ false
   pub look : r.look ≡ look_of kinds r.waiting.seen (drop r.at s)
 
--- a record that is not small: an outcome waits, and the others instruct
-pub record Instructs (rd : Reader) (l : List Float) (s : List ℕ) (at n : ℕ) (x : Record) (r : Stretch) : Type 0 where
-  pub waits : r.more ≡ true → on_record (record { reader = rd; lists = l }) (body_of n (drop at s)) (suc n) x ≡ go (record { reader = r.reader; lists = l }) (suc n)
-  pub past : r.more ≡ true → r.at ≡ at + suc n
-  pub stops : r.more ≡ false → goes_on (on_record (record { reader = rd; lists = l }) (body_of n (drop at s)) (suc n) x) ≡ false
-  pub what : r.more ≡ false → r.what ≡ what_of (on_record (record { reader = rd; lists = l }) (body_of n (drop at s)) (suc n) x)
-  pub end : r.more ≡ false → r.end ≡ at + size (on_record (record { reader = rd; lists = l }) (body_of n (drop at s)) (suc n) x)
-  pub same_reader : r.more ≡ false → r.reader ≡ rd
-  pub same_place : r.more ≡ false → r.at ≡ at
-
--- one turn of the reader: it went on, or it came to something else, and says what
-pub record TookStretch (kinds : List ℕ) (st : State) (s : List ℕ) (at : ℕ) (r : Stretch) (l' : List Float) : Type 0 where
-  pub reached : Reached (on_bytes kinds) st s at (record { reader = r.reader; lists = l' }) r.at
-  pub further : r.more ≡ true → at < r.at
-  pub stops : r.more ≡ false → goes_on (on_bytes kinds (record { reader = r.reader; lists = l' }) (drop r.at s)) ≡ false
-  pub what : r.more ≡ false → r.what ≡ what_of (on_bytes kinds (record { reader = r.reader; lists = l' }) (drop r.at s))
-  pub end : r.more ≡ false → r.end ≡ r.at + size (on_bytes kinds (record { reader = r.reader; lists = l' }) (drop r.at s))
+-- what a record that is not small, and no outcome, comes to
+abbrev pub instructs_as : Waiting → Record → What
+instructs_as w Settings = W.Begins
+instructs_as w Reset = W.Resets
+instructs_as w (Ack a) = W.Waits
+instructs_as w (Head h) = W.Waits
+instructs_as w (Value c x) = W.Waits
+instructs_as w Outcome = W.Waits
+instructs_as w (Tick t) = W.Ticks (input_of w t)
+instructs_as w (Width x) = W.GivesWidth x

@@ -3,20 +3,22 @@
 
 pub mod waiting; // what waits for a tick
 
-ghost use Rattle.std.specs.Prelude.{false, ◌≡◌, ◌+◌, ◌<◌, ◌≤◌, ◌^◌, length, drop, get_or};
+ghost use Rattle.std.specs.Prelude.{◌≡◌, ◌<◌, ◌≤◌, length, drop, get_or};
 ghost use Rattle.journal_refusals.specs.Causes.{capacities, count_of};
 ghost use Rattle.journal_refusals.specs.Table.{whole_of};
-ghost use Rattle.journal_reader.specs.State.{value_waits, stored};
+ghost use Rattle.journal_reader.specs.State.{stored};
 ghost use Rattle.journal_reader.specs.Reading.{read_of, lists_read};
-ghost use Rattle.journal_reader.specs.Steps.{look_as, look_of, Room, is_small, Added, TookOne, Collected, Instructs, TookStretch};
+ghost use Rattle.journal_reader.specs.Steps.{look_as, look_of, Room, Added, Collected, instructs_as};
 
-use crate::waiting::{PLACES, Reader, Waiting};
+use crate::waiting::{PLACES, Reader, Waiting, base};
 use journal_frames::Frame;
 use journal_records::Record;
-use journal_refusals::{Judged, Refusal, Seen};
+use journal_records::long::read_outcome;
+use journal_refusals::{Refusal, Seen};
 use lictor_core::fuse::TickInput;
 
-// The record at the front of some bytes.
+// The record at the front of some bytes. One that is not there yet is no error, and one that is
+// refused ends the journal: three cases, as the frames have.
 #[derive(Clone, Copy)]
 pub enum Look {
     // There is none, or it is not there whole.
@@ -26,7 +28,8 @@ pub enum Look {
     Found(Record, usize),
 }
 
-// What a reader comes to: the end of the bytes, a refusal, or an instruction for the fuse.
+// What a reader comes to: the end of the bytes, a refusal, or an instruction for the fuse. One match of
+// the player's takes all six.
 #[derive(Clone, Copy)]
 pub enum What {
     Waits,
@@ -51,10 +54,9 @@ pub struct Progress {
 fn look_in(seen: Seen, k: u8, b: &[u8]) -> Look
     ensures { result ≡ look_as k b.now (length b.now) (whole_of seen k b.now) }
 {
-    let judged = journal_refusals::judge(seen, k, b);
-    match judged {
-        Judged::Refused(r) => Look::Refuses(r),
-        Judged::Accepted => Look::Found(journal_records::decode(k, b), b.len()),
+    match journal_refusals::judge(seen, k, b) {
+        Err(r) => Look::Refuses(r),
+        Ok(()) => Look::Found(journal_records::decode(k, b), b.len()),
     }
 }
 
@@ -62,8 +64,7 @@ fn look_in(seen: Seen, k: u8, b: &[u8]) -> Look
 fn look_at(kinds: &[u16], seen: Seen, s: &[u8], at: usize) -> Look
     ensures { result ≡ look_of kinds.now seen (drop at s.now) }
 {
-    let frame = journal_frames::frame_at(kinds, s, at);
-    match frame {
+    match journal_frames::frame_at(kinds, s, at) {
         Frame::Waits => Look::Waits,
         Frame::Unknown => Look::Refuses(Refusal::UnknownKind),
         Frame::Whole(kind, len) => {
@@ -76,195 +77,76 @@ fn look_at(kinds: &[u16], seen: Seen, s: &[u8], at: usize) -> Look
 
 // ---- records that only wait
 
-fn with_value(w: Waiting, c: u8) -> Waiting
-    requires { (c < length capacities) × (count_of w.seen c < get_or capacities c 0) }
-    ensures { result ≡ value_waits w c }
-{
-    let i = c as usize;
-    let mut seen = w.seen;
-    let mut counts = seen.counts;
-    counts[i] = counts[i] + 1;
-    seen.counts = counts;
-    let ack = w.ack;
-    let head = w.head;
-    Waiting { seen, ack, head }
-}
-
-// Puts a value after those that its list has.
-fn store(lists: &mut [f64; PLACES], seen: Seen, c: u8, x: f64) -> usize
+// Puts a value after those that its list has. The list is the number that came, as in `stored`.
+#[tactic(auto, unfolding(crate::specs::State::stored))]
+fn store(lists: &mut [f64; PLACES], seen: Seen, c: u8, x: f64)
     requires { (c < length capacities) × (count_of seen c < get_or capacities c 0) }
     ensures { lists.new ≡ stored lists.old seen c x }
 {
     let i = c as usize;
-    let counts = seen.counts;
-    let at = crate::waiting::base(i) + counts[i];
-    lists[at] = x;
-    at
+    lists[base(i) + seen.counts[i]] = x;
 }
 
+// Adds a record to what waits, if it is small: an acknowledgement, a head or a value.
+#[tactic(auto, unfolding(crate::specs::Reading::on_record))]
+fn add(w: Waiting, lists: &mut [f64; PLACES], x: Record) -> Option<Waiting>
+    requires { Room w.seen x }
+    ensures { Added w lists.old x result lists.new }
+{
+    match x {
+        Record::Ack(a) => Some(w.with_ack(a)),
+        Record::Head(h) => Some(w.with_head(h)),
+        Record::Value(c, v) => {
+            store(lists, w.seen, c, v);
+            Some(w.with_value(c))
+        }
+        Record::Settings | Record::Reset | Record::Outcome | Record::Tick(_) | Record::Width(_) => {
+            None
+        }
+    }
+}
+
+// What waits after some small records, and the look at the place after them, where there is none.
 #[derive(Clone, Copy)]
 struct Took {
     waiting: Waiting,
     at: usize,
     look: Look,
-    more: bool,
 }
 
-// Adds the record at a place to what waits, where it is small.
-fn add(w: Waiting, lists: &mut [f64; PLACES], at: usize, n: usize, x: Record) -> Took
-    requires n_bound { at + n + 1 < 2 ^ 64 }
-    requires room { Room w.seen x }
-    ensures { Added w lists.old at n x result lists.new }
+// Takes all small records from a place on. The lists are lent beside what waits: their memory is fixed,
+// and what waits goes by value.
+fn collect(kinds: &[u16], w: Waiting, lists: &mut [f64; PLACES], s: &[u8], from: usize) -> Took
+    requires { from ≤ length s.now }
+    ensures { Collected kinds.now w lists.old s.now from result lists.new }
 {
-    let seen = w.seen;
-    let end = at + n + 1;
-    match x {
-        Record::Ack(a) => Took {
-            waiting: crate::waiting::with_ack(w, a),
-            at: end,
-            look: Look::Waits,
-            more: true,
-        },
-        Record::Head(h) => Took {
-            waiting: crate::waiting::with_head(w, h),
-            at: end,
-            look: Look::Waits,
-            more: true,
-        },
-        Record::Value(c, v) => {
-            store(lists, seen, c, v);
-            Took {
-                waiting: with_value(w, c),
-                at: end,
-                look: Look::Waits,
-                more: true,
-            }
-        }
-        Record::Settings | Record::Reset | Record::Outcome | Record::Tick(_) | Record::Width(_) =>
-            Took {
-                waiting: w,
-                at,
-                look: Look::Found(x, n),
-                more: false,
-            },
+    let mut waiting = w;
+    let mut at = from;
+    'records: loop {
+        let look = look_at(kinds, waiting.seen, s, at);
+        let Look::Found(x, n) = look else {
+            return Took { waiting, at, look };
+        };
+        let Some(more) = add(waiting, lists, x) else {
+            return Took { waiting, at, look };
+        };
+        waiting = more;
+        at += n + 1;
     }
-}
-
-fn take_one(kinds: &[u16], w: Waiting, lists: &mut [f64; PLACES], s: &[u8], at: usize) -> Took
-    ensures { TookOne kinds.now w lists.old s.now at result lists.new }
-{
-    let seen = w.seen;
-    let look = look_at(kinds, seen, s, at);
-    match look {
-        Look::Found(x, n) => add(w, lists, at, n, x),
-        Look::Waits | Look::Refuses(_) => Took {
-            waiting: w,
-            at,
-            look,
-            more: false,
-        },
-    }
-}
-
-// Takes all small records from a place on.
-fn collect(kinds: &[u16], w: Waiting, lists: &mut [f64; PLACES], s: &[u8], at: usize) -> Took
-    requires { at ≤ length s.now }
-    ensures { Collected kinds.now w lists.old s.now at result lists.new }
-{
-    let mut took = Took {
-        waiting: w,
-        at,
-        look: Look::Waits,
-        more: true,
-    };
-    while took.more {
-        let next = took.waiting;
-        let i = took.at;
-        took = take_one(kinds, next, lists, s, i);
-    }
-    took
 }
 
 // ---- records that instruct
 
-#[derive(Clone, Copy)]
-struct Stretch {
-    reader: Reader,
-    at: usize,
-    // where the record at that place ends, if it instructs
-    end: usize,
-    what: What,
-    more: bool,
-}
-
-// No more records are taken: what comes at this place, and where it ends.
-fn comes_to(reader: Reader, at: usize, end: usize, what: What) -> Stretch
-    ensures { result ≡ record { reader = reader; at = at; end = end; what = what; more = false } }
+// What a record that is not small comes to, but for an outcome, which waits.
+fn instruct(w: Waiting, x: Record) -> What
+    ensures { result ≡ instructs_as w x }
 {
-    Stretch {
-        reader,
-        at,
-        end,
-        what,
-        more: false,
-    }
-}
-
-// A record that is not small.
-fn instruct(rd: Reader, lists: &[f64; PLACES], s: &[u8], at: usize, n: usize, x: Record) -> Stretch
-    requires n_in_bounds { at + n < length s.now }
-    requires x_value { is_small x ≡ false }
-    ensures { Instructs rd lists.now s.now at n x result }
-{
-    let waiting = rd.waiting;
-    let from = at + 1;
-    let end = from + n;
     match x {
-        Record::Outcome => {
-            let outcome = journal_records::long::read_outcome(&s[from..end]);
-            Stretch {
-                reader: crate::waiting::with_outcome(rd, outcome),
-                at: end,
-                end,
-                what: What::Waits,
-                more: true,
-            }
-        }
-        Record::Settings => comes_to(rd, at, end, What::Begins),
-        Record::Reset => comes_to(rd, at, end, What::Resets),
-        Record::Tick(t) => {
-            let input = crate::waiting::input_of(waiting, t);
-            comes_to(rd, at, end, What::Ticks(input))
-        }
-        Record::Width(w) => comes_to(rd, at, end, What::GivesWidth(w)),
-        Record::Ack(_) | Record::Head(_) | Record::Value(_, _) => {
-            comes_to(rd, at, at, What::Waits)
-        }
-    }
-}
-
-// All small records from a place on, and the one after them.
-fn take_stretch(
-    kinds: &[u16],
-    rd: Reader,
-    lists: &mut [f64; PLACES],
-    s: &[u8],
-    at: usize,
-) -> Stretch
-    requires { at ≤ length s.now }
-    ensures { TookStretch kinds.now (record { reader = rd; lists = lists.old }) s.now at result lists.new }
-{
-    let w = rd.waiting;
-    let outcome = rd.outcome;
-    let took = collect(kinds, w, lists, s, at);
-    let waiting = took.waiting;
-    let next = took.at;
-    let look = took.look;
-    let reader = Reader { waiting, outcome };
-    match look {
-        Look::Found(x, n) => instruct(reader, lists, s, next, n, x),
-        Look::Waits => comes_to(reader, next, next, What::Waits),
-        Look::Refuses(r) => comes_to(reader, next, next, What::Refuses(r)),
+        Record::Settings => What::Begins,
+        Record::Reset => What::Resets,
+        Record::Tick(t) => What::Ticks(w.input_of(t)),
+        Record::Width(w) => What::GivesWidth(w),
+        Record::Ack(_) | Record::Head(_) | Record::Value(_, _) | Record::Outcome => What::Waits,
     }
 }
 
@@ -274,24 +156,42 @@ fn take_stretch(
 pub fn read(kinds: &[u16], rd: Reader, lists: &mut [f64; PLACES], s: &[u8]) -> Progress
     ensures { (result ≡ read_of kinds.now (record { reader = rd; lists = lists.old }) s.now) × (lists.new ≡ lists_read kinds.now (record { reader = rd; lists = lists.old }) s.now) }
 {
-    let mut stretch = Stretch {
-        reader: rd,
-        at: 0,
-        end: 0,
-        what: What::Waits,
-        more: true,
-    };
-    while stretch.more {
-        let next = stretch.reader;
-        let i = stretch.at;
-        stretch = take_stretch(kinds, next, lists, s, i);
-    }
-    let reader = stretch.reader;
-    let what = stretch.what;
-    Progress {
-        reader,
-        used: stretch.at,
-        end: stretch.end,
-        what,
+    let mut reader = rd;
+    let mut at = 0;
+    'stretches: loop {
+        let took = collect(kinds, reader.waiting, lists, s, at);
+        reader.waiting = took.waiting;
+        at = took.at;
+        let (x, n) = match took.look {
+            Look::Found(x, n) => (x, n),
+            Look::Waits => {
+                return Progress {
+                    reader,
+                    used: at,
+                    end: at,
+                    what: What::Waits,
+                };
+            }
+            Look::Refuses(r) => {
+                return Progress {
+                    reader,
+                    used: at,
+                    end: at,
+                    what: What::Refuses(r),
+                };
+            }
+        };
+        let from = at + 1;
+        let end = from + n;
+        let Record::Outcome = x else {
+            return Progress {
+                reader,
+                used: at,
+                end,
+                what: instruct(reader.waiting, x),
+            };
+        };
+        reader = reader.with_outcome(read_outcome(&s[from..end]));
+        at = end;
     }
 }

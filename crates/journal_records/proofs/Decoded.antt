@@ -8,9 +8,15 @@ use denote.Enum.Declared.{tag_of}
 use lib.Dec.{eqb}
 use lib.Ieee.{Float, nan}
 use Rattle.journal_records.specs.Little.{byte_at, float_at}
-use Rattle.journal_records.specs.Kinds.{settings_kind, reset_kind, ack_kind, head_kind, value_kind, outcome_kind, width_kind}
+use Rattle.std.proofs.Common.{Result, Ok, Err}
+use Rattle.std.specs.Result.{result_unwrap_or}
+use Rattle.journal_records.specs.Kinds.{settings_kind, reset_kind, ack_kind, head_kind, value_kind, outcome_kind, width_kind, kind_of}
+use Rattle.journal_records.proofs.Numbered.{KindOf, kind_told}
 use Rattle.journal_records.specs.Body.{ack_of, head_of, tick_numbers, decode_of}
 use Rattle.journal_records.specs.contracts.Record as R
+use Rattle.journal_records.specs.declared.Kind.{Kind}
+use Rattle.journal_records.specs.declared.Kind.TheVariants as K
+use Rattle.lictor_core.specs.declared.code.Unlisted.{Unlisted}
 use Rattle.journal_records.specs.declared.Record.{Record}
 use Rattle.journal_records.specs.declared.Record.TheVariants.{Settings, Reset, Ack, Head, Value, Outcome, Tick, Width}
 
@@ -67,31 +73,39 @@ value_by k b c x false e d = absurd (true≢false (sym (ap is_value d) ∙ no_va
 pub decoded_value : (k : ℕ) (b : List ℕ) (c : ℕ) (x : Float) → decode_of k b ≡ Value c x → (k ≡ value_kind) × (c ≡ byte_at b 0)
 decoded_value k b c x = value_by k b c x (eqb k value_kind) refl
 
--- ---- what is decoded, kind by kind
+-- ---- what is decoded, by the kind of the number
 
--- what is said of a kind is said of a number that is this kind
-pub decoded_at : (b : List ℕ) (x : Record) (k kind : ℕ) → k ≡ kind → x ≡ decode_of kind b → x ≡ decode_of k b
-decoded_at b x k kind e f = rw e f
+-- a number that is of no kind is taken for a tick's
+abbrev pub record_of : List ℕ → Kind → Record
+record_of b K.Settings = Settings
+record_of b K.Reset = Reset
+record_of b K.Ack = Ack (ack_of b)
+record_of b K.Head = Head (head_of b)
+record_of b K.Value = Value (byte_at b 0) (float_at b 1)
+record_of b K.Outcome = Outcome
+record_of b K.Tick = Tick (tick_numbers b)
+record_of b K.Width = Width (float_at b 0)
 
--- any other number is taken as the last kind
-pub record LastKind (k : ℕ) : Type 0 where
-  pub settings : k ≡ settings_kind → ⊥
-  pub reset : k ≡ reset_kind → ⊥
-  pub ack : k ≡ ack_kind → ⊥
-  pub head : k ≡ head_kind → ⊥
-  pub value : k ≡ value_kind → ⊥
-  pub outcome : k ≡ outcome_kind → ⊥
-  pub width : k ≡ width_kind → ⊥
-
-pub decoded_last : (b : List ℕ) (k : ℕ) → LastKind k → Tick (tick_numbers b) ≡ decode_of k b
+decoded_by : (k : ℕ) (b : List ℕ) (r : Result Kind Unlisted) → KindOf k r → decode_of k b ≡ record_of b (result_unwrap_or r K.Tick)
 unfolding decode_of
-decoded_last b k n =
+decoded_by k b (Ok K.Settings) e = rw e refl
+decoded_by k b (Ok K.Reset) e = rw e refl
+decoded_by k b (Ok K.Ack) e = rw e refl
+decoded_by k b (Ok K.Head) e = rw e refl
+decoded_by k b (Ok K.Value) e = rw e refl
+decoded_by k b (Ok K.Outcome) e = rw e refl
+decoded_by k b (Ok K.Tick) e = rw e refl
+decoded_by k b (Ok K.Width) e = rw e refl
+decoded_by k b (Err u) n =
     simp (
-      ne_eqb k settings_kind n.settings,
-      ne_eqb k reset_kind n.reset,
-      ne_eqb k ack_kind n.ack,
-      ne_eqb k head_kind n.head,
-      ne_eqb k value_kind n.value,
-      ne_eqb k outcome_kind n.outcome,
-      ne_eqb k width_kind n.width,
+      ne_eqb k settings_kind (n K.Settings),
+      ne_eqb k reset_kind (n K.Reset),
+      ne_eqb k ack_kind (n K.Ack),
+      ne_eqb k head_kind (n K.Head),
+      ne_eqb k value_kind (n K.Value),
+      ne_eqb k outcome_kind (n K.Outcome),
+      ne_eqb k width_kind (n K.Width),
     )
+
+pub decoded_as : (k : ℕ) (b : List ℕ) → decode_of k b ≡ record_of b (result_unwrap_or (kind_of k) K.Tick)
+decoded_as k b = decoded_by k b (kind_of k) (kind_told k)

@@ -1,11 +1,11 @@
 -- An array that is filled with floats from a body, one a turn, whatever its length.
 use Prim.Native.Nat.{ℕ, ◌+◌, ◌*◌, ◌≤◌, ◌<◌}
-use mathlib.Core.Path.{◌≡◌, refl, sym, ap, ap₂, ◌∙◌}
+use mathlib.Core.Path.{◌≡◌, refl, sym, ap₂, ◌∙◌}
 use mathlib.Core.List.{List, [], ◌∷◌, ◌++◌}
 use native.Mathlib.Omega.{arith}
 use native.Mathlib.Numerals.{add-one}
 use lib.ListN.{length, take, set, length-set}
-use lib.Seq.{take-suc-set, take_all}
+use lib.Seq.{take-suc-set}
 use lib.Ieee.{Float}
 use Rattle.journal_records.specs.Little.{float_at, floats_at}
 use Rattle.journal_records.proofs.Laws.{floats_more}
@@ -30,8 +30,3 @@ module _ (b : List ℕ) (at n : ℕ) where
         ∙ ap₂ (λ (p : List Float) (x : Float). p ++ (x ∷ [])) f.front e
         ∙ sym (floats_more b at i));
   }
-
-  pub filled_all : (out : List Float) (i : ℕ) → n ≤ i → Filled b at n out i → out ≡ floats_at b at n
-  filled_all out i h f =
-      let e : i ≡ n = omega (arith, f.short) in
-      sym (take_all i out (omega (arith, f.long))) ∙ f.front ∙ ap (floats_at b at) e

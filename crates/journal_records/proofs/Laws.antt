@@ -1,12 +1,18 @@
 -- Laws of `le_at`, once for every width, and of `floats_at`.
-use Prim.Native.Nat.{ℕ, zero, suc, ◌+◌, ◌*◌, ◌-◌, ◌^◌, ◌≤◌, ◌<◌}
-use mathlib.Core.Path.{◌≡◌, refl, ap, ◌∙◌}
+use Prim.Native.Nat.{ℕ, zero, suc, ◌+◌, ◌*◌, ◌^◌, ◌≤◌, ◌<◌}
+use mathlib.Core.Path.{◌≡◌, sym, ap, ◌∙◌}
 use mathlib.Core.List.{List, [], ◌∷◌, ◌++◌}
 use native.Mathlib.Nat.{pow-suc, one-le-pow}
+use Rattle.std.proofs.Math.Nat.{pow-succ', mul_left_comm}
 use native.Mathlib.Omega.{arith}
-use lib.ListN.{length, get_or-eq_default}
+use lib.ListN.{length, get_or, drop, replicate, get_or-append, get_or-eq_default}
+use lib.Seq.{get_or-append_right}
+use Rattle.std.proofs.Common.{inl, inr}
+use Rattle.std.proofs.lemmas.Bool.{cases_lt}
+use Rattle.std.proofs.lemmas.List.{get_or-drop, get_or-replicate}
 use lib.Dec.{lit<}
 use lib.Ieee.{Float}
+use Rattle.std.specs.Int.{byte_worth, sum_through}
 use Rattle.journal_records.specs.Little.{byte_at, le_at, float_at, floats_at}
 
 -- w bytes are below 256 ^ k for every k from w on
@@ -18,50 +24,32 @@ le_at_under s at (suc w) (suc k) h p =
     let ih : le_at s (suc at) w < 256 ^ k = le_at_under s (suc at) w k h (omega arith) in
     omega (arith, h at, pow-suc 256 k)
 
-pub le_at_none : (s : List ℕ) (at w : ℕ) → w ≡ 0 → le_at s at w ≡ 0
-unfolding le_at
-le_at_none s at w e = rw e refl
+weight : (b n : ℕ) → b * 256 ^ suc n ≡ 256 * (b * 256 ^ n)
+weight b n = rw pow-succ' (mul_left_comm b 256 (256 ^ n))
 
--- one byte more in front
-pub le_at_more : (s : List ℕ) (at n i : ℕ) → i < n → le_at s (at + i) (n - i) ≡ le_at s (at + (i + 1)) (n - (i + 1)) * 256 + byte_at s (at + i)
+-- one byte more at the end
+le_at_last : (s : List ℕ) (at n : ℕ) → le_at s at (suc n) ≡ le_at s at n + byte_at s (at + n) * 256 ^ n
 unfolding le_at
-le_at_more s at n i p =
-    let e : n - i ≡ suc (n - (i + 1)) = omega arith in
-    let f : suc (at + i) ≡ at + (i + 1) = omega arith in
-    rw (e, f) (omega arith)
+le_at_last s at zero = let e : at + 0 ≡ at = omega arith in rw e (omega arith)
+le_at_last s at (suc n) =
+    let e : suc at + n ≡ at + suc n = omega arith in
+    let ih : le_at s (suc at) (suc n) ≡ le_at s (suc at) n + byte_at s (at + suc n) * 256 ^ n = rw e at (le_at_last s (suc at) n) in
+    omega (arith, weight (byte_at s (at + suc n)) n)
 
--- eight bytes, each times its weight
-pub le_at_8 : (s : List ℕ) (at : ℕ)
-    → le_at s at 8
-    ≡ byte_at s at + byte_at s (at + 1) * 256 ^ 1 + byte_at s (at + 2) * 256 ^ 2 + byte_at s (at + 3) * 256 ^ 3 + byte_at s (at + 4) * 256 ^ 4 + byte_at s (at + 5) * 256 ^ 5
-    + byte_at s (at + 6) * 256 ^ 6 + byte_at s (at + 7) * 256 ^ 7
-le_at_8 s at =
-    let z : at + 0 ≡ at = omega arith in
-    let first : le_at s at 8 ≡ le_at s (at + 1) 7 * 256 + byte_at s at = rw z at (le_at_more s at 8 0 (lit< tt)) in
-    omega (
-      arith,
-      le_at_more s at 8 1 (lit< tt),
-      le_at_more s at 8 2 (lit< tt),
-      le_at_more s at 8 3 (lit< tt),
-      le_at_more s at 8 4 (lit< tt),
-      le_at_more s at 8 5 (lit< tt),
-      le_at_more s at 8 6 (lit< tt),
-      le_at_more s at 8 7 (lit< tt),
-      le_at_none s (at + 8) 0 refl,
-    )
-
--- past the end there is nothing
-pub le_at_past : (s : List ℕ) (at w : ℕ) → length s ≤ at → le_at s at w ≡ 0
+-- the bytes that were read, each times its worth
+pub le_at_read : (s : List ℕ) (at n : ℕ) (bytes : List ℕ) → ((i : ℕ) → i < suc n → get_or bytes i 0 ≡ byte_at s (at + i)) → sum_through (λ i. byte_worth i (get_or bytes i 0)) n ≡ le_at s at (suc n)
 unfolding le_at
-le_at_past s at zero p = refl
-le_at_past s at (suc w) p = omega (arith, get_or-eq_default s 0 p, le_at_past s (suc at) w (omega arith))
+le_at_read s at zero bytes h = let e : at + 0 ≡ at = omega arith in rw (h 0 (omega arith), e) (omega arith)
+le_at_read s at (suc n) bytes h =
+    let ih = le_at_read s at n bytes (λ i p. h i (omega arith)) in
+    rw (h (suc n) (omega arith), ih) (sym (le_at_last s at (suc n)))
 
--- so only the bytes that are there count
-pub le_at_here : (s : List ℕ) (at h w : ℕ) → h ≤ w → length s ≤ at + h → le_at s at w ≡ le_at s at h
-unfolding le_at
-le_at_here s at zero w p q = le_at_past s at w (omega arith)
-le_at_here s at (suc h) zero p q = absurd (omega arith)
-le_at_here s at (suc h) (suc w) p q = omega (arith, le_at_here s (suc at) h w (omega arith) (omega arith))
+-- where bytes are copied to the front of zeros, a place that none was copied to has 0
+pub padded : (there : List ℕ) (n k : ℕ) → k < n → get_or (there ++ drop (length there) (replicate n 0)) k 0 ≡ get_or there k 0
+padded there n k h = elim (cases_lt k (length there)) [
+  | inl p ↦ get_or-append there _ 0 k p
+  | inr p ↦ grind (arith, get_or-append_right there (drop (length there) (replicate n 0)) k 0 p, get_or-drop, get_or-replicate, get_or-eq_default)
+]
 
 -- one float more at the end
 pub floats_more : (s : List ℕ) (at n : ℕ) → floats_at s at (suc n) ≡ floats_at s at n ++ (float_at s (at + n * 8) ∷ [])

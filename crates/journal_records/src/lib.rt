@@ -6,15 +6,17 @@ pub mod little; // little-endian numbers
 pub mod long; // the two long records, settings and outcome
 
 ghost use Rattle.std.specs.Prelude.{◌≡◌};
-ghost use Rattle.journal_records.specs.Kinds.{journal_kinds};
+ghost use Rattle.journal_records.specs.Kinds.{journal_kinds, kind_of};
 ghost use Rattle.journal_records.specs.Body.{ack_of, head_of, tick_numbers, decode_of};
 
 use crate::little::{byte, f64_at, flag_set, le16, le32, le64};
 use lictor_core::ack::VerifiedAck;
 use lictor_core::chunk::ChunkHead;
+use lictor_core::code::Unlisted;
 use lictor_core::state::Time;
 
-// The numbers of a tick record.
+// The numbers of a tick record. Whether there are velocities is a byte of its body: the list itself
+// comes in other records.
 #[derive(Clone, Copy)]
 pub struct TickNumbers {
     pub t: Time,
@@ -24,7 +26,8 @@ pub struct TickNumbers {
     pub has_vel: bool,
 }
 
-// A decoded record. Settings and outcome hold arrays, so `long` reads them apart.
+// A decoded record. Settings and outcome hold arrays, so `long` reads them apart. A value's list is a
+// number, its place in the counts of what has been seen.
 #[derive(Clone, Copy)]
 pub enum Record {
     Settings,
@@ -38,21 +41,38 @@ pub enum Record {
 }
 
 // The kinds, numbered from 1 on.
-pub const SETTINGS: u8 = 1;
+#[derive(Clone, Copy, PartialEq, Eq)]
+pub enum Kind {
+    Settings = 1,
+    Reset,
+    Ack,
+    Head,
+    Value,
+    Outcome,
+    Tick,
+    Width,
+}
 
-pub const RESET: u8 = 2;
+#[tactic(auto, unfolding(crate::specs::Kinds::kind_of))]
+impl TryFrom<u8> for Kind {
+    type Error = Unlisted;
 
-pub const ACK: u8 = 3;
+    ghost try_from_gives = { λ k r. r ≡ kind_of k };
 
-pub const HEAD: u8 = 4;
-
-pub const VALUE: u8 = 5;
-
-pub const OUTCOME: u8 = 6;
-
-pub const TICK: u8 = 7;
-
-pub const WIDTH: u8 = 8;
+    fn try_from(k: u8) -> Result<Kind, Unlisted> {
+        match k {
+            1 => Ok(Kind::Settings),
+            2 => Ok(Kind::Reset),
+            3 => Ok(Kind::Ack),
+            4 => Ok(Kind::Head),
+            5 => Ok(Kind::Value),
+            6 => Ok(Kind::Outcome),
+            7 => Ok(Kind::Tick),
+            8 => Ok(Kind::Width),
+            _ => Err(Unlisted(k)),
+        }
+    }
+}
 
 // How many there are.
 pub const KINDS: usize = 8;
@@ -65,6 +85,7 @@ pub fn journal_kinds() -> [u16; KINDS]
 }
 
 // The body of an ACK.
+#[tactic(auto, unfolding(crate::specs::Body::ack_of))]
 fn read_ack(b: &[u8]) -> VerifiedAck
     ensures { result ≡ ack_of b.now }
 {
@@ -78,6 +99,7 @@ fn read_ack(b: &[u8]) -> VerifiedAck
 }
 
 // The body of a HEAD.
+#[tactic(auto, unfolding(crate::specs::Body::head_of))]
 fn read_head(b: &[u8]) -> ChunkHead
     ensures { result ≡ head_of b.now }
 {
@@ -91,6 +113,7 @@ fn read_head(b: &[u8]) -> ChunkHead
 }
 
 // The body of a TICK.
+#[tactic(auto, unfolding(crate::specs::Body::tick_numbers))]
 fn read_tick(b: &[u8]) -> TickNumbers
     ensures { result ≡ tick_numbers b.now }
 {
@@ -105,17 +128,20 @@ fn read_tick(b: &[u8]) -> TickNumbers
 
 // The record of a kind, from its body.
 // Which pattern a NaN has is the program's choice.
+#[tactic(auto, using(crate::proofs::Decoded::decoded_as))]
 pub fn decode(k: u8, b: &[u8]) -> Record
     ensures { result ≡ decode_of k b.now }
 {
-    match k {
-        SETTINGS => Record::Settings,
-        RESET => Record::Reset,
-        ACK => Record::Ack(read_ack(b)),
-        HEAD => Record::Head(read_head(b)),
-        VALUE => Record::Value(byte(b, 0), f64_at(b, 1)),
-        OUTCOME => Record::Outcome,
-        WIDTH => Record::Width(f64_at(b, 0)),
-        _ => Record::Tick(read_tick(b)),
+    // Any number is taken, as `decode_of` has it: a kind that is not listed is refused before, and is
+    // taken for a tick here.
+    match Kind::try_from(k).unwrap_or(Kind::Tick) {
+        Kind::Settings => Record::Settings,
+        Kind::Reset => Record::Reset,
+        Kind::Ack => Record::Ack(read_ack(b)),
+        Kind::Head => Record::Head(read_head(b)),
+        Kind::Value => Record::Value(byte(b, 0), f64_at(b, 1)),
+        Kind::Outcome => Record::Outcome,
+        Kind::Width => Record::Width(f64_at(b, 0)),
+        Kind::Tick => Record::Tick(read_tick(b)),
     }
 }

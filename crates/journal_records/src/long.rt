@@ -1,36 +1,27 @@
 // The two long records of a journal, settings and outcome: what their bodies hold.
-ghost use Rattle.std.specs.Prelude.{◌≡◌, ◌≤◌, length};
-ghost use Rattle.lictor_core.specs.Sizes.{max_d, features};
-ghost use Rattle.journal_records.specs.Little.{floats_at};
+ghost use Rattle.std.specs.Prelude.{◌≡◌, ◌≤◌};
+ghost use Rattle.lictor_core.specs.Sizes.{features};
+ghost use Rattle.journal_records.specs.Little.{floats_at as Little·floats_at};
 ghost use Rattle.journal_records.specs.Long.{limits_of, calibration_of, settings_of, scores_in, outcome_of};
 
 use crate::little::{byte, f64_at, flag_set, le16, le32, le64};
-use lictor_core::chunk::MAX_D;
-use lictor_core::envelope::{Calibration, Hysteresis};
-use lictor_core::scores::{NFEAT, Scores};
+use lictor_core::envelope::{Calibration, Hysteresis, Settings};
+use lictor_core::outcome::Outcome;
+use lictor_core::scores::Scores;
 
-// Floats from a place on, as many as there is room for.
-fn fill(body: &[u8], at: usize, out: &mut [f64])
-    requires { (at ≤ 1024) × (length out.old ≤ features) }
-    ensures { out.new ≡ floats_at body.now at (length out.old) }
+// N floats, one after the other, from a place on.
+fn floats_at<const N: usize>(body: &[u8], at: usize) -> [f64; N]
+    requires { (at ≤ 1024) × (N ≤ features) }
+    ensures { result ≡ Little·floats_at body.now at N }
 {
-    let mut i: usize = 0;
-    while i < out.len() {
-        out[i] = f64_at(body, at + i * 8);
-        i += 1;
+    let mut floats = [0.0; N];
+    for (i, float) in floats.iter_mut().enumerate() {
+        *float = f64_at(body, at + i * 8);
     }
+    floats
 }
 
-// A row, of an action or of a position.
-fn row_at(body: &[u8], at: usize) -> [f64; MAX_D]
-    requires { at ≤ 1024 }
-    ensures { result ≡ floats_at body.now at max_d }
-{
-    let mut out = [0.0; MAX_D];
-    fill(body, at, &mut out);
-    out
-}
-
+#[tactic(auto, unfolding(crate::specs::Long::limits_of))]
 fn read_limits(body: &[u8]) -> Hysteresis
     ensures { result ≡ limits_of body.now }
 {
@@ -51,6 +42,7 @@ fn read_limits(body: &[u8]) -> Hysteresis
     }
 }
 
+#[tactic(auto, unfolding(crate::specs::Long::calibration_of))]
 fn read_calibration(body: &[u8]) -> Calibration
     ensures { result ≡ calibration_of body.now }
 {
@@ -62,14 +54,11 @@ fn read_calibration(body: &[u8]) -> Calibration
 
 // The body of SETTINGS.
 // Which pattern a NaN has is the program's choice.
-pub fn read_settings(body: &[u8]) -> lictor_core::envelope::Settings
+#[tactic(auto, unfolding(crate::specs::Long::settings_of))]
+pub fn read_settings(body: &[u8]) -> Settings
     ensures { result ≡ settings_of body.now }
 {
-    let box_lo = row_at(body, 92);
-    let box_hi = row_at(body, 156);
-    let hyst = read_limits(body);
-    let calib = read_calibration(body);
-    lictor_core::envelope::Settings {
+    Settings {
         mode: byte(body, 0),
         kind: byte(body, 1),
         clamp: byte(body, 2),
@@ -81,22 +70,21 @@ pub fn read_settings(body: &[u8]) -> lictor_core::envelope::Settings
         dt: f64_at(body, 44),
         inv_dt: f64_at(body, 52),
         a_max: f64_at(body, 60),
-        box_lo,
-        box_hi,
-        hyst,
+        box_lo: floats_at(body, 92),
+        box_hi: floats_at(body, 156),
+        hyst: read_limits(body),
         window_mask: le64(body, 36),
         tier0_enabled: le32(body, 28),
-        calib,
+        calib: read_calibration(body),
     }
 }
 
+#[tactic(auto, unfolding(crate::specs::Long::scores_in))]
 fn read_scores(body: &[u8]) -> Scores
     ensures { result ≡ scores_in body.now }
 {
-    let mut standardised = [0.0; NFEAT];
-    fill(body, 33, &mut standardised);
     Scores {
-        z: standardised,
+        z: floats_at(body, 33),
         s: f64_at(body, 17),
         valid: le32(body, 25),
         fired: le32(body, 29),
@@ -105,19 +93,19 @@ fn read_scores(body: &[u8]) -> Scores
 
 // The body of an OUTCOME.
 // Which pattern a NaN has is the program's choice.
-pub fn read_outcome(body: &[u8]) -> lictor_core::outcome::Outcome
+#[tactic(auto, unfolding(crate::specs::Long::outcome_of))]
+// (One comes for each tick: as a call of its own it took a tick of the journal three per cent more.)
+#[inline(always)]
+pub fn read_outcome(body: &[u8]) -> Outcome
     ensures { result ≡ outcome_of body.now }
 {
-    let scores = read_scores(body);
-    let policy = row_at(body, 129);
-    let clamped = row_at(body, 193);
-    lictor_core::outcome::Outcome {
+    Outcome {
         trips: le32(body, 0),
         clamped_dims: le32(body, 4),
         feasible: flag_set(byte(body, 8)),
         margin: f64_at(body, 9),
-        scores,
-        policy,
-        clamped,
+        scores: read_scores(body),
+        policy: floats_at(body, 129),
+        clamped: floats_at(body, 193),
     }
 }

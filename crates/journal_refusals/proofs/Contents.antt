@@ -1,38 +1,37 @@
 -- The rows about a body's contents, kind by kind: at a given kind the other kinds' causes are not
 -- there.
 use Prim.Native.Nat.{ℕ}
-use mathlib.Core.Path.{◌≡◌, refl, sym, ap, ◌∙◌}
+use mathlib.Core.Path.{◌≡◌, refl, sym}
 use mathlib.Core.Bool.{Bool, true, false, cond, ◌||◌}
 use mathlib.Core.List.{List}
 use borrow.Author.Tests.{ne_eqb}
 use lib.ListN.{length}
-use lib.Ieee.{Float}
 use Rattle.lictor_core.specs.Codes.{decisions, flags}
 use Rattle.journal_records.specs.Little.{byte_at, float_at}
-use Rattle.journal_records.specs.Kinds.{settings_kind, ack_kind, value_kind, outcome_kind, tick_kind, width_kind}
-use Rattle.lictor_settings.specs.declared.SettingsCheck.{SettingsCheck}
-use Rattle.lictor_settings.specs.declared.SettingsCheck.TheVariants as S
+use Rattle.journal_records.specs.Kinds.{settings_kind, ack_kind, value_kind, outcome_kind, tick_kind, width_kind, kind_of}
+use Rattle.std.proofs.Common.{Result, Ok, Err}
+use Rattle.journal_records.specs.declared.Kind.{Kind}
+use Rattle.journal_records.specs.declared.Kind.TheVariants as K
+use Rattle.lictor_core.specs.declared.code.Unlisted.{Unlisted}
+use Rattle.journal_records.proofs.Numbered.{KindOf, kind_told}
+use Rattle.lictor_settings.specs.declared.SettingsFault.{SettingsFault}
+use Rattle.lictor_settings.specs.declared.SettingsFault.TheVariants as S
 use Rattle.lictor_core.specs.FirstThat.{first_that}
 use Rattle.lictor_settings.specs.Settings.{bad_code, bad_size, bad_float, bad_box, settings_table, check_of}
 use Rattle.journal_records.specs.Long.{settings_of}
 use Rattle.journal_refusals.specs.declared.Seen.{Seen}
-use Rattle.journal_refusals.specs.declared.Judged.{Judged}
-use Rattle.journal_refusals.specs.declared.Judged.TheVariants.{Accepted, Refused}
-use Rattle.journal_refusals.specs.declared.Refusal.TheVariants.{BadCode, BadSize, BadFloat, BoxCrossed, ListFull, NotReady}
-use Rattle.journal_refusals.specs.Causes.{capacities, not_below, code_not_listed, size_outside, bad_width, float_outside, box_crossed, list_full, not_ready}
-use Rattle.journal_refusals.specs.Table.{content_rows, contents_of}
+use Rattle.journal_refusals.specs.declared.Refusal.TheVariants.{BeforeSettings, Again, BadCode, BadSize, BadFloat, BoxCrossed, ListFull, NotReady}
+use Rattle.journal_refusals.specs.Causes.{before_settings, again, capacities, not_below, code_not_listed, size_outside, bad_width, float_outside, box_crossed, list_full, not_ready}
+use Rattle.journal_refusals.specs.Table.{refusal_for, order_rows, whole_rows, whole_of, Accepted, Judged, Refused, content_rows, contents_of}
 
 -- what the check of the settings answers, as a judgement
-abbrev pub judged_by : SettingsCheck → Judged
-judged_by S.Accepted = Accepted
-judged_by S.BadCode = Refused BadCode
-judged_by S.BadSize = Refused BadSize
-judged_by S.NotFinite = Refused BadFloat
-judged_by S.BoxCrossed = Refused BoxCrossed
+abbrev pub judged_by : Result (Unit {0}) SettingsFault → Judged
+judged_by (Ok _) = Accepted
+judged_by (Err f) = Refused (refusal_for f)
 
 -- four causes in order, in the one table and in the other
 same_order : (p q r s : Bool)
-    → judged_by (cond p S.BadCode (cond q S.BadSize (cond r S.NotFinite (cond s S.BoxCrossed S.Accepted))))
+    → judged_by (cond p (Err S.BadCode) (cond q (Err S.BadSize) (cond r (Err S.NotFinite) (cond s (Err S.BoxCrossed) (Ok tt)))))
     ≡ cond p (Refused BadCode) (cond q (Refused BadSize) (cond r (Refused BadFloat) (cond s (Refused BoxCrossed) Accepted)))
 same_order true q r s = refl
 same_order false true r s = refl
@@ -45,61 +44,68 @@ unfoldable opened : Seen → ℕ → List ℕ → Judged
 unfolding contents_of content_rows first_that code_not_listed size_outside float_outside box_crossed list_full not_ready
 opened seen k b = contents_of seen k b
 
--- a kind that has no rows about its contents
-pub record NoContents (k : ℕ) : Type 0 where
-  pub settings : k ≡ settings_kind → ⊥
-  pub ack : k ≡ ack_kind → ⊥
-  pub value : k ≡ value_kind → ⊥
-  pub outcome : k ≡ outcome_kind → ⊥
-  pub tick : k ≡ tick_kind → ⊥
-  pub width : k ≡ width_kind → ⊥
-
 module _ (seen : Seen) (b : List ℕ) where
-  -- what is said of a kind is said of a number that is this kind
-  pub contents_at : (j : Judged) (k kind : ℕ) → k ≡ kind → j ≡ contents_of seen kind b → j ≡ contents_of seen k b
-  contents_at j k kind e f = rw e f
-
   -- settings: causes 1 to 4, as their own check has them
-  pub contents_settings : judged_by (check_of (settings_of b)) ≡ contents_of seen settings_kind b
+  pub contents_settings : contents_of seen settings_kind b ≡ judged_by (check_of (settings_of b))
   unfolding opened settings_table check_of
-  contents_settings = same_order (bad_code (settings_of b)) (bad_size (settings_of b)) (bad_float (settings_of b)) (bad_box (settings_of b))
+  contents_settings = sym (same_order (bad_code (settings_of b)) (bad_size (settings_of b)) (bad_float (settings_of b)) (bad_box (settings_of b)))
 
-  pub contents_ack : cond (not_below decisions (byte_at b 0)) (Refused BadCode) Accepted ≡ contents_of seen ack_kind b
+  pub contents_ack : contents_of seen ack_kind b ≡ cond (not_below decisions (byte_at b 0)) (Refused BadCode) Accepted
   unfolding opened
   contents_ack = refl
 
-  pub contents_value : cond (not_below (length capacities) (byte_at b 0)) (Refused BadCode) (cond (list_full seen value_kind b) (Refused ListFull) Accepted) ≡ contents_of seen value_kind b
+  pub contents_value : contents_of seen value_kind b ≡ cond (not_below (length capacities) (byte_at b 0)) (Refused BadCode) (cond (list_full seen value_kind b) (Refused ListFull) Accepted)
   unfolding opened
   contents_value = refl
 
-  pub contents_outcome : cond (not_below flags (byte_at b 8)) (Refused BadCode) Accepted ≡ contents_of seen outcome_kind b
+  pub contents_outcome : contents_of seen outcome_kind b ≡ cond (not_below flags (byte_at b 8)) (Refused BadCode) Accepted
   unfolding opened
   contents_outcome = refl
 
-  pub contents_tick : cond (not_below flags (byte_at b 7) || not_below flags (byte_at b 8)) (Refused BadCode) (cond (not_ready seen tick_kind b) (Refused NotReady) Accepted) ≡ contents_of seen tick_kind b
+  pub contents_tick : contents_of seen tick_kind b ≡ cond (not_below flags (byte_at b 7) || not_below flags (byte_at b 8)) (Refused BadCode) (cond (not_ready seen tick_kind b) (Refused NotReady) Accepted)
   unfolding opened
   contents_tick = refl
 
-  pub contents_width : cond (bad_width (float_at b 0)) (Refused BadFloat) Accepted ≡ contents_of seen width_kind b
+  pub contents_width : contents_of seen width_kind b ≡ cond (bad_width (float_at b 0)) (Refused BadFloat) Accepted
   unfolding opened
   contents_width = refl
 
-  -- by the float x that was read
-  pub width_refused : (x : Float) → x ≡ float_at b 0 → bad_width x ≡ true → Refused BadFloat ≡ contents_of seen width_kind b
-  width_refused x e f = rw (sym (ap bad_width e) ∙ f) at contents_width
-
-  pub width_accepted : (x : Float) → x ≡ float_at b 0 → bad_width x ≡ false → Accepted ≡ contents_of seen width_kind b
-  width_accepted x e f = rw (sym (ap bad_width e) ∙ f) at contents_width
-
   -- the others have none
-  pub contents_none : (k : ℕ) → NoContents k → Accepted ≡ contents_of seen k b
+  abbrev pub contents_by : Result Kind Unlisted → Judged
+  contents_by (Ok K.Settings) = contents_of seen settings_kind b
+  contents_by (Ok K.Reset) = Accepted
+  contents_by (Ok K.Ack) = contents_of seen ack_kind b
+  contents_by (Ok K.Head) = Accepted
+  contents_by (Ok K.Value) = contents_of seen value_kind b
+  contents_by (Ok K.Outcome) = contents_of seen outcome_kind b
+  contents_by (Ok K.Tick) = contents_of seen tick_kind b
+  contents_by (Ok K.Width) = contents_of seen width_kind b
+  contents_by (Err u) = Accepted
+
+  by : (k : ℕ) (r : Result Kind Unlisted) → KindOf k r → contents_of seen k b ≡ contents_by r
   unfolding opened
-  contents_none k n =
+  by k (Ok K.Settings) e = rw e refl
+  by k (Ok K.Reset) e = rw e refl
+  by k (Ok K.Ack) e = rw e refl
+  by k (Ok K.Head) e = rw e refl
+  by k (Ok K.Value) e = rw e refl
+  by k (Ok K.Outcome) e = rw e refl
+  by k (Ok K.Tick) e = rw e refl
+  by k (Ok K.Width) e = rw e refl
+  by k (Err u) n =
       simp (
-        ne_eqb k settings_kind n.settings,
-        ne_eqb k ack_kind n.ack,
-        ne_eqb k value_kind n.value,
-        ne_eqb k outcome_kind n.outcome,
-        ne_eqb k tick_kind n.tick,
-        ne_eqb k width_kind n.width,
+        ne_eqb k settings_kind (n K.Settings),
+        ne_eqb k ack_kind (n K.Ack),
+        ne_eqb k value_kind (n K.Value),
+        ne_eqb k outcome_kind (n K.Outcome),
+        ne_eqb k tick_kind (n K.Tick),
+        ne_eqb k width_kind (n K.Width),
       )
+
+module _ (seen : Seen) (k : ℕ) (b : List ℕ) where
+  pub contents_as : contents_of seen k b ≡ contents_by seen b (kind_of k)
+  contents_as = by seen b k (kind_of k) (kind_told k)
+
+  pub whole_as : whole_of seen k b ≡ cond (before_settings seen k b) (Refused BeforeSettings) (cond (again seen k b) (Refused Again) (contents_of seen k b))
+  unfolding whole_of whole_rows order_rows contents_of first_that
+  whole_as = refl

@@ -11,8 +11,7 @@ use Rattle.stream.proofs.Stream.{impossible}
 use Rattle.journal_refusals.specs.declared.Seen.{Seen}
 use Rattle.journal_refusals.specs.declared.Refusal.{Refusal}
 use Rattle.journal_refusals.specs.declared.Refusal.TheVariants.{UnknownKind, CutBody, BeforeSettings, Again, BadCode, BadSize, BadFloat, BoxCrossed, ListFull, NotReady}
-use Rattle.journal_refusals.specs.declared.Judged.TheVariants.{Accepted, Refused}
-use Rattle.journal_refusals.specs.Table.{Row, number_of, last_number, first_row}
+use Rattle.journal_refusals.specs.Table.{Accepted, Refused, Row, number_of, last_number, first_row}
 use Rattle.journal_refusals.specs.Exactly.{Decides, this_row, later_row, Passes, no_row, not_this_row}
 
 module _ (seen : Seen) (k : ℕ) (b : List ℕ) where

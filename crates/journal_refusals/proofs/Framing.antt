@@ -1,24 +1,22 @@
 -- What the table says by the frame: of a kind that is not listed, of a record that is cut, and of a
 -- whole one, which the rows below the first two judge.
-use mathlib.Core.Bool.{Bool, true, false, not}
-use mathlib.Core.List.{List, ◌∷◌, ◌++◌}
-use mathlib.Core.Path.{◌≡◌, refl, sym, ap, ◌∙◌}
-use Prim.Native.Nat.{ℕ, ◌<◌, ◌≤◌}
+use mathlib.Core.Bool.{true, false}
+use mathlib.Core.List.{List, ◌∷◌}
+use mathlib.Core.Path.{◌≡◌, refl, ◌∙◌}
+use Prim.Native.Nat.{ℕ, ◌<◌}
 use native.Mathlib.Omega.{arith}
 use borrow.Author.Tests.{lt-ltb, le-ltb, leb-false}
 use lib.ListN.{length, get_or, take, length-take}
 use Rattle.journal_frames.specs.declared.Frame.{Frame}
-use Rattle.journal_frames.specs.declared.Frame.TheVariants.{Waits, Unknown, Whole}
-use Rattle.journal_frames.specs.Frames.{is_known, body_len, frame_of}
+use Rattle.journal_frames.specs.Frames.{body_len, frame_of}
 use Rattle.journal_frames.proofs.Frames.{FrameAt, unknown, cut, whole, frame_at}
 use Rattle.journal_records.specs.Little.{byte_at}
 use Rattle.journal_records.specs.Kinds.{value_kind}
 use Rattle.lictor_core.specs.FirstThat.{first_that, refuse◌when◌}
 use Rattle.journal_refusals.specs.declared.Seen.{Seen}
 use Rattle.journal_refusals.specs.declared.Refusal.TheVariants.{UnknownKind, CutBody, BadCode, ListFull}
-use Rattle.journal_refusals.specs.declared.Judged.TheVariants.{Accepted, Refused}
 use Rattle.journal_refusals.specs.Causes.{capacities, count_of, unknown_kind, body_cut, code_not_listed, list_full}
-use Rattle.journal_refusals.specs.Table.{Row, first_row, framing_rows, order_rows, content_rows, whole_rows, refusal_table, judged_of, whole_of, framed_as}
+use Rattle.journal_refusals.specs.Table.{Accepted, Refused, Row, first_row, framing_rows, order_rows, content_rows, whole_rows, refusal_table, judged_of, whole_of, framed_as}
 use Rattle.journal_refusals.proofs.Exactly.{cause_of, no_cause}
 
 module _ (kinds : List ℕ) (seen : Seen) (k : ℕ) (u : List ℕ) where

@@ -3,31 +3,14 @@ use mathlib.Core.Bool.{Bool, true, false, cond, not, ◌||◌}
 use mathlib.Core.List.{List}
 use mathlib.Core.Path.{◌≡◌, refl}
 use Prim.Native.Nat.{ℕ}
-use lib.Ieee.{Float, nan, inf, binary64, of_bits, lt}
-use lib.Ieee.Scale.{finite}
+use lib.Ieee.{nan, inf, binary64, of_bits, lt}
 use Rattle.lictor_core.specs.FirstThat.{first_that}
-use Rattle.lictor_core.specs.Initial.{zero_float}
 use Rattle.journal_records.specs.Little.{float_at}
 use Rattle.journal_records.specs.Kinds.{width_kind}
 use Rattle.journal_refusals.specs.declared.Seen.{Seen}
-use Rattle.journal_refusals.specs.declared.Judged.TheVariants.{Accepted, Refused}
 use Rattle.journal_refusals.specs.declared.Refusal.TheVariants.{BeforeSettings, Again, BadFloat}
 use Rattle.journal_refusals.specs.Causes.{before_settings, again, code_not_listed, size_outside, bad_width, float_outside, box_crossed, list_full, not_ready}
-use Rattle.journal_refusals.specs.Table.{order_rows, content_rows, whole_rows, whole_of}
-
--- what the literal of the code is
-zero_is : of_bits binary64 0 ≡ zero_float
-unfolding of_bits
-zero_is = refl
-
--- a number is refused where it is below zero
-pub finite_width : (w : Float) → finite w ≡ true → lt w (of_bits binary64 0) ≡ bad_width w
-unfolding bad_width
-finite_width w e = rw (e, zero_is) refl
-
-pub infinite_width : (w : Float) → finite w ≡ false → true ≡ bad_width w
-unfolding bad_width
-infinite_width w e = rw e refl
+use Rattle.journal_refusals.specs.Table.{Accepted, Refused, order_rows, content_rows, whole_rows, whole_of}
 
 -- both zeros are accepted, and neither a NaN nor an infinity is
 pub zero_passes : bad_width (of_bits binary64 0) ≡ false

@@ -1,14 +1,14 @@
 -- The refusal table, in the order of 01-scope.md, Journal; the first row that applies decides.
-use Rattle.std.specs.Prelude.{Bool, List, [], ◌∷◌, ◌++◌, ℕ, take}
+use Rattle.std.specs.Prelude.{Bool, List, [], ◌∷◌, ◌++◌, ℕ, take, Result, Ok, Err}
 use Rattle.lictor_core.specs.FirstThat as First
 use Rattle.lictor_core.specs.FirstThat.{refuse◌when◌, first_that}
 use Rattle.journal_frames.specs.declared.Frame.{Frame}
 use Rattle.journal_frames.specs.declared.Frame.TheVariants.{Waits, Unknown, Whole}
+use Rattle.lictor_settings.specs.declared.SettingsFault.{SettingsFault}
+use Rattle.lictor_settings.specs.declared.SettingsFault.TheVariants as S
 use Rattle.journal_refusals.specs.declared.Seen.{Seen}
 use Rattle.journal_refusals.specs.declared.Refusal.{Refusal}
 use Rattle.journal_refusals.specs.declared.Refusal.TheVariants.{UnknownKind, CutBody, BeforeSettings, Again, BadCode, BadSize, BadFloat, BoxCrossed, ListFull, NotReady}
-use Rattle.journal_refusals.specs.declared.Judged.{Judged}
-use Rattle.journal_refusals.specs.declared.Judged.TheVariants.{Accepted, Refused}
 use Rattle.journal_refusals.specs.Causes.{unknown_kind, body_cut, before_settings, again, code_not_listed, size_outside, float_outside, box_crossed, list_full, not_ready}
 
 -- the paper's number of each refusal
@@ -27,6 +27,23 @@ number_of NotReady = 10
 -- they go from 1 to this
 abbrev pub last_number : ℕ
 last_number = 10
+
+-- of settings that their check refuses
+abbrev pub refusal_for : SettingsFault → Refusal
+refusal_for S.BadCode = BadCode
+refusal_for S.BadSize = BadSize
+refusal_for S.NotFinite = BadFloat
+refusal_for S.BoxCrossed = BoxCrossed
+
+-- what becomes of a record: it is accepted, or refused for a reason
+abbrev pub Judged : Type 0
+Judged = Result (Unit {0}) Refusal
+
+abbrev pub Accepted : Judged
+Accepted = Ok tt
+
+abbrev pub Refused : Refusal → Judged
+Refused r = Err r
 
 -- a row: a cause goes by what has been seen, the kind, and the body as far as it came
 abbrev pub Row : Type 0

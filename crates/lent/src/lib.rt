@@ -13,7 +13,8 @@ pub fn restored<S: Copy, F: FnOnce(S) -> S>(rt: &mut S, core: F)
     *rt = core(*rt);
 }
 
-// What a test gives: a number, and the answer of a call that it refuses.
+// What a test gives: a number, and the answer of a call that it refuses. `IsRefused` and `IsStored`
+// (specs/Lent) name both fields, so it stays a struct.
 #[derive(Clone, Copy)]
 pub struct Checked<Z> {
     pub number: u8,

@@ -1,32 +1,32 @@
 -- Laws of `row_to`: how a loop makes it place by place, and what is at each place of it.
-use Rattle.std.proofs.Common.{◌≡◌, ℕ, zero, suc, ◌+◌, ◌<◌, ◌≤◌, min, List, length, get_or, set, refl, ap, ◌∙◌, add-one, arith, length-set, get_or-set_other, get_or-set_same}
+use Rattle.std.proofs.Common.{◌≡◌, ℕ, zero, suc, ◌+◌, ◌<◌, ◌≤◌, min, List, length, get_or, set, refl, sym, ap, subst, ◌∙◌, arith, length-set, get_or-set_other, get_or-set_same}
 use native.Mathlib.Decide.{ℕ_discrete}
 use lib.Ieee.{Float}
-use Rattle.lictor_core.specs.Rows.{row_to}
-
-row_more : (f : ℕ → Float) (h : List Float) (k : ℕ) → set (row_to f h k) k (f k) ≡ row_to f h (k + 1)
-unfolding row_to
-row_more f h k = rw add-one
+use Rattle.lictor_core.specs.Rows.{row_to, RowBy}
 
 -- A loop that goes over all places and gives those below n: `g` is the row before a round, `r`
 -- after it.
-pub row_start : (f : ℕ → Float) (h : List Float) (n : ℕ) → h ≡ row_to f h (min 0 n)
-unfolding row_to
-row_start f h n = let a : 0 ≡ min 0 n = omega arith in ap (row_to f h) a
+pub by_start : (P : ℕ → Float → Type 0) (h : List Float) (n : ℕ) → RowBy P h (min 0 n) h
+by_start P h n = let a : 0 ≡ min 0 n = omega arith in subst (λ k. RowBy P h k h) a refl
 
--- place k is given
-pub row_took : (f : ℕ → Float) (h : List Float) {g r : List Float} {n k : ℕ} {v : Float} → g ≡ row_to f h (min k n) → k < n → v ≡ f k → r ≡ set g k v → r ≡ row_to f h (min (k + 1) n)
-row_took f h {g} {r} {n} {k} {v} p l q e =
+pub by_took : (P : ℕ → Float → Type 0) (h g : List Float) {r : List Float} {n k : ℕ} {v : Float} → RowBy P h (min k n) g → k < n → P k v → r ≡ set g k v → RowBy P h (min (k + 1) n) r
+by_took P h g {r} {n} {k} {v} p l q e =
     let a : min k n ≡ k = omega arith in
-    let b : k + 1 ≡ min (k + 1) n = omega arith in
-    e ∙ ap (set g k) q ∙ ap (λ x. set x k (f k)) (p ∙ ap (row_to f h) a) ∙ row_more f h k ∙ ap (row_to f h) b
+    let b : suc k ≡ min (k + 1) n = omega arith in
+    subst (λ j. RowBy P h j r) b (g, v, subst (λ j. RowBy P h j g) a p, q, e)
 
--- place k is left
-pub row_left : (f : ℕ → Float) (h : List Float) {g r : List Float} {n k : ℕ} → g ≡ row_to f h (min k n) → n ≤ k → r ≡ g → r ≡ row_to f h (min (k + 1) n)
-row_left f h {g} {r} {n} {k} p l e = let a : min k n ≡ min (k + 1) n = omega arith in e ∙ p ∙ ap (row_to f h) a
+pub by_left : (P : ℕ → Float → Type 0) (h g : List Float) {r : List Float} {n k : ℕ} → RowBy P h (min k n) g → n ≤ k → r ≡ g → RowBy P h (min (k + 1) n) r
+by_left P h g {r} {n} {k} p l e = let a : min k n ≡ min (k + 1) n = omega arith in subst (λ j. RowBy P h j r) a (subst (λ x. RowBy P h (min k n) x) (sym e) p)
 
-pub row_done : (f : ℕ → Float) (h : List Float) {g : List Float} {n k : ℕ} → g ≡ row_to f h (min k n) → n ≤ k → g ≡ row_to f h n
-row_done f h {g} {n} {k} p l = let a : min k n ≡ n = omega arith in p ∙ ap (row_to f h) a
+pub by_done : (P : ℕ → Float → Type 0) (h g : List Float) {n k : ℕ} → RowBy P h (min k n) g → n ≤ k → RowBy P h n g
+by_done P h g {n} {k} p l = let a : min k n ≡ n = omega arith in subst (λ j. RowBy P h j g) a p
+
+-- a row by a function that gives f i at each place i
+pub row_is : (f : ℕ → Float) (P : ℕ → Float → Type 0) (h r : List Float) (n : ℕ) → RowBy P h n r → ((i : ℕ) (y : Float) → i < n → P i y → y ≡ f i) → r ≡ row_to f h n
+unfolding row_to
+row_is f P h r zero e same = e
+row_is f P h r (suc k) (g, y, b, q, e) same =
+    e ∙ ap (λ x. set x k y) (row_is f P h g k b (λ i v l. same i v (omega arith))) ∙ ap (set (row_to f h k) k) (same k y (omega arith) q)
 
 pub row_length : (f : ℕ → Float) (h : List Float) (n : ℕ) → length (row_to f h n) ≡ length h
 unfolding row_to

@@ -3,7 +3,8 @@
 -- For codes that come in, the case of each number too, which undoes the first (proofs/Codes). A
 -- number that is not listed is refused before: in settings by their check, in an acknowledgement by
 -- the journal's refusal table or, of a host's call, as none. Its case here is the last.
-use Rattle.std.specs.Prelude.{ℕ, Bool, cond, ◌||◌, ◌==◌, nat_le}
+use Rattle.std.specs.Prelude.{ℕ, Bool, cond, ◌||◌, ◌==◌, nat_le, nat_lt, Result, Ok, Err}
+use Rattle.lictor_core.specs.declared.code.Unlisted.{Unlisted}
 use Rattle.lictor_core.specs.declared.state.FuseState.{FuseState}
 use Rattle.lictor_core.specs.declared.state.FuseState.TheVariants as S
 use Rattle.lictor_core.specs.declared.state.FuseMode.{FuseMode}
@@ -131,6 +132,10 @@ decision_code Retune = 2
 
 unfoldable pub decision_of : ℕ → AckDecision
 decision_of n = cond (n == decision_code Resume) Resume (cond (n == decision_code Abort) Abort Retune)
+
+-- what a number says of an enum of so many cases: its case, or that it is the code of none
+abbrev pub listed : {A : Type 0} → ℕ → (ℕ → A) → ℕ → Result A Unlisted
+listed cases of n = cond (nat_lt n cases) (Ok (of n)) (Err (record { 0 = n }))
 
 -- how many cases there are of each that comes in by its number
 abbrev pub modes : ℕ

@@ -1,12 +1,10 @@
 -- The initial values: an empty tally, the run state of `FuseRt::new`, and what `reset` leaves,
 -- every field as fuse.rs and tally.rs have it, but that a reset keeps the stored nonces
 -- (02-change-requests.md, Ask 6); `stop_actions`, which they do not have, is Ask 8's.
-use Rattle.std.specs.Prelude.{ℕ, true, false, List, replicate, pos, Float}
+use Rattle.std.specs.Prelude.{ℕ, true, false, List, replicate, pos, Float, None}
 use Rattle.std.specs.Float.{fin, inf}
 use Rattle.lictor_core.specs.declared.state.FuseState.{FuseState}
 use Rattle.lictor_core.specs.declared.state.FuseState.TheVariants.{Idle, Armed}
-use Rattle.lictor_core.specs.declared.tally.Mark.TheVariants.{Never}
-use Rattle.lictor_core.specs.declared.tally.ReasonMark.TheVariants.{NoReason}
 use Rattle.lictor_core.specs.declared.tally.Tally.{Tally}
 use Rattle.lictor_core.specs.declared.fuse.Control.{Control}
 use Rattle.lictor_core.specs.declared.fuse.Motion.{Motion}
@@ -47,10 +45,10 @@ empty_tally = record {
   escalations = 0;
   trips_by_bit = replicate trip_bits 0;
   fired_by_feat = replicate features 0;
-  first_trip_tick = Never;
-  first_trip_reason = NoReason;
-  first_stop_tick = Never;
-  handoff_tick = Never;
+  first_trip_tick = None;
+  first_trip_reason = None;
+  first_stop_tick = None;
+  handoff_tick = None;
   violations_reached_env = 0;
   max_s = inf true;
   max_z = replicate features (inf true);

@@ -1,7 +1,8 @@
 // Sizes, action kinds and a chunk's head (chunk.rs).
 ghost use Rattle.std.specs.Prelude.{◌≡◌};
-ghost use Rattle.lictor_core.specs.Codes.{kind_of};
+ghost use Rattle.lictor_core.specs.Codes.{kind_of, kinds, listed};
 
+use crate::code::Unlisted;
 use crate::state::Time;
 
 // Most components of an action.
@@ -15,7 +16,7 @@ pub const MAX_AUX: usize = 8;
 // Most external values.
 pub const MAX_EXT: usize = 4;
 
-#[derive(Clone, Copy)]
+#[derive(Clone, Copy, Debug, PartialEq, Eq)]
 pub enum ActionKind {
     EePosition,
     EeDelta,
@@ -24,20 +25,8 @@ pub enum ActionKind {
     Other,
 }
 
-// The codes of the kinds, in the order of the source.
-pub const EE_POSITION: u8 = 0;
-
-const EE_DELTA: u8 = 1;
-
-const JOINT_POSITION: u8 = 2;
-
-const JOINT_VELOCITY: u8 = 3;
-
-// How many action kinds there are.
-pub const ACTION_KINDS: u8 = 5;
-
 // What a delivered chunk says of itself. Its values come beside it, as a slice.
-#[derive(Clone, Copy)]
+#[derive(Clone, Copy, Debug, PartialEq, Eq)]
 pub struct ChunkHead {
     pub seq: u32,
     pub t_emit: Time,
@@ -46,28 +35,28 @@ pub struct ChunkHead {
     pub exec_steps: u16,
 }
 
-// The Rust's Option<ChunkView>, without the values.
-#[derive(Clone, Copy)]
-pub enum MaybeChunk {
-    NoChunk,
-    Delivered(ChunkHead),
+#[tactic(auto, unfolding(crate::specs::Codes::kind_of))]
+impl TryFrom<u8> for ActionKind {
+    type Error = Unlisted;
+
+    ghost try_from_gives = { λ n r. r ≡ listed kinds kind_of n };
+
+    fn try_from(code: u8) -> Result<Self, Unlisted> {
+        match code {
+            0 => Ok(ActionKind::EePosition),
+            1 => Ok(ActionKind::EeDelta),
+            2 => Ok(ActionKind::JointPosition),
+            3 => Ok(ActionKind::JointVelocity),
+            4 => Ok(ActionKind::Other),
+            _ => Err(Unlisted(code)),
+        }
+    }
 }
 
 // The kind of a code; the check of the settings refuses a code that is not listed.
+#[tactic(auto, unfolding(crate::specs::Codes::kind_of))]
 pub fn kind_of(n: u8) -> ActionKind
     ensures { result ≡ kind_of n }
 {
-    if n == EE_POSITION {
-        return ActionKind::EePosition;
-    }
-    if n == EE_DELTA {
-        return ActionKind::EeDelta;
-    }
-    if n == JOINT_POSITION {
-        return ActionKind::JointPosition;
-    }
-    if n == JOINT_VELOCITY {
-        return ActionKind::JointVelocity;
-    }
-    ActionKind::Other
+    ActionKind::try_from(n).unwrap_or(ActionKind::Other)
 }

@@ -1,90 +1,71 @@
 // The settings of a fuse, as a journal or a host hands them over, and the configuration that the
 // core works on (envelope.rs).
 ghost use Rattle.std.specs.Prelude.{◌≡◌};
-ghost use Rattle.lictor_core.specs.Codes.{clamp_code, rearm_code, is_project, is_auto, clamp_mode_of, rearm_of};
+ghost use Rattle.lictor_core.specs.Codes.{clamp_mode_of, clamp_modes, listed, rearm_of, rearm_policies};
 
 use crate::chunk::{ActionKind, MAX_POS};
+use crate::code::Unlisted;
 use crate::state::FuseMode;
 
 // Operator slots.
 pub const MAX_OPERATORS: usize = 8;
 
-#[derive(Clone, Copy)]
+#[derive(Clone, Copy, Debug, PartialEq, Eq)]
 pub enum ClampMode {
     Off,
     Project,
 }
 
-#[derive(Clone, Copy)]
+#[derive(Clone, Copy, Debug, PartialEq, Eq)]
 pub enum RearmPolicy {
     Auto,
     AckOnly,
 }
 
-const OFF: u8 = 0;
+#[tactic(auto, unfolding(crate::specs::Codes::clamp_mode_of))]
+impl TryFrom<u8> for ClampMode {
+    type Error = Unlisted;
 
-pub const PROJECT: u8 = 1;
+    ghost try_from_gives = { λ n r. r ≡ listed clamp_modes clamp_mode_of n };
 
-// How many clamp modes there are.
-pub const CLAMP_MODES: u8 = 2;
-
-const AUTO: u8 = 0;
-
-pub const ACK_ONLY: u8 = 1;
-
-// How many rearm policies there are.
-pub const REARM_POLICIES: u8 = 2;
-
-fn clamp_code(c: ClampMode) -> u8
-    ensures { result ≡ clamp_code c }
-{
-    match c {
-        ClampMode::Off => OFF,
-        ClampMode::Project => PROJECT,
+    fn try_from(code: u8) -> Result<Self, Unlisted> {
+        match code {
+            0 => Ok(ClampMode::Off),
+            1 => Ok(ClampMode::Project),
+            _ => Err(Unlisted(code)),
+        }
     }
 }
 
-fn rearm_code(p: RearmPolicy) -> u8
-    ensures { result ≡ rearm_code p }
-{
-    match p {
-        RearmPolicy::Auto => AUTO,
-        RearmPolicy::AckOnly => ACK_ONLY,
+#[tactic(auto, unfolding(crate::specs::Codes::rearm_of))]
+impl TryFrom<u8> for RearmPolicy {
+    type Error = Unlisted;
+
+    ghost try_from_gives = { λ n r. r ≡ listed rearm_policies rearm_of n };
+
+    fn try_from(code: u8) -> Result<Self, Unlisted> {
+        match code {
+            0 => Ok(RearmPolicy::Auto),
+            1 => Ok(RearmPolicy::AckOnly),
+            _ => Err(Unlisted(code)),
+        }
     }
-}
-
-pub fn is_project(c: ClampMode) -> bool
-    ensures { result ≡ is_project c }
-{
-    clamp_code(c) == PROJECT
-}
-
-pub fn is_auto(p: RearmPolicy) -> bool
-    ensures { result ≡ is_auto p }
-{
-    rearm_code(p) == AUTO
 }
 
 // The clamp mode of a code; the check of the settings refuses a code that is not listed.
+#[tactic(auto, unfolding(crate::specs::Codes::clamp_mode_of))]
 pub fn clamp_mode_of(n: u8) -> ClampMode
     ensures { result ≡ clamp_mode_of n }
 {
-    if n == OFF {
-        ClampMode::Off
-    } else {
-        ClampMode::Project
-    }
+    ClampMode::try_from(n).unwrap_or(ClampMode::Project)
 }
 
 // The rearm policy of a code, likewise.
+#[tactic(auto, unfolding(crate::specs::Codes::rearm_of))]
 pub fn rearm_of(n: u8) -> RearmPolicy
     ensures { result ≡ rearm_of n }
 {
-    if n == AUTO {
-        RearmPolicy::Auto
-    } else {
-        RearmPolicy::AckOnly
-    }
+    RearmPolicy::try_from(n).unwrap_or(RearmPolicy::AckOnly)
 }
 
 // The limits of the state machine. (The Rust keeps the rearm policy here too; it is beside, since

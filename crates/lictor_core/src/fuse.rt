@@ -1,7 +1,7 @@
 // The run state of the fuse and the numbers of a tick (fuse.rs). Field names are the Rust's; the
 // fields are in groups, so that a function takes the group it works on.
-use crate::ack::MaybeAck;
-use crate::chunk::{MAX_D, MAX_POS, MaybeChunk};
+use crate::ack::VerifiedAck;
+use crate::chunk::{ChunkHead, MAX_D, MAX_POS};
 use crate::envelope::MAX_OPERATORS;
 use crate::state::{FuseState, Time};
 use crate::tally::Tally;
@@ -65,7 +65,17 @@ pub struct FuseRt {
     pub tally: Tally,
 }
 
-// The numbers of a tick's input. Its five lists come beside it, as slices.
+// The five lists of a tick's input. Each call lends them anew.
+#[derive(Clone, Copy)]
+pub struct Lists<'a> {
+    pub pos: &'a [f64],
+    pub vel: &'a [f64],
+    pub aux: &'a [f64],
+    pub ext: &'a [f64],
+    pub chunk: &'a [f64],
+}
+
+// The numbers of a tick's input. Its lists come beside it.
 #[derive(Clone, Copy)]
 pub struct TickInput {
     pub t: Time,
@@ -74,6 +84,6 @@ pub struct TickInput {
     pub schema_fault: bool,
     // whether the velocity slice is supplied
     pub has_vel: bool,
-    pub chunk: MaybeChunk,
-    pub ack: MaybeAck,
+    pub chunk: Option<ChunkHead>,
+    pub ack: Option<VerifiedAck>,
 }

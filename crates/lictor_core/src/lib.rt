@@ -5,12 +5,12 @@
 
 pub mod ack; // ack.rs
 pub mod chunk; // chunk.rs: sizes, action kinds, a chunk's head
+pub mod code; // a number that is the code of no case
 pub mod envelope; // envelope.rs: the settings, the configuration
 pub mod fuse; // fuse.rs: the run state and a tick's numbers
-pub mod num; // saturating and wrapping counts
 pub mod outcome; // what the detectors found
 pub mod reason; // reason.rs
-pub mod rows; // rows of eight components: zeros, and copy_row of fuse.rs
+pub mod rows; // copy_row of fuse.rs
 pub mod scores; // scores.rs
 pub mod state; // state.rs
 pub mod tally; // tally.rs

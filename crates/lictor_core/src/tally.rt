@@ -4,20 +4,6 @@ use crate::scores::NFEAT;
 use crate::state::{FuseState, Time};
 use crate::verdict::TRIP_BITS;
 
-// The Rust's Option<u32> of a tick: when something first happened.
-#[derive(Clone, Copy)]
-pub enum Mark {
-    Never,
-    At(Time),
-}
-
-// The Rust's Option<ReasonCode>.
-#[derive(Clone, Copy)]
-pub enum ReasonMark {
-    NoReason,
-    For(ReasonCode),
-}
-
 #[derive(Clone, Copy)]
 pub struct Tally {
     pub ticks: u32,
@@ -38,10 +24,10 @@ pub struct Tally {
     pub escalations: u32,
     pub trips_by_bit: [u32; TRIP_BITS],
     pub fired_by_feat: [u32; NFEAT],
-    pub first_trip_tick: Mark,
-    pub first_trip_reason: ReasonMark,
-    pub first_stop_tick: Mark,
-    pub handoff_tick: Mark,
+    pub first_trip_tick: Option<Time>,
+    pub first_trip_reason: Option<ReasonCode>,
+    pub first_stop_tick: Option<Time>,
+    pub handoff_tick: Option<Time>,
     pub violations_reached_env: u32,
     pub max_s: f64,
     pub max_z: [f64; NFEAT],

@@ -1,6 +1,6 @@
 // The verdict of a tick and the trip bits (verdict.rs).
 ghost use Rattle.std.specs.Prelude.{◌≡◌};
-ghost use Rattle.lictor_core.specs.Codes.{status_code, source_code, is_policy, is_stop_action};
+ghost use Rattle.lictor_core.specs.Codes.{is_stop_action};
 ghost use Rattle.lictor_core.specs.Masks.{any_of};
 
 use crate::chunk::MAX_D;
@@ -8,7 +8,7 @@ use crate::reason::ReasonCode;
 use crate::scores::Scores;
 use crate::state::{FuseState, Time};
 
-#[derive(Clone, Copy)]
+#[derive(Clone, Copy, Debug, PartialEq, Eq)]
 pub enum Status {
     Nominal,
     Watching,
@@ -62,19 +62,12 @@ pub const TIER0_HARD: u32 = BRAKE | NONFINITE | SCHEMA | WATCHDOG;
 // The bits that lead to Fault from any state (fsm.rs).
 pub const FAULT_BITS: u32 = NONFINITE | SCHEMA | WATCHDOG;
 
-#[derive(Clone, Copy)]
+#[derive(Clone, Copy, Debug, PartialEq, Eq)]
 pub enum ActionSource {
     Policy,
     Clamped,
     Brake,
     Hold,
-}
-
-// The verdict's Option<u32>: the number of the handoff that a tick begins.
-#[derive(Clone, Copy)]
-pub enum MaybeHandoff {
-    NoHandoff,
-    Begun(u32),
 }
 
 #[derive(Clone, Copy)]
@@ -96,52 +89,18 @@ pub struct SafetyVerdict {
     pub window_hits: u8,
     pub brake_margin: f64,
     pub reason: ReasonCode,
-    pub handoff_seq: MaybeHandoff,
+    // the number of the handoff that the tick begins
+    pub handoff_seq: Option<u32>,
     pub ack_consumed: bool,
     pub violation_reached_env: bool,
 }
 
 // Whether `trips` holds a bit of `mask`.
+#[tactic(auto, unfolding(crate::specs::Masks::any_of))]
 pub fn any(trips: u32, mask: u32) -> bool
     ensures { result ≡ any_of trips mask }
 {
     trips & mask != 0
-}
-
-// The status's number, from 0 in the order of the source.
-pub fn status_code(s: Status) -> u8
-    ensures { result ≡ status_code s }
-{
-    match s {
-        Status::Nominal => 0,
-        Status::Watching => 1,
-        Status::Clamped => 2,
-        Status::Braking => 3,
-        Status::Held => 4,
-        Status::Escalated => 5,
-        Status::Fault => 6,
-        Status::Terminated => 7,
-    }
-}
-
-const POLICY: u8 = 0;
-
-// The action source's number, from 0 in the order of the source.
-pub fn source_code(s: ActionSource) -> u8
-    ensures { result ≡ source_code s }
-{
-    match s {
-        ActionSource::Policy => POLICY,
-        ActionSource::Clamped => 1,
-        ActionSource::Brake => 2,
-        ActionSource::Hold => 3,
-    }
-}
-
-pub fn is_policy(s: ActionSource) -> bool
-    ensures { result ≡ is_policy s }
-{
-    source_code(s) == POLICY
 }
 
 // Whether the action is the fuse's own, which stops the arm: the others are rows of the outcome.
@@ -149,8 +108,7 @@ pub fn is_stop_action(s: ActionSource) -> bool
     ensures { result ≡ is_stop_action s }
 {
     match s {
-        ActionSource::Policy => false,
-        ActionSource::Clamped => false,
+        ActionSource::Policy | ActionSource::Clamped => false,
         ActionSource::Brake => true,
         ActionSource::Hold => true,
     }

@@ -1,4 +1,2 @@
 -- Laws that belong to no one function.
-pub mod Literals
-pub mod Several
 pub mod Factor

@@ -6,6 +6,7 @@ use lictor_core::envelope::Calibration;
 use lictor_core::scores::Scores;
 
 // The score is above the threshold; never with a NaN.
+#[tactic(auto, unfolding(crate::specs::Window::trip_of))]
 pub fn trip(cal: Calibration, sc: Scores) -> bool
     ensures { result ≡ trip_of cal sc }
 {

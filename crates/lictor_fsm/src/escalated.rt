@@ -4,71 +4,64 @@ ghost use Rattle.std.specs.Prelude.{◌≡◌};
 ghost use Rattle.lictor_table.specs.Rows.{timeout_row, wait_row, unanswered_of, escalated_of};
 
 use crate::acks::{resume_row, terminate_row};
-use lictor_core::ack::{AckDecision, MaybeAck};
+use lictor_core::ack::{AckDecision, VerifiedAck};
 use lictor_core::fuse::Control;
-use lictor_core::num::sat_u32;
 use lictor_core::reason::ReasonCode;
 use lictor_core::state::FuseState;
 use lictor_core::verdict;
 use lictor_table::Turn;
 
 // Rows 4 to 8; `limit` is the handoff limit E.
-pub fn escalated(limit: u32, rt: Control, ack: MaybeAck) -> Turn
+#[tactic(auto, unfolding(lictor_table::specs::Rows::escalated_of))]
+pub fn escalated(limit: u32, rt: Control, ack: Option<VerifiedAck>) -> Turn
     ensures { result ≡ escalated_of limit rt ack }
 {
     match ack {
-        MaybeAck::Given(given) => {
-            let decision = given.decision;
-            match decision {
-                AckDecision::Abort => terminate_row(
-                    rt,
-                    given,
-                    verdict::OPERATOR_ABORT,
-                    ReasonCode::TerminatedAbort,
-                ),
-                AckDecision::Retune => terminate_row(rt, given, 0, ReasonCode::TerminatedRetune),
-                AckDecision::Resume => resume_row(rt, given),
-            }
-        }
-        MaybeAck::NoAck => unanswered(limit, rt),
+        Some(given) => match given.decision {
+            AckDecision::Abort => terminate_row(
+                rt,
+                given,
+                verdict::OPERATOR_ABORT,
+                ReasonCode::TerminatedAbort,
+            ),
+            AckDecision::Retune => terminate_row(rt, given, 0, ReasonCode::TerminatedRetune),
+            AckDecision::Resume => resume_row(rt, given),
+        },
+        None => unanswered(limit, rt),
     }
 }
 
 // Rows 7 and 8: nothing was accepted.
+#[tactic(auto, unfolding(lictor_table::specs::Rows::unanswered_of))]
 fn unanswered(limit: u32, rt: Control) -> Turn
     ensures { result ≡ unanswered_of limit rt }
 {
-    if limit <= rt.escalated_ticks {
-        return timeout_row(rt);
+    if rt.escalated_ticks >= limit {
+        timeout_row(rt)
+    } else {
+        wait_row(rt)
     }
-    wait_row(rt)
 }
 
 // Row 7.
-fn timeout_row(rt: Control) -> Turn
+#[tactic(auto, unfolding(lictor_table::specs::Rows::timeout_row))]
+fn timeout_row(mut rt: Control) -> Turn
     ensures { result ≡ timeout_row rt }
 {
-    let mut after = rt;
-    after.handoff_pending = false;
-    Turn {
-        rt: after,
-        state: FuseState::Terminated,
-        extra: verdict::HANDOFF_TIMEOUT,
-        reason: ReasonCode::TerminatedTimeout,
-    }
+    rt.handoff_pending = false;
+    Turn::to(
+        FuseState::Terminated,
+        verdict::HANDOFF_TIMEOUT,
+        ReasonCode::TerminatedTimeout,
+        rt,
+    )
 }
 
 // Row 8.
-fn wait_row(rt: Control) -> Turn
+#[tactic(auto, unfolding(lictor_table::specs::Rows::wait_row))]
+fn wait_row(mut rt: Control) -> Turn
     ensures { result ≡ wait_row rt }
 {
-    let mut after = rt;
-    let n = sat_u32(rt.escalated_ticks);
-    after.escalated_ticks = n;
-    Turn {
-        rt: after,
-        state: FuseState::Escalated,
-        extra: 0,
-        reason: ReasonCode::HeldStandstill,
-    }
+    rt.escalated_ticks = rt.escalated_ticks.saturating_add(1);
+    Turn::to(FuseState::Escalated, 0, ReasonCode::HeldStandstill, rt)
 }

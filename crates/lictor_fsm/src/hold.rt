@@ -1,10 +1,11 @@
 // The hold (fsm.rs, `latch_hold`): the position of a stop, clamped to the box.
-ghost use Rattle.std.specs.Prelude.{◌≡◌, ◌≤◌};
+ghost use Rattle.std.specs.Prelude.{◌≡◌, min};
 ghost use Rattle.lictor_core.specs.Sizes.{max_pos};
 ghost use Rattle.lictor_table.specs.Helpers.{latched_of};
 
 use fmath::clamp;
 use lictor_core::chunk::MAX_POS;
+use lictor_core::rows::first_by;
 
 // `hold` with its first n components those of the position, each clamped to its box. Its two callers
 // give it rows alone: a run state among its parameters would be written to memory on every tick
@@ -16,16 +17,9 @@ pub(crate) fn latched(
     hold: [f64; MAX_POS],
     n: usize,
 ) -> [f64; MAX_POS]
-    requires { n ≤ max_pos }
-    ensures { result ≡ latched_of pos lo hi hold n }
+    ensures { result ≡ latched_of pos lo hi hold (min n max_pos) }
 {
-    let mut out = hold;
-    let mut at: usize = 0;
-    while at < MAX_POS {
-        if at < n {
-            out[at] = clamp(pos[at], lo[at], hi[at]);
-        }
-        at += 1;
-    }
-    out
+    first_by(hold, n.min(MAX_POS), |at| {
+        clamp(pos[at], lo[at], hi[at])
+    })
 }

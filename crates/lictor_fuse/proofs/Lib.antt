@@ -1,2 +1,3 @@
 -- Laws that proofs of functions cite.
 mod One
+pub mod Accepted

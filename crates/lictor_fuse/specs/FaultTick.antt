@@ -1,10 +1,9 @@
 -- A fault tick (01-scope.md, One tick; fuse.rs, fault_tick): it takes t and, if it is fit,
 -- the position; nothing of the outcome, the acknowledgement, the chunk or the velocity.
-use Rattle.std.specs.Prelude.{Bool, true, false, cond, ◌&&◌, List, ℕ, eqb, length, Float}
+use Rattle.std.specs.Prelude.{Bool, true, false, cond, ◌&&◌, List, ℕ, eqb, length, Float, None}
 use Rattle.std.specs.Int.Bits.{bit_or}
 use Rattle.std.specs.Float.{nan}
 use Rattle.fmath.specs.Float.{all_finite}
-use Rattle.lictor_core.specs.declared.ack.MaybeAck.TheVariants.{NoAck}
 use Rattle.lictor_core.specs.declared.envelope.FuseConfig.{FuseConfig}
 use Rattle.lictor_core.specs.declared.fuse.Clock.{Clock}
 use Rattle.lictor_core.specs.declared.fuse.FuseRt.{FuseRt}
@@ -12,7 +11,6 @@ use Rattle.lictor_core.specs.declared.fuse.Motion.{Motion}
 use Rattle.lictor_core.specs.declared.fuse.TickInput.{TickInput}
 use Rattle.lictor_core.specs.declared.state.FuseState.{FuseState}
 use Rattle.lictor_core.specs.declared.verdict.ActionSource.TheVariants.{Hold}
-use Rattle.lictor_core.specs.declared.verdict.MaybeHandoff.TheVariants.{NoHandoff}
 use Rattle.lictor_core.specs.declared.verdict.SafetyVerdict.{SafetyVerdict}
 use Rattle.lictor_core.specs.Codes.{is_project}
 use Rattle.lictor_detect.specs.Brake.{hold_action}
@@ -60,7 +58,7 @@ fault_input cfg inp bits = record {
   stopped = false;
   chunk_boundary = delivered_of inp.chunk;
   chunk_ok = false;
-  ack = NoAck;
+  ack = None;
 }
 
 -- ---- the verdict
@@ -85,7 +83,7 @@ fault_verdict cfg seq from inp bits turn action = record {
   window_hits = hits_of turn.rt.window;
   brake_margin = nan;
   reason = turn.reason;
-  handoff_seq = NoHandoff;
+  handoff_seq = None;
   ack_consumed = false;
   violation_reached_env = false;
 }

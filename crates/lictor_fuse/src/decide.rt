@@ -10,8 +10,7 @@ ghost use Rattle.lictor_fuse.specs.OneWay.{asked_of, stepped_of, closing_of};
 use crate::clean_tick::{clean_asked, clean_closing};
 use crate::fault_tick::{fault_asked, fault_closing};
 use lictor_core::envelope::FuseConfig;
-use lictor_core::fuse::{Clock, Control, FuseRt, Motion, TickInput, Window};
-use lictor_core::num::sat_u32;
+use lictor_core::fuse::{Clock, Control, FuseRt, Lists, Motion, TickInput, Window};
 use lictor_core::outcome::Outcome;
 use lictor_core::tally::Tally;
 use lictor_core::verdict::SafetyVerdict;
@@ -49,6 +48,7 @@ pub struct Decided {
 // ---- the machine's turn
 
 // What a tick brings to the machine: a clean one where the guard found no bit.
+#[tactic(auto, unfolding(crate::specs::OneWay::asked_of))]
 fn ask(
     cfg: FuseConfig,
     before: Motion,
@@ -62,42 +62,40 @@ fn ask(
     ensures { result ≡ asked_of cfg before window inp out bits pos.now vel.now }
 {
     if bits == 0 {
-        return clean_asked(cfg, before, window, inp, out, pos, vel);
+        clean_asked(cfg, before, window, inp, out, pos, vel)
+    } else {
+        fault_asked(cfg, before, window, inp, bits, pos)
     }
-    fault_asked(cfg, before, window, inp, bits, pos)
 }
 
 // The machine starts from the window that has this tick's hit.
+#[tactic(auto, unfolding(crate::specs::CleanTick::ready_of))]
 fn ready(control: Control, found: Findings) -> Control
     ensures { result ≡ ready_of control found }
 {
-    let scored = found.scored;
-    let window = scored.window;
-    let mut start = control;
-    start.window = window;
-    start
+    Control {
+        window: found.scored.window,
+        ..control
+    }
 }
 
 // The machine's turn on what the tick brings.
+#[tactic(auto, unfolding(crate::specs::OneWay::stepped_of))]
 fn stepped(cfg: FuseConfig, control: Control, asked: Asked) -> Stepped
     ensures { result ≡ stepped_of cfg control asked }
 {
-    let motion = asked.motion;
-    let pos = motion.pos;
-    let findings = asked.findings;
-    let machine = asked.machine;
-    let start = ready(control, findings);
-    let turn = lictor_fsm::next(cfg, start, pos, machine);
+    let start = ready(control, asked.findings);
     Stepped {
-        motion,
-        findings,
-        turn,
+        motion: asked.motion,
+        findings: asked.findings,
+        turn: lictor_fsm::next(cfg, start, asked.motion.pos, asked.machine),
     }
 }
 
 // ---- the end of a tick
 
 // What a tick comes to: a clean one where the guard found no bit.
+#[tactic(auto, unfolding(crate::specs::OneWay::closing_of))]
 fn close(
     cfg: FuseConfig,
     rt: FuseRt,
@@ -109,32 +107,33 @@ fn close(
     ensures { result ≡ closing_of cfg rt inp out bits done }
 {
     if bits == 0 {
-        return clean_closing(cfg, rt, inp, out, done);
+        clean_closing(cfg, rt, inp, out, done)
+    } else {
+        fault_closing(cfg, rt, inp, bits, done.turn)
     }
-    let turn = done.turn;
-    fault_closing(cfg, rt, inp, bits, turn)
 }
 
 // The verdict is recorded, its action kept as the last command, and the tick counted.
+#[tactic(auto, unfolding(crate::specs::Closed::closed_of))]
 fn closed(control: Control, before: Motion, end: Closing) -> Decided
     ensures { result ≡ closed_of control before end.clock end.tally end.verdict end.events }
 {
-    let verdict = end.verdict;
-    let counted = end.tally;
-    let events = end.events;
-    let mut clock = end.clock;
-    let tally = lictor_tally::record(counted, verdict, events);
-    let action = verdict.action;
-    let mut motion = before;
-    motion.last_cmd = action;
-    clock.seq = sat_u32(clock.seq);
-    let rt = FuseRt {
-        control,
-        motion,
-        clock,
-        tally,
+    let last_cmd = end.verdict.action;
+    let motion = Motion { last_cmd, ..before };
+    let clock = Clock {
+        seq: end.clock.seq.saturating_add(1),
+        ..end.clock
     };
-    Decided { rt, verdict }
+    let tally = lictor_tally::record(end.tally, end.verdict, end.events);
+    Decided {
+        rt: FuseRt {
+            control,
+            motion,
+            clock,
+            tally,
+        },
+        verdict: end.verdict,
+    }
 }
 
 // ---- one tick
@@ -151,35 +150,19 @@ pub fn decide_by(
 ) -> Decided
     ensures { result ≡ decide_by cfg rt inp out bits pos.now vel.now }
 {
-    let control = rt.control;
-    let before = rt.motion;
-    let window = control.window;
-    let asked = ask(cfg, before, window, inp, out, bits, pos, vel);
-    let done = stepped(cfg, control, asked);
-    let motion = done.motion;
-    let turn = done.turn;
-    let after = turn.rt;
+    let asked = ask(cfg, rt.motion, rt.control.window, inp, out, bits, pos, vel);
+    let done = stepped(cfg, rt.control, asked);
     let end = close(cfg, rt, inp, out, bits, done);
-    closed(after, motion, end)
+    closed(done.turn.rt, done.motion, end)
 }
 
 // One tick under a configuration: the state goes in, and comes back with the verdict.
 // All NaNs are one value in this promise: which pattern a NaN has is left open,
 // and nothing else depends on it.
-pub fn decide(
-    cfg: FuseConfig,
-    rt: FuseRt,
-    inp: TickInput,
-    out: Outcome,
-    pos: &[f64],
-    vel: &[f64],
-    aux: &[f64],
-    ext: &[f64],
-    chunk: &[f64],
-) -> Decided
-    ensures { result ≡ decide_of cfg rt inp out pos.now vel.now aux.now ext.now chunk.now }
+#[tactic(auto, unfolding(crate::specs::Decide::decide_of))]
+pub fn decide(cfg: FuseConfig, rt: FuseRt, inp: TickInput, out: Outcome, lists: Lists) -> Decided
+    ensures { result ≡ decide_of cfg rt inp out lists.entry.pos.now lists.entry.vel.now lists.entry.aux.now lists.entry.ext.now lists.entry.chunk.now }
 {
-    let clock = rt.clock;
-    let bits = guard(cfg, clock, inp, pos, vel, aux, ext, chunk);
-    decide_by(cfg, rt, inp, out, bits, pos, vel)
+    let bits = guard(cfg, rt.clock, inp, lists);
+    decide_by(cfg, rt, inp, out, bits, lists.pos, lists.vel)
 }

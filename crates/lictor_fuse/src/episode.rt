@@ -8,13 +8,13 @@ use lictor_core::fuse::{Clock, Control, FuseRt, Motion, Window};
 use lictor_core::rows::no_row;
 use lictor_core::state::FuseState;
 
+#[tactic(auto, unfolding(lictor_core::specs::Initial::fresh_control))]
 fn fresh_control(state: FuseState, nonces: [u64; MAX_OPERATORS]) -> Control
     ensures { result ≡ fresh_control state nonces }
 {
     let hold = no_row();
-    let window = Window { bits: 0 };
     Control {
-        window,
+        window: Window { bits: 0 },
         state,
         hold,
         clean_run: 0,
@@ -32,6 +32,7 @@ fn fresh_control(state: FuseState, nonces: [u64; MAX_OPERATORS]) -> Control
     }
 }
 
+#[tactic(auto, unfolding(lictor_core::specs::Initial::fresh_motion))]
 fn fresh_motion() -> Motion
     ensures { result ≡ fresh_motion }
 {
@@ -45,6 +46,7 @@ fn fresh_motion() -> Motion
     }
 }
 
+#[tactic(auto, unfolding(lictor_core::specs::Initial::fresh_clock))]
 fn fresh_clock() -> Clock
     ensures { result ≡ fresh_clock }
 {
@@ -58,33 +60,30 @@ fn fresh_clock() -> Clock
 }
 
 // Everything zero, no chunk, in state s, with these nonces stored.
+#[tactic(auto, unfolding(lictor_core::specs::Initial::fresh_control, lictor_core::specs::Initial::fresh_motion, lictor_core::specs::Initial::fresh_clock, lictor_core::specs::Initial::empty_tally))]
 fn fresh(s: FuseState, nonces: [u64; MAX_OPERATORS]) -> FuseRt
     ensures { result ≡ record { control = fresh_control s nonces; motion = fresh_motion; clock = fresh_clock; tally = empty_tally } }
 {
-    let control = fresh_control(s, nonces);
-    let motion = fresh_motion();
-    let clock = fresh_clock();
-    let tally = lictor_tally::empty();
     FuseRt {
-        control,
-        motion,
-        clock,
-        tally,
+        control: fresh_control(s, nonces),
+        motion: fresh_motion(),
+        clock: fresh_clock(),
+        tally: lictor_tally::empty(),
     }
 }
 
 // No episode yet, and no nonce stored.
+#[tactic(auto, unfolding(lictor_core::specs::Initial::new_of, lictor_core::specs::Initial::no_nonces))]
 pub fn new() -> FuseRt
     ensures { result ≡ new_of }
 {
-    let nonces = [0; MAX_OPERATORS];
-    fresh(FuseState::Idle, nonces)
+    fresh(FuseState::Idle, [0; MAX_OPERATORS])
 }
 
 // Clears everything but the stored nonces, and arms the fuse.
+#[tactic(auto, unfolding(lictor_core::specs::Initial::reset_of))]
 pub fn reset(rt: FuseRt) -> FuseRt
     ensures { result ≡ reset_of rt }
 {
-    let nonces = rt.control.last_nonce;
-    fresh(FuseState::Armed, nonces)
+    fresh(FuseState::Armed, rt.control.last_nonce)
 }

@@ -1,20 +1,18 @@
 // A fault tick, in the order of fuse.rs, fault_tick: what it takes, what the machine is asked,
 // the verdict, the clock, and what the tick comes to. The machine's turn is in `decide`.
 ghost use Rattle.std.specs.Prelude.{◌≡◌};
-ghost use Rattle.lictor_fuse.specs.FaultTick.{is_fit, with_pos, fault_motion, fault_input, fault_verdict, fault_clock, no_events};
+ghost use Rattle.lictor_fuse.specs.FaultTick.{is_fit, with_pos, fault_motion, fault_input, fault_verdict, fault_clock};
 ghost use Rattle.lictor_fuse.specs.OneWay.{fault_findings, fault_asked, fault_closing};
 
 use crate::decide::{Asked, Closing};
-use lictor_core::ack::MaybeAck;
 use lictor_core::chunk::MAX_D;
-use lictor_core::envelope::{FuseConfig, is_project};
+use lictor_core::envelope::{ClampMode, FuseConfig};
 use lictor_core::fuse::{Clock, FuseRt, Motion, TickInput, Window};
 use lictor_core::rows::taken;
 use lictor_core::state::Time;
-use lictor_core::verdict::{ActionSource, MaybeHandoff, SafetyVerdict};
+use lictor_core::verdict::{ActionSource, SafetyVerdict};
 use lictor_detect::brake::hold_action;
 use lictor_detect::window::hits;
-use lictor_guard::delivery::delivered;
 use lictor_stages::act::status_of;
 use lictor_stages::findings::{Findings, Scored};
 use lictor_stages::verdict::{action_dim, disarmed_scores};
@@ -24,76 +22,72 @@ use lictor_tally::TickEvents;
 // ---- what it takes
 
 // Whether the position's length is right and each value is finite.
+#[tactic(auto, unfolding(crate::specs::FaultTick::is_fit))]
 fn is_fit(cfg: FuseConfig, pos: &[f64]) -> bool
     ensures { result ≡ is_fit cfg pos.now }
 {
-    if pos.len() == cfg.pos_dim {
-        return fmath::all_finite(pos);
-    }
-    false
+    pos.len() == cfg.pos_dim && fmath::all_finite(pos)
 }
 
+#[tactic(auto, unfolding(crate::specs::FaultTick::with_pos))]
 fn with_pos(cfg: FuseConfig, before: Motion, pos: &[f64]) -> Motion
     ensures { result ≡ with_pos cfg before pos.now }
 {
-    let old = before.pos;
-    let new = taken(pos, old, cfg.pos_dim);
     let mut motion = before;
-    motion.pos = new;
+    motion.pos = taken(pos, before.pos, cfg.pos_dim);
     motion
 }
 
 // The position if it is fit, and nothing else: the last finite one is what the hold latches onto.
+#[tactic(auto, unfolding(crate::specs::FaultTick::fault_motion))]
 fn fault_motion(cfg: FuseConfig, before: Motion, pos: &[f64]) -> Motion
     ensures { result ≡ fault_motion cfg before pos.now }
 {
     if is_fit(cfg, pos) {
-        return with_pos(cfg, before, pos);
+        with_pos(cfg, before, pos)
+    } else {
+        before
     }
-    before
 }
 
 // ---- what the machine is asked
 
 // A fault tick finds the guard's bits, and leaves the window as it is.
+#[tactic(auto, unfolding(crate::specs::OneWay::fault_findings))]
 fn fault_findings(bits: u32, window: Window) -> Findings
     ensures { result ≡ fault_findings bits window }
 {
-    let scored = Scored {
-        warn: false,
-        window,
-        hits: 0,
-        predictive: false,
-    };
     Findings {
         trips: bits,
-        scored,
+        scored: Scored {
+            warn: false,
+            window,
+            hits: 0,
+            predictive: false,
+        },
         stopped: false,
         chunk_ok: false,
     }
 }
 
 // The guard's bits, and no acknowledgement.
+#[tactic(auto, unfolding(crate::specs::FaultTick::fault_input, lictor_guard::specs::Delivery::delivered_of))]
 fn fault_input(cfg: FuseConfig, inp: TickInput, bits: u32) -> FsmInput
     ensures { result ≡ fault_input cfg inp bits }
 {
-    let ack = MaybeAck::NoAck;
-    let clamp = cfg.clamp;
-    let can = is_project(clamp);
-    let delivery = inp.chunk;
-    let boundary = delivered(delivery);
     FsmInput {
         trips: bits,
         predictive: false,
         warn: false,
-        soft_clampable: can,
+        soft_clampable: cfg.clamp == ClampMode::Project,
         stopped: false,
-        chunk_boundary: boundary,
+        chunk_boundary: inp.chunk.is_some(),
         chunk_ok: false,
-        ack,
+        ack: None,
     }
 }
 
+#[tactic(auto, unfolding(crate::specs::OneWay::fault_asked))]
 pub fn fault_asked(
     cfg: FuseConfig,
     before: Motion,
@@ -104,13 +98,10 @@ pub fn fault_asked(
 ) -> Asked
     ensures { result ≡ fault_asked cfg before window inp bits pos.now }
 {
-    let motion = fault_motion(cfg, before, pos);
-    let findings = fault_findings(bits, window);
-    let machine = fault_input(cfg, inp, bits);
     Asked {
-        motion,
-        findings,
-        machine,
+        motion: fault_motion(cfg, before, pos),
+        findings: fault_findings(bits, window),
+        machine: fault_input(cfg, inp, bits),
     }
 }
 
@@ -127,37 +118,27 @@ fn fault_verdict(
 ) -> SafetyVerdict
     ensures { result ≡ fault_verdict cfg rt.clock.seq rt.control.state inp bits turn action }
 {
-    let before = rt.control;
-    let from = before.state;
-    let state = turn.state;
-    let reason = turn.reason;
-    let after = turn.rt;
-    let window = after.window;
-    let calib = cfg.calib;
-    let status = status_of(state);
-    let dim = action_dim(cfg);
+    let window = turn.rt.window;
     let scores = disarmed_scores();
-    let count = hits(window);
-    let margin = fmath::nan();
     SafetyVerdict {
         seq: rt.clock.seq,
         t: inp.t,
-        status,
-        state,
-        prev_state: from,
+        status: status_of(turn.state),
+        state: turn.state,
+        prev_state: rt.control.state,
         trips: bits | turn.extra,
         action,
-        action_dim: dim,
+        action_dim: action_dim(cfg),
         action_src: ActionSource::Hold,
         substituted: true,
         clamped_dims: 0,
         scores,
-        tau: calib.tau,
+        tau: cfg.calib.tau,
         window: window.bits,
-        window_hits: count,
-        brake_margin: margin,
-        reason,
-        handoff_seq: MaybeHandoff::NoHandoff,
+        window_hits: hits(window),
+        brake_margin: fmath::nan(),
+        reason: turn.reason,
+        handoff_seq: None,
         ack_consumed: false,
         violation_reached_env: false,
     }
@@ -166,44 +147,28 @@ fn fault_verdict(
 // ---- the clock
 
 // t alone is taken: the chunk number and the tick's own count stay.
+#[tactic(auto, unfolding(crate::specs::FaultTick::fault_clock))]
 fn fault_clock(before: Clock, t: Time) -> Clock
     ensures { result ≡ fault_clock before t }
 {
-    let mut clock = before;
-    clock.last_t = t;
-    clock
+    Clock {
+        last_t: t,
+        ..before
+    }
 }
 
 // ---- what it comes to
 
-// TickEvents::default.
-fn no_events() -> TickEvents
-    ensures { result ≡ no_events }
-{
-    TickEvents {
-        entered_hold: false,
-        entered_escalated: false,
-        rearmed: false,
-        clamped: false,
-        live_z: 0,
-    }
-}
-
+#[tactic(auto, unfolding(crate::specs::OneWay::fault_closing, crate::specs::FaultTick::no_events))]
 pub fn fault_closing(cfg: FuseConfig, rt: FuseRt, inp: TickInput, bits: u32, turn: Turn) -> Closing
     ensures { result ≡ fault_closing cfg rt inp bits turn }
 {
-    let before = rt.clock;
-    let tally = rt.tally;
-    let after = turn.rt;
-    let hold = after.hold;
-    let action = hold_action(cfg, hold);
+    let action = hold_action(cfg, turn.rt.hold);
     let verdict = fault_verdict(cfg, rt, inp, bits, turn, action);
-    let clock = fault_clock(before, inp.t);
-    let events = no_events();
     Closing {
         verdict,
-        clock,
-        tally,
-        events,
+        clock: fault_clock(rt.clock, inp.t),
+        tally: rt.tally,
+        events: TickEvents::default(),
     }
 }

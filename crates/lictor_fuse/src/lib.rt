@@ -7,37 +7,32 @@ pub mod episode; // the run state at the start of an episode
 mod fault_tick; // the same of a fault tick
 
 ghost use Rattle.std.specs.Prelude.{◌≡◌};
-ghost use Rattle.lictor_fuse.specs.Tick.{is_accepted, no_verdict, accepted_tick, given_of, refused_tick, tick_of};
+ghost use Rattle.lictor_fuse.specs.Tick.{no_verdict, accepted_tick, refused_tick, tick_of};
 
-use crate::decide::{Decided, decide};
+use crate::decide::decide;
 use lictor_core::envelope::Settings;
-use lictor_core::fuse::{FuseRt, TickInput};
+use lictor_core::fuse::{FuseRt, Lists, TickInput};
 use lictor_core::outcome::Outcome;
 use lictor_core::reason::ReasonCode;
 use lictor_core::rows::no_row;
 use lictor_core::state::FuseState;
-use lictor_core::verdict::{ActionSource, MaybeHandoff, SafetyVerdict, Status};
-use lictor_settings::{SettingsCheck, check, check_number, config};
+use lictor_core::verdict::{ActionSource, SafetyVerdict, Status};
+use lictor_settings::{SettingsFault, check, config};
 use lictor_stages::verdict::disarmed_scores;
 
 // What a call with settings answers: their check, and what `decide` gives where they pass it.
 #[derive(Clone, Copy)]
 pub struct Ticked {
-    pub check: SettingsCheck,
+    pub check: Result<(), SettingsFault>,
     pub rt: FuseRt,
     pub verdict: SafetyVerdict,
 }
 
 // ---- one call with settings
 
-fn is_accepted(c: SettingsCheck) -> bool
-    ensures { result ≡ is_accepted c }
-{
-    check_number(c) == 0
-}
-
 // What is in the verdict's place where the settings are refused.
 // Which pattern a NaN has is the program's choice.
+#[tactic(auto, unfolding(crate::specs::Tick::no_verdict))]
 pub fn no_verdict() -> SafetyVerdict
     ensures { result ≡ no_verdict }
 {
@@ -62,73 +57,48 @@ pub fn no_verdict() -> SafetyVerdict
         window_hits: 0,
         brake_margin: margin,
         reason: ReasonCode::Ok,
-        handoff_seq: MaybeHandoff::NoHandoff,
+        handoff_seq: None,
         ack_consumed: false,
         violation_reached_env: false,
     }
 }
 
-fn refused_tick(c: SettingsCheck, rt: FuseRt) -> Ticked
+#[tactic(auto, unfolding(crate::specs::Tick::refused_tick))]
+fn refused_tick(c: Result<(), SettingsFault>, rt: FuseRt) -> Ticked
     ensures { result ≡ refused_tick c rt }
 {
-    let verdict = no_verdict();
     Ticked {
         check: c,
         rt,
-        verdict,
+        verdict: no_verdict(),
     }
 }
 
-fn given(d: Decided) -> Ticked
-    ensures { result ≡ given_of d }
+// One tick under settings that are accepted.
+#[tactic(auto, unfolding(crate::specs::Tick::accepted_tick, crate::specs::Tick::given_of))]
+pub fn accepted_tick(s: Settings, rt: FuseRt, inp: TickInput, out: Outcome, lists: Lists) -> Ticked
+    ensures { result ≡ accepted_tick s rt inp out lists.entry.pos.now lists.entry.vel.now lists.entry.aux.now lists.entry.ext.now lists.entry.chunk.now }
 {
-    let after = d.rt;
-    let verdict = d.verdict;
+    let d = decide(config(s), rt, inp, out, lists);
     Ticked {
-        check: SettingsCheck::Accepted,
-        rt: after,
-        verdict,
+        check: Ok(()),
+        rt: d.rt,
+        verdict: d.verdict,
     }
-}
-
-fn accepted_tick(
-    s: Settings,
-    rt: FuseRt,
-    inp: TickInput,
-    out: Outcome,
-    pos: &[f64],
-    vel: &[f64],
-    aux: &[f64],
-    ext: &[f64],
-    chunk: &[f64],
-) -> Ticked
-    ensures { result ≡ accepted_tick s rt inp out pos.now vel.now aux.now ext.now chunk.now }
-{
-    let cfg = config(s);
-    let d = decide(cfg, rt, inp, out, pos, vel, aux, ext, chunk);
-    given(d)
 }
 
 // One call: settings that fail the check answer that, and nothing changes;
 // else one tick under them.
 // All NaNs are one value in this promise: which pattern a NaN has is left open,
 // and nothing else depends on it.
-pub fn tick(
-    s: Settings,
-    rt: FuseRt,
-    inp: TickInput,
-    out: Outcome,
-    pos: &[f64],
-    vel: &[f64],
-    aux: &[f64],
-    ext: &[f64],
-    chunk: &[f64],
-) -> Ticked
-    ensures { result ≡ tick_of s rt inp out pos.now vel.now aux.now ext.now chunk.now }
+#[tactic(auto, unfolding(crate::specs::Tick::tick_of, crate::specs::Tick::tick_by))]
+pub fn tick(s: Settings, rt: FuseRt, inp: TickInput, out: Outcome, lists: Lists) -> Ticked
+    ensures { result ≡ tick_of s rt inp out lists.entry.pos.now lists.entry.vel.now lists.entry.aux.now lists.entry.ext.now lists.entry.chunk.now }
 {
     let c = check(s);
-    if is_accepted(c) {
-        return accepted_tick(s, rt, inp, out, pos, vel, aux, ext, chunk);
+    if c.is_ok() {
+        accepted_tick(s, rt, inp, out, lists)
+    } else {
+        refused_tick(c, rt)
     }
-    refused_tick(c, rt)
 }

@@ -1,16 +1,15 @@
 -- What a tick delivers (01-scope.md, One tick; fuse.rs, guard): whether a chunk, and the causes of
 -- SCHEMA that lie in it, or in that there is none. Each cause is an operand of one `||`.
-use Rattle.std.specs.Prelude.{Bool, true, false, not, ◌||◌, ℕ, ◌-◌, ◌*◌, ltb, eqb}
+use Rattle.std.specs.Prelude.{Bool, true, false, not, ◌||◌, ℕ, ◌-◌, ◌*◌, ltb, eqb, Option}
 use Rattle.lictor_core.specs.declared.chunk.ChunkHead.{ChunkHead}
-use Rattle.lictor_core.specs.declared.chunk.MaybeChunk.{MaybeChunk}
 use Rattle.lictor_core.specs.declared.envelope.FuseConfig.{FuseConfig}
 use Rattle.lictor_core.specs.declared.fuse.Clock.{Clock}
 use Rattle.lictor_core.specs.declared.fuse.TickInput.{TickInput}
-use Rattle.lictor_core.specs.Cases.{by_chunk}
+use Rattle.lictor_core.specs.Cases.{by_option}
 
 -- the tick delivers a chunk
-unfoldable pub delivered_of : MaybeChunk → Bool
-delivered_of c = by_chunk c false (λ h. true)
+unfoldable pub delivered_of : Option ChunkHead → Bool
+delivered_of c = by_option c false (λ h. true)
 
 -- SCHEMA: a chunk's dim, horizon or exec is not the settings', or it has not horizon * dim values
 unfoldable pub sizes_bad : FuseConfig → ChunkHead → ℕ → Bool
@@ -33,4 +32,4 @@ head_bad cfg next t idx n h = sizes_bad cfg h n || place_bad h next t idx
 
 -- SCHEMA: a bad head; without a chunk, that none was taken before
 unfoldable pub delivery_bad : FuseConfig → Clock → TickInput → ℕ → Bool
-delivery_bad cfg k inp n = by_chunk inp.chunk (not k.filled) (head_bad cfg k.next_chunk_seq inp.t inp.idx n)
+delivery_bad cfg k inp n = by_option inp.chunk (not k.filled) (head_bad cfg k.next_chunk_seq inp.t inp.idx n)

@@ -1,31 +1,21 @@
--- Laws of `any_below`, as a loop with an early return uses them.
-use mathlib.Core.Path.{◌≡◌, refl, sym, ap, ◌∙◌}
-use mathlib.Core.Bool.{Bool, true, false, ◌||◌}
-use Prim.Native.Nat.{ℕ, zero, suc, ◌+◌, ◌<◌}
-use native.Mathlib.Omega.{arith}
-use native.Mathlib.Numerals.{add-one}
-use native.Mathlib.Decide.{ℕ_discrete}
+-- A test at each index below the length of two lists, and the same test at each pair of their `zip`.
+use Rattle.std.proofs.Common.{◌≡◌, Bool, ◌||◌, ℕ, zero, suc, List, [], ◌∷◌, length, get_or, refl, sym, ap, ◌∙◌, arith}
+use Rattle.std.proofs.Math.Bool.{or-false, or_assoc}
+use Rattle.std.specs.List.{list_any, zip}
 use Rattle.lictor_settings.specs.Settings.{any_below}
 
-or_true : (a : Bool) → a || true ≡ true
-or_true true = refl
-or_true false = refl
-
-last : (n : ℕ) (p : ℕ → Bool) (i : ℕ) → i < suc n → p i ≡ true → (i < n → any_below n p ≡ true) → Dec (i ≡ n) → any_below n p || p n ≡ true
-last n p i h e ih (yes q) = rw (sym (ap p q) ∙ e) (or_true (any_below n p))
-last n p i h e ih (no q) = rw (ih (omega arith)) refl
-
--- an index that passes
-pub some_below : (n : ℕ) (p : ℕ → Bool) (i : ℕ) → i < n → p i ≡ true → any_below n p ≡ true
+-- the first index apart
+from_first : (n : ℕ) (p : ℕ → Bool) → any_below (suc n) p ≡ (p 0 || any_below n (λ i. p (suc i)))
 unfolding any_below
-some_below zero p i h e = absurd (omega arith)
-some_below (suc n) p i h e = last n p i h e (λ q. some_below n p i q e) (ℕ_discrete i n)
+from_first zero p = sym (or-false (p 0))
+from_first (suc n) p = rw (from_first n p) (or_assoc (p 0) _ _)
 
--- none below 0, and none below n + 1 where none is below n nor n itself
-pub none_below : (p : ℕ → Bool) → any_below 0 p ≡ false
+pub any_below_is : {A B : Type 0} (test : A → B → Bool) (n : ℕ) (xs : List A) (ys : List B) (d : A) (e : B) → length xs ≡ n → length ys ≡ n
+    → list_any (λ (p : A × B). test p.0 p.1) (zip xs ys) ≡ any_below n (λ i. test (get_or xs i d) (get_or ys i e))
 unfolding any_below
-none_below p = refl
-
-pub none_more : (n : ℕ) (p : ℕ → Bool) → any_below n p ≡ false → p n ≡ false → any_below (n + 1) p ≡ false
-unfolding any_below
-none_more n p a b = rw (add-one n, a, b) refl
+any_below_is test zero [] ys d e k l = refl
+any_below_is test zero (x ∷ xs) ys d e k l = absurd (omega arith)
+any_below_is test (suc n) [] ys d e k l = absurd (omega arith)
+any_below_is test (suc n) (x ∷ xs) [] d e k l = absurd (omega arith)
+any_below_is test (suc n) (x ∷ xs) (y ∷ ys) d e k l =
+    ap (λ b. test x y || b) (any_below_is test n xs ys d e (omega arith) (omega arith)) ∙ sym (from_first n (λ i. test (get_or (x ∷ xs) i d) (get_or (y ∷ ys) i e)))

@@ -1,13 +1,13 @@
 -- The check of settings: causes 1 to 4 of the refusal table (01-scope.md, Journal), in the table's
 -- order, and the configuration that accepted settings mean.
-use Rattle.std.specs.Prelude.{Bool, false, not, ◌||◌, List, [], ◌∷◌, ℕ, zero, suc, ltb, leb, get_or, Float}
+use Rattle.std.specs.Prelude.{Bool, false, not, ◌||◌, List, [], ◌∷◌, ℕ, zero, suc, ltb, leb, get_or, Float, Result, Ok, Err}
 use Rattle.std.specs.Float.{nan}
 use Rattle.std.specs.Float.Ieee.{is_nan, lt}
 use Rattle.fmath.specs.Float.{all_finite}
 use Rattle.lictor_core.specs.declared.envelope.Settings.{Settings}
 use Rattle.lictor_core.specs.declared.envelope.FuseConfig.{FuseConfig}
-use Rattle.lictor_settings.specs.declared.SettingsCheck.{SettingsCheck}
-use Rattle.lictor_settings.specs.declared.SettingsCheck.TheVariants.{Accepted, BadCode, BadSize, NotFinite, BoxCrossed}
+use Rattle.lictor_settings.specs.declared.SettingsFault.{SettingsFault}
+use Rattle.lictor_settings.specs.declared.SettingsFault.TheVariants.{BadCode, BadSize, NotFinite, BoxCrossed}
 use Rattle.lictor_core.specs.FirstThat.{Row, refuse◌when◌, first_that}
 use Rattle.lictor_core.specs.Sizes.{max_d, max_pos, max_horizon}
 use Rattle.lictor_core.specs.Codes.{modes, kinds, clamp_modes, rearm_policies, mode_of, kind_of, clamp_mode_of, rearm_of}
@@ -44,20 +44,24 @@ unfoldable pub bad_box : Settings → Bool
 bad_box s = crossed_of s.box_lo s.box_hi
 
 -- the causes in their order
-unfoldable pub settings_table : List (Row SettingsCheck (Settings → Bool))
+unfoldable pub settings_table : List (Row SettingsFault (Settings → Bool))
 settings_table = refuse BadCode when bad_code ∷ refuse BadSize when bad_size ∷ refuse NotFinite when bad_float ∷ refuse BoxCrossed when bad_box ∷ []
 
 -- the first row whose cause is there decides; with none, the settings are accepted
-unfoldable pub check_of : Settings → SettingsCheck
-check_of s = first_that (λ w. w.cause s) (λ w. w.answer) Accepted settings_table
+unfoldable pub check_of : Settings → Result Unit SettingsFault
+check_of s = first_that (λ w. w.cause s) (λ w. Err w.answer) (Ok tt) settings_table
 
--- the paper's number of each answer; accepted settings have none, and are 0 here
-abbrev pub check_number : SettingsCheck → ℕ
-check_number Accepted = 0
-check_number BadCode = 1
-check_number BadSize = 2
-check_number NotFinite = 3
-check_number BoxCrossed = 4
+-- the paper's number of each cause
+abbrev pub fault_code : SettingsFault → ℕ
+fault_code BadCode = 1
+fault_code BadSize = 2
+fault_code NotFinite = 3
+fault_code BoxCrossed = 4
+
+-- of each answer; accepted settings have none, and are 0 here
+abbrev pub check_number : Result Unit SettingsFault → ℕ
+check_number (Ok u) = 0
+check_number (Err f) = fault_code f
 
 -- the settings with their codes as cases
 unfoldable pub config_of : Settings → FuseConfig

@@ -1,8 +1,8 @@
 -- The verdict and the events of a clean tick (01-scope.md, One tick; fuse.rs, the end of decide).
-use Rattle.std.specs.Prelude.{Bool, true, false, not, cond, ◌&&◌, ◌||◌, ℕ, min, eqb}
+use Rattle.std.specs.Prelude.{Bool, true, false, not, cond, ◌&&◌, ◌||◌, ℕ, min, eqb, None, Some, Option}
+use Rattle.lictor_core.specs.declared.ack.VerifiedAck.{VerifiedAck}
 use Rattle.std.specs.Int.Bits.{bit_and, bit_or}
 use Rattle.std.specs.Float.{inf}
-use Rattle.lictor_core.specs.declared.ack.MaybeAck.{MaybeAck}
 use Rattle.lictor_core.specs.declared.envelope.Calibration.{Calibration}
 use Rattle.lictor_core.specs.declared.envelope.FuseConfig.{FuseConfig}
 use Rattle.lictor_core.specs.declared.fuse.Control.{Control}
@@ -13,10 +13,8 @@ use Rattle.lictor_core.specs.declared.reason.ReasonCode.TheVariants.{RearmedAck,
 use Rattle.lictor_core.specs.declared.scores.Scores.{Scores}
 use Rattle.lictor_core.specs.declared.state.FuseState.{FuseState}
 use Rattle.lictor_core.specs.declared.state.FuseState.TheVariants.{Held, Escalated}
-use Rattle.lictor_core.specs.declared.verdict.MaybeHandoff.{MaybeHandoff}
-use Rattle.lictor_core.specs.declared.verdict.MaybeHandoff.TheVariants.{NoHandoff, Begun}
 use Rattle.lictor_core.specs.declared.verdict.SafetyVerdict.{SafetyVerdict}
-use Rattle.lictor_core.specs.Cases.{by_ack}
+use Rattle.lictor_core.specs.Cases.{by_option}
 use Rattle.lictor_core.specs.Codes.{is_state, is_reason}
 use Rattle.lictor_core.specs.Initial.{zeros}
 use Rattle.lictor_core.specs.Masks as M
@@ -49,14 +47,14 @@ unfoldable pub entered_of : FuseState → FuseState → FuseState → Bool
 entered_of q from s = not (is_state q from) && is_state q s
 
 -- the handoff's number, on the tick that begins it
-unfoldable pub handoff_of : Bool → ℕ → MaybeHandoff
-handoff_of begun n = cond begun (Begun n) NoHandoff
+unfoldable pub handoff_of : Bool → ℕ → Option ℕ
+handoff_of begun n = cond begun (Some n) None
 
-unfoldable pub has_ack : MaybeAck → Bool
-has_ack a = by_ack a false (λ v. true)
+unfoldable pub has_ack : Option VerifiedAck → Bool
+has_ack a = by_option a false (λ v. true)
 
 -- ack_consumed: an acknowledgement came, and the reason is one of its three answers
-unfoldable pub consumed_flag : MaybeAck → ReasonCode → Bool
+unfoldable pub consumed_flag : Option VerifiedAck → ReasonCode → Bool
 consumed_flag a w = has_ack a && (is_reason RearmedAck w || (is_reason TerminatedAbort w || is_reason TerminatedRetune w))
 
 -- a clean tick's verdict: the window as the machine leaves it, the hits as they were before

@@ -8,8 +8,8 @@ use lictor_core::envelope::FuseConfig;
 use lictor_core::fuse::Motion;
 use lictor_core::outcome::Outcome;
 use lictor_core::rows::{no_row, taken};
-use lictor_core::state::{FuseState, is_observe};
-use lictor_core::verdict::{ActionSource, Status, is_policy};
+use lictor_core::state::{FuseMode, FuseState};
+use lictor_core::verdict::{ActionSource, Status};
 use lictor_detect::brake::{brake_action, hold_action};
 
 // The action, where it comes from, and whether it is another than the policy's.
@@ -21,12 +21,12 @@ pub struct Acted {
     pub violation: bool,
 }
 
+#[tactic(auto, unfolding(crate::specs::Act::status_of))]
 pub fn status_of(s: FuseState) -> Status
     ensures { result ≡ status_of s }
 {
     match s {
-        FuseState::Idle => Status::Nominal,
-        FuseState::Armed => Status::Nominal,
+        FuseState::Idle | FuseState::Armed => Status::Nominal,
         FuseState::Watching => Status::Watching,
         FuseState::Clamped => Status::Clamped,
         FuseState::Braking => Status::Braking,
@@ -37,45 +37,45 @@ pub fn status_of(s: FuseState) -> Status
     }
 }
 
+#[tactic(auto, unfolding(crate::specs::Act::source_of))]
 pub fn source_of(s: FuseState) -> ActionSource
     ensures { result ≡ source_of s }
 {
     match s {
-        FuseState::Idle => ActionSource::Hold,
-        FuseState::Armed => ActionSource::Policy,
-        FuseState::Watching => ActionSource::Policy,
+        FuseState::Armed | FuseState::Watching => ActionSource::Policy,
         FuseState::Clamped => ActionSource::Clamped,
         FuseState::Braking => ActionSource::Brake,
-        FuseState::Held => ActionSource::Hold,
-        FuseState::Escalated => ActionSource::Hold,
-        FuseState::Fault => ActionSource::Hold,
-        FuseState::Terminated => ActionSource::Hold,
+        FuseState::Idle
+        | FuseState::Held
+        | FuseState::Escalated
+        | FuseState::Fault
+        | FuseState::Terminated => ActionSource::Hold,
     }
 }
 
 // The first dim components of an outcome's row.
+#[tactic(auto, unfolding(crate::specs::Act::cut_row))]
 fn cut(cfg: FuseConfig, row: [f64; MAX_D]) -> [f64; MAX_D]
     ensures { result ≡ cut_row cfg row }
 {
-    let z = no_row();
-    let r = row;
-    taken(&r, z, cfg.dim)
+    taken(&row, no_row(), cfg.dim)
 }
 
 // The policy's row is passed on, whatever the source would be.
+#[tactic(auto, unfolding(crate::specs::Act::passed_of))]
 fn passed(cfg: FuseConfig, would: ActionSource, policy: [f64; MAX_D]) -> Acted
     ensures { result ≡ passed_of cfg would policy }
 {
-    let row = cut(cfg, policy);
-    let own = is_policy(would);
     Acted {
-        action: row,
+        action: cut(cfg, policy),
         src: ActionSource::Policy,
         substituted: false,
-        violation: !own,
+        violation: would != ActionSource::Policy,
     }
 }
 
+// A row is given out in place of the policy's.
+#[tactic(auto, unfolding(crate::specs::Act::instead_of))]
 fn instead(src: ActionSource, row: [f64; MAX_D]) -> Acted
     ensures { result ≡ instead_of src row }
 {
@@ -87,29 +87,7 @@ fn instead(src: ActionSource, row: [f64; MAX_D]) -> Acted
     }
 }
 
-fn clamped_row(cfg: FuseConfig, row: [f64; MAX_D]) -> Acted
-    ensures { result ≡ instead_of ActionSource.Clamped (cut_row cfg row) }
-{
-    let x = cut(cfg, row);
-    instead(ActionSource::Clamped, x)
-}
-
-fn braked(cfg: FuseConfig, m: Motion) -> Acted
-    ensures { result ≡ instead_of ActionSource.Brake (brake_action cfg m.pos m.vel) }
-{
-    let p = m.pos;
-    let v = m.vel;
-    let x = brake_action(cfg, p, v);
-    instead(ActionSource::Brake, x)
-}
-
-fn held_still(cfg: FuseConfig, hold: [f64; MAX_POS]) -> Acted
-    ensures { result ≡ instead_of ActionSource.Hold (hold_action cfg hold) }
-{
-    let x = hold_action(cfg, hold);
-    instead(ActionSource::Hold, x)
-}
-
+#[tactic(auto, unfolding(crate::specs::Act::enforced_of))]
 fn enforced(
     cfg: FuseConfig,
     would: ActionSource,
@@ -121,13 +99,14 @@ fn enforced(
     ensures { result ≡ enforced_of cfg would motion hold policy clamped }
 {
     match would {
-        ActionSource::Policy => passed(cfg, ActionSource::Policy, policy),
-        ActionSource::Clamped => clamped_row(cfg, clamped),
-        ActionSource::Brake => braked(cfg, motion),
-        ActionSource::Hold => held_still(cfg, hold),
+        ActionSource::Policy => passed(cfg, would, policy),
+        ActionSource::Clamped => instead(would, cut(cfg, clamped)),
+        ActionSource::Brake => instead(would, brake_action(cfg, motion.pos, motion.vel)),
+        ActionSource::Hold => instead(would, hold_action(cfg, hold)),
     }
 }
 
+#[tactic(auto, unfolding(crate::specs::Act::by_mode))]
 fn by_mode(
     cfg: FuseConfig,
     would: ActionSource,
@@ -138,15 +117,15 @@ fn by_mode(
 ) -> Acted
     ensures { result ≡ by_mode cfg would motion hold policy clamped }
 {
-    let mode = cfg.mode;
-    if is_observe(mode) {
-        return passed(cfg, would, policy);
+    match cfg.mode {
+        FuseMode::Observe => passed(cfg, would, policy),
+        FuseMode::Enforce => enforced(cfg, would, motion, hold, policy, clamped),
     }
-    enforced(cfg, would, motion, hold, policy, clamped)
 }
 
 // The action of a clean tick that ends in state s.
 // Which pattern a NaN has is the program's choice.
+#[tactic(auto, unfolding(crate::specs::Act::act_of))]
 pub fn act(
     cfg: FuseConfig,
     s: FuseState,
@@ -156,8 +135,5 @@ pub fn act(
 ) -> Acted
     ensures { result ≡ act_of cfg s motion hold out }
 {
-    let would = source_of(s);
-    let policy = out.policy;
-    let clamped = out.clamped;
-    by_mode(cfg, would, motion, hold, policy, clamped)
+    by_mode(cfg, source_of(s), motion, hold, out.policy, out.clamped)
 }

@@ -1,4 +1,6 @@
 -- The rows as the code has them say what the table says, for every input.
+use Rattle.std.proofs.Common.{None, Some, Option}
+use Rattle.lictor_core.specs.declared.ack.VerifiedAck.{VerifiedAck}
 use mathlib.Core.Path.{◌≡◌, refl, ap, sym, ◌∙◌}
 use mathlib.Core.Bool.{Bool}
 use mathlib.Core.List.{List}
@@ -9,8 +11,6 @@ use Rattle.lictor_core.specs.declared.state.FuseState.TheVariants.{Idle, Armed, 
 use Rattle.lictor_core.specs.declared.reason.ReasonCode.TheVariants as R
 use Rattle.lictor_core.specs.declared.ack.AckDecision.{AckDecision}
 use Rattle.lictor_core.specs.declared.ack.AckDecision.TheVariants.{Resume, Abort, Retune}
-use Rattle.lictor_core.specs.declared.ack.MaybeAck.{MaybeAck}
-use Rattle.lictor_core.specs.declared.ack.MaybeAck.TheVariants.{NoAck, Given}
 use Rattle.lictor_core.specs.declared.envelope.FuseConfig.{FuseConfig}
 use Rattle.lictor_core.specs.declared.fuse.Control.{Control}
 use Rattle.lictor_core.specs.Masks.{any_of}
@@ -22,33 +22,33 @@ use Rattle.lictor_table.specs.Rows.{fault_row, rearm_ack, resume_row, terminate_
 use Rattle.lictor_table.specs.Table.{Facts, first_of, table, next_from, next_of}
 
 module _ (none : Turn) (cfg : FuseConfig) (rt : Control) (pos : List Float) (clean : Bool) (inp : FsmInput) where
-  abbrev Says : FuseState → MaybeAck → Type 0
+  abbrev Says : FuseState → Option VerifiedAck → Type 0
   Says from ack =
       transition_of cfg rt pos from clean ack inp ≡ first_of none table (record { cfg = cfg; rt = rt; pos = pos; from = from; clean = clean; ack = ack; inp = inp })
 
-  held_says : (d : AckDecision) (slot nonce seq : ℕ) → Says Held (Given (record { decision = d; operator_slot = slot; nonce = nonce; handoff_seq = seq }))
+  held_says : (d : AckDecision) (slot nonce seq : ℕ) → Says Held (Some (record { decision = d; operator_slot = slot; nonce = nonce; handoff_seq = seq }))
   unfolding transition_of by_from fault_row first_that table held_of resume_row terminate_row rearm_ack holding_of may_rearm rearm_row escalate_row hold_row
   held_says Resume slot nonce seq = refl
   held_says Abort slot nonce seq = refl
   held_says Retune slot nonce seq = refl
 
-  escalated_says : (d : AckDecision) (slot nonce seq : ℕ) → Says Escalated (Given (record { decision = d; operator_slot = slot; nonce = nonce; handoff_seq = seq }))
+  escalated_says : (d : AckDecision) (slot nonce seq : ℕ) → Says Escalated (Some (record { decision = d; operator_slot = slot; nonce = nonce; handoff_seq = seq }))
   unfolding transition_of by_from fault_row first_that table escalated_of resume_row terminate_row rearm_ack
   escalated_says Resume slot nonce seq = refl
   escalated_says Abort slot nonce seq = refl
   escalated_says Retune slot nonce seq = refl
 
-  pub says : (from : FuseState) (ack : MaybeAck) → Says from ack
+  pub says : (from : FuseState) (ack : Option VerifiedAck) → Says from ack
   unfolding transition_of by_from fault_row first_that table any_of unanswered_of timeout_row wait_row escalated_of may_rearm rearm_row escalate_row hold_row holding_of held_of confirmed_of standstill_row stopping_row braking_of enter_braking brake_row unclampable_of over_budget clamp_row cleared_of clear_row watched_of quiet_of running_of
   says Idle ack = refl
   says Armed ack = refl
   says Watching ack = refl
   says Clamped ack = refl
   says Braking ack = refl
-  says Held NoAck = refl
-  says Held (Given a) = held_says a.decision a.operator_slot a.nonce a.handoff_seq
-  says Escalated NoAck = refl
-  says Escalated (Given a) = escalated_says a.decision a.operator_slot a.nonce a.handoff_seq
+  says Held None = refl
+  says Held (Some a) = held_says a.decision a.operator_slot a.nonce a.handoff_seq
+  says Escalated None = refl
+  says Escalated (Some a) = escalated_says a.decision a.operator_slot a.nonce a.handoff_seq
   says Fault ack = refl
   says Terminated ack = refl
 

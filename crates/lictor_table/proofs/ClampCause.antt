@@ -182,3 +182,15 @@ by_zeros s b o z n h e t q =
 -- a mask without other bits leaves at most five zeros
 pub zeros_most : (s m : ℕ) → (bit_and s m ≡ 0 → ⊥) → m < 2 ^ soft_bits → count_trailing_zeros 32 (bit_and s m) < soft_bits
 zeros_most s m z h = few_zeros 32 soft_bits (bit_and s m) (omega (arith, h, and_le_r s m)) z
+
+-- the same of the soft bits of s themselves, for the code
+pub cause_of_zeros : (s j : ℕ) → count_trailing_zeros 32 (bit_and s tier0_soft) ≡ j → j < soft_bits → cause_at j ≡ clamp_reason s
+cause_of_zeros s j e q =
+    let same : j - 0 ≡ j = omega arith in
+    rw same at (by_zeros s (bit_and s tier0_soft) 0 j j (masked s tier0_soft refl) (omega arith) (sym e) (omega (arith, q)))
+
+pub cause_of_none : (s : ℕ) → bit_and s tier0_soft ≡ 0 → R.ClampContact ≡ clamp_reason s
+cause_of_none s e = by_none s (bit_and s tier0_soft) (masked s tier0_soft refl) e
+
+pub zeros_of_soft : (s : ℕ) → (bit_and s tier0_soft ≡ 0 → ⊥) → count_trailing_zeros 32 (bit_and s tier0_soft) < soft_bits
+zeros_of_soft s z = zeros_most s tier0_soft z (lit< tt)

@@ -1,5 +1,7 @@
 -- What a tick does to the state and to the counts that limit a stop, and to the nonces: read off
 -- the table, state by state.
+use Rattle.std.proofs.Common.{None, Some, Option}
+use Rattle.lictor_core.specs.declared.ack.VerifiedAck.{VerifiedAck}
 use mathlib.Core.Path.{◌≡◌, refl}
 use mathlib.Core.Bool.{Bool, true, false, cond, not, ◌&&◌, ◌||◌}
 use mathlib.Core.List.{List}
@@ -13,11 +15,9 @@ use Rattle.lictor_core.specs.declared.state.FuseState.TheVariants.{Idle, Armed, 
 use Rattle.lictor_core.specs.declared.reason.ReasonCode.TheVariants as R
 use Rattle.lictor_core.specs.declared.ack.AckDecision.{AckDecision}
 use Rattle.lictor_core.specs.declared.ack.AckDecision.TheVariants.{Resume, Abort, Retune}
-use Rattle.lictor_core.specs.declared.ack.MaybeAck.{MaybeAck}
-use Rattle.lictor_core.specs.declared.ack.MaybeAck.TheVariants.{NoAck, Given}
 use Rattle.lictor_core.specs.declared.envelope.FuseConfig.{FuseConfig}
 use Rattle.lictor_core.specs.declared.fuse.Control.{Control}
-use Rattle.lictor_core.specs.Cases.{by_state, by_ack, by_decision}
+use Rattle.lictor_core.specs.Cases.{by_state, by_option, by_decision}
 use Rattle.lictor_core.specs.Codes.{is_state, is_auto, rearm_code}
 use Rattle.lictor_core.specs.Masks.{any_of, fault_bits, brake_bit, tier0_soft}
 use Rattle.lictor_core.specs.Num.{sat_up}
@@ -46,12 +46,12 @@ may_end from q =
     false
     (is_state Terminated q)
 
-abbrev pub none? : MaybeAck → Bool
-none? ack = by_ack ack true (λ a. false)
+abbrev pub none? : Option VerifiedAck → Bool
+none? ack = by_option ack true (λ a. false)
 
 -- A tick from the state q with the run state r ends in t; `bits`: a fault bit came; `ack`: the
 -- acknowledgement that is accepted.
-pub record StopLaw (cfg : FuseConfig) (q : FuseState) (bits : Bool) (ack : MaybeAck) (r : Control) (t : Turn) : Type 0 where
+pub record StopLaw (cfg : FuseConfig) (q : FuseState) (bits : Bool) (ack : Option VerifiedAck) (r : Control) (t : Turn) : Type 0 where
   pub ends : T (may_end q t.state)
   pub faults : T bits → T (is_state Fault t.state)
   -- Braking: its count starts at 0 and goes up; below B it goes on or Held begins, at B the tick
@@ -83,18 +83,18 @@ pub record StopLaw (cfg : FuseConfig) (q : FuseState) (bits : Bool) (ack : Maybe
 
 -- what a turn consumes (specs/Consumed): a fault bit decides it before the lines for Held and
 -- Escalated
-unfoldable pub consumed_of : Control → FsmInput → MaybeAck
+unfoldable pub consumed_of : Control → FsmInput → Option VerifiedAck
 consumed_of rt inp =
-    cond (any_of inp.trips fault_bits) NoAck (taken_in rt.state (accepted_ack rt.handoff_seq rt.last_nonce inp.ack))
+    cond (any_of inp.trips fault_bits) None (taken_in rt.state (accepted_ack rt.handoff_seq rt.last_nonce inp.ack))
 
 -- the stored nonces afterwards: changed in the one place of the acknowledgement that is consumed
-abbrev pub Stores : MaybeAck → List ℕ → List ℕ → Type 0
-Stores taken before after = after ≡ by_ack taken before (λ a. set before a.operator_slot a.nonce)
+abbrev pub Stores : Option VerifiedAck → List ℕ → List ℕ → Type 0
+Stores taken before after = after ≡ by_option taken before (λ a. set before a.operator_slot a.nonce)
 
 -- an acknowledgement, if there is one, has one of the eight slots and a nonce above its slot's
-abbrev pub Fresh : List ℕ → MaybeAck → Type 0
-Fresh nonces NoAck = Unit {0}
-Fresh nonces (Given a) = (a.operator_slot < 8) × (get_or nonces a.operator_slot 0 < a.nonce)
+abbrev pub Fresh : List ℕ → Option VerifiedAck → Type 0
+Fresh nonces None = Unit {0}
+Fresh nonces (Some a) = (a.operator_slot < 8) × (get_or nonces a.operator_slot 0 < a.nonce)
 
 ruleset tests = (arith, leb→le, nleb→lt, ltb→lt, eqb→eq)
 
@@ -107,29 +107,29 @@ and_r true b h = h
 and_r false b h = absurd h
 
 module _ (cfg : FuseConfig) (rt : Control) (pos : List Float) (inp : FsmInput) where
-  abbrev facts_in : FuseState → MaybeAck → Facts
+  abbrev facts_in : FuseState → Option VerifiedAck → Facts
   facts_in q ack = record { cfg = cfg; rt = count_run (clean_of inp) rt; pos = pos; from = q; clean = clean_of inp; ack = ack; inp = inp }
 
-  abbrev Law : FuseState → MaybeAck → Bool → Turn → Type 0
+  abbrev Law : FuseState → Option VerifiedAck → Bool → Turn → Type 0
   Law q ack bits t =
-      StopLaw cfg q bits ack rt (settled_of t) × Stores (cond bits NoAck (taken_in q ack)) rt.last_nonce (settled_of t).rt.last_nonce
+      StopLaw cfg q bits ack rt (settled_of t) × Stores (cond bits None (taken_in q ack)) rt.last_nonce (settled_of t).rt.last_nonce
 
-  abbrev Says : FuseState → MaybeAck → Type 0
+  abbrev Says : FuseState → Option VerifiedAck → Type 0
   Says q ack = Law q ack (any_of inp.trips fault_bits) (first_of (to Fault 0 R.FaultInternal rt) table (facts_in q ack))
 
   -- the fault line, or the lines after it
-  first : (q : FuseState) (ack : MaybeAck) (s t : Turn) → Law q ack true s → Law q ack false t
+  first : (q : FuseState) (ack : Option VerifiedAck) (s t : Turn) → Law q ack true s → Law q ack false t
       → Law q ack (any_of inp.trips fault_bits) (cond (any_of inp.trips fault_bits) s t)
   first q ack s t f g = by_bool (Law q ack) (any_of inp.trips fault_bits) s t f g
 
   -- a line with this test, or the lines after it
-  line : (q : FuseState) (ack : MaybeAck) (b : Test) (s t : Turn)
+  line : (q : FuseState) (ack : Option VerifiedAck) (b : Test) (s t : Turn)
       → (T (b (facts_in q ack)) → Law q ack false s) → (T (not (b (facts_in q ack))) → Law q ack false t)
       → Law q ack false (cond (b (facts_in q ack)) s t)
   line q ack b s t f g = by_test (Law q ack false) (b (facts_in q ack)) s t f g
 
   -- rows 17 to 20, or the lines after them
-  runs : (q : FuseState) (ack : MaybeAck) (a b c d e t : Turn)
+  runs : (q : FuseState) (ack : Option VerifiedAck) (a b c d e t : Turn)
       → Law q ack false a → Law q ack false b → Law q ack false c → Law q ack false d → Law q ack false e → Law q ack false t
       → Law q ack false
       (cond (trip brake_bit (facts_in q ack)) a
@@ -145,7 +145,7 @@ module _ (cfg : FuseConfig) (rt : Control) (pos : List Float) (inp : FsmInput) w
       (λ _. line q ack (trip tier0_soft) e t (λ _. j) (λ _. k)))))
 
   -- rows 11 to 13, where no acknowledgement is consumed
-  holding : (ack : MaybeAck) → taken_in Held ack ≡ NoAck → Law Held ack false (holding_of cfg (count_run (clean_of inp) rt) (clean_of inp) inp)
+  holding : (ack : Option VerifiedAck) → taken_in Held ack ≡ None → Law Held ack false (holding_of cfg (count_run (clean_of inp) rt) (clean_of inp) inp)
   unfolding settled_of count_run holding_of may_rearm rearm_row escalate_row hold_row
   holding m k =
       line Held m (policy_auto and held_clean at_least rearm_hold and chunk_ok and rearms below max_rearms) _ _
@@ -159,19 +159,19 @@ module _ (cfg : FuseConfig) (rt : Control) (pos : List Float) (inp : FsmInput) w
       (λ h. let g : T (leb cfg.hyst.escalate_after_hold_ticks rt.held_ticks) = search and_l in (omega tests, rw k)) (λ h.
       line Held m (held_ticks at_least H) _ _ (λ h. (omega tests, rw k)) (λ h. (omega tests, rw k)))))
 
-  held : (d : AckDecision) (slot nonce seq : ℕ) → Says Held (Given (record { decision = d; operator_slot = slot; nonce = nonce; handoff_seq = seq }))
+  held : (d : AckDecision) (slot nonce seq : ℕ) → Says Held (Some (record { decision = d; operator_slot = slot; nonce = nonce; handoff_seq = seq }))
   unfolding first_that table settled_of count_run latch_hold consume_nonce holding_of may_rearm rearm_row escalate_row hold_row
   held Resume slot nonce seq = first Held _ _ _ (omega tests, refl) (omega tests, refl)
   held Abort slot nonce seq = first Held _ _ _ (omega tests, refl) (omega tests, refl)
   held Retune slot nonce seq = first Held _ _ _ (omega tests, refl) (holding _ refl)
 
-  escalated : (d : AckDecision) (slot nonce seq : ℕ) → Says Escalated (Given (record { decision = d; operator_slot = slot; nonce = nonce; handoff_seq = seq }))
+  escalated : (d : AckDecision) (slot nonce seq : ℕ) → Says Escalated (Some (record { decision = d; operator_slot = slot; nonce = nonce; handoff_seq = seq }))
   unfolding first_that table settled_of count_run latch_hold consume_nonce
   escalated Resume slot nonce seq = first Escalated _ _ _ (omega tests, refl) (omega tests, refl)
   escalated Abort slot nonce seq = first Escalated _ _ _ (omega tests, refl) (omega tests, refl)
   escalated Retune slot nonce seq = first Escalated _ _ _ (omega tests, refl) (omega tests, refl)
 
-  by_from_lem : (q : FuseState) (ack : MaybeAck) → Says q ack
+  by_from_lem : (q : FuseState) (ack : Option VerifiedAck) → Says q ack
   unfolding first_that table settled_of count_run latch_hold holding_of may_rearm rearm_row escalate_row hold_row
   by_from_lem Idle m = first Idle m _ _ (omega tests, refl) (omega tests, refl)
   by_from_lem Armed m =
@@ -192,12 +192,12 @@ module _ (cfg : FuseConfig) (rt : Control) (pos : List Float) (inp : FsmInput) w
       first Braking m _ _ (omega tests, refl)
       (line Braking m (brake_ticks at_least B) _ _ (λ h. (omega tests, refl)) (λ h.
       line Braking m (stopped and stopped_ticks +1 at_least confirm) _ _ (λ i. (omega tests, refl)) (λ i. (omega tests, refl))))
-  by_from_lem Held NoAck = first Held NoAck _ _ (omega tests, refl) (holding NoAck refl)
-  by_from_lem Held (Given a) = held a.decision a.operator_slot a.nonce a.handoff_seq
-  by_from_lem Escalated NoAck =
-      first Escalated NoAck _ _ (omega tests, refl)
-      (line Escalated NoAck (escalated_ticks at_least E) _ _ (λ h. (omega tests, refl)) (λ h. (omega tests, refl)))
-  by_from_lem Escalated (Given a) = escalated a.decision a.operator_slot a.nonce a.handoff_seq
+  by_from_lem Held None = first Held None _ _ (omega tests, refl) (holding None refl)
+  by_from_lem Held (Some a) = held a.decision a.operator_slot a.nonce a.handoff_seq
+  by_from_lem Escalated None =
+      first Escalated None _ _ (omega tests, refl)
+      (line Escalated None (escalated_ticks at_least E) _ _ (λ h. (omega tests, refl)) (λ h. (omega tests, refl)))
+  by_from_lem Escalated (Some a) = escalated a.decision a.operator_slot a.nonce a.handoff_seq
   by_from_lem Fault m = first Fault m _ _ (omega tests, refl) (omega tests, refl)
   by_from_lem Terminated m = first Terminated m _ _ (omega tests, refl) (omega tests, refl)
 
@@ -210,30 +210,30 @@ module _ (cfg : FuseConfig) (rt : Control) (pos : List Float) (inp : FsmInput) w
   nonce_law = (by_from_lem rt.state (accepted_ack rt.handoff_seq rt.last_nonce inp.ack)).1
 
 -- what is accepted has a slot and a nonce above it
-accepted_fresh : (handoff : ℕ) (nonces : List ℕ) (ack : MaybeAck) → Fresh nonces (accepted_ack handoff nonces ack)
+accepted_fresh : (handoff : ℕ) (nonces : List ℕ) (ack : Option VerifiedAck) → Fresh nonces (accepted_ack handoff nonces ack)
 unfolding accepted_ack accepted_by
-accepted_fresh handoff nonces NoAck = tt
-accepted_fresh handoff nonces (Given a) =
-    by_test (Fresh nonces) (accepted_by handoff nonces a) (Given a) NoAck
+accepted_fresh handoff nonces None = tt
+accepted_fresh handoff nonces (Some a) =
+    by_test (Fresh nonces) (accepted_by handoff nonces a) (Some a) None
     (λ h.
     let s : T (ltb a.operator_slot 8) = search and_l in
     let g : T (ltb (get_or nonces a.operator_slot 0) a.nonce) = search (and_l, and_r) in
     omega tests)
     (λ h. tt)
 
-decided_fresh : (nonces : List ℕ) (d : AckDecision) (ack : MaybeAck) → Fresh nonces ack → Fresh nonces (by_decision d ack ack NoAck)
+decided_fresh : (nonces : List ℕ) (d : AckDecision) (ack : Option VerifiedAck) → Fresh nonces ack → Fresh nonces (by_decision d ack ack None)
 decided_fresh nonces Resume ack f = f
 decided_fresh nonces Abort ack f = f
 decided_fresh nonces Retune ack f = tt
 
-taken_fresh : (nonces : List ℕ) (q : FuseState) (ack : MaybeAck) → Fresh nonces ack → Fresh nonces (taken_in q ack)
+taken_fresh : (nonces : List ℕ) (q : FuseState) (ack : Option VerifiedAck) → Fresh nonces ack → Fresh nonces (taken_in q ack)
 taken_fresh nonces Idle ack f = tt
 taken_fresh nonces Armed ack f = tt
 taken_fresh nonces Watching ack f = tt
 taken_fresh nonces Clamped ack f = tt
 taken_fresh nonces Braking ack f = tt
-taken_fresh nonces Held NoAck f = tt
-taken_fresh nonces Held (Given a) f = decided_fresh nonces a.decision (Given a) f
+taken_fresh nonces Held None f = tt
+taken_fresh nonces Held (Some a) f = decided_fresh nonces a.decision (Some a) f
 taken_fresh nonces Escalated ack f = f
 taken_fresh nonces Fault ack f = tt
 taken_fresh nonces Terminated ack f = tt
@@ -242,7 +242,7 @@ taken_fresh nonces Terminated ack f = tt
 pub fresh_law : (rt : Control) (inp : FsmInput) → Fresh rt.last_nonce (consumed_of rt inp)
 unfolding consumed_of
 fresh_law rt inp =
-    by_test (Fresh rt.last_nonce) (any_of inp.trips fault_bits) NoAck _ (λ h. tt)
+    by_test (Fresh rt.last_nonce) (any_of inp.trips fault_bits) None _ (λ h. tt)
     (λ h.
     taken_fresh rt.last_nonce rt.state (accepted_ack rt.handoff_seq rt.last_nonce inp.ack)
     (accepted_fresh rt.handoff_seq rt.last_nonce inp.ack))

@@ -1,6 +1,6 @@
 -- What the small functions of fsm.rs compute: reasons, acceptance, nonces, the latched hold,
 -- counts. The table is written with these.
-use Rattle.std.specs.Prelude.{Bool, cond, not, ◌&&◌, List, ℕ, min, ltb, eqb, set, get_or, Float}
+use Rattle.std.specs.Prelude.{Bool, cond, not, ◌&&◌, List, ℕ, min, ltb, eqb, set, get_or, Float, None, Some, Option}
 use Rattle.std.specs.Float.{nan}
 use Rattle.fmath.specs.Float.{clamp_of}
 use Rattle.lictor_core.specs.declared.state.FuseState.{FuseState}
@@ -8,11 +8,9 @@ use Rattle.lictor_core.specs.declared.state.FuseMode.{FuseMode}
 use Rattle.lictor_core.specs.declared.reason.ReasonCode.{ReasonCode}
 use Rattle.lictor_core.specs.declared.reason.ReasonCode.TheVariants as R
 use Rattle.lictor_core.specs.declared.ack.VerifiedAck.{VerifiedAck}
-use Rattle.lictor_core.specs.declared.ack.MaybeAck.{MaybeAck}
-use Rattle.lictor_core.specs.declared.ack.MaybeAck.TheVariants.{NoAck, Given}
 use Rattle.lictor_core.specs.declared.envelope.FuseConfig.{FuseConfig}
 use Rattle.lictor_core.specs.declared.fuse.Control.{Control}
-use Rattle.lictor_core.specs.Cases.{by_ack}
+use Rattle.lictor_core.specs.Cases.{by_option}
 use Rattle.lictor_core.specs.Codes.{is_observe}
 use Rattle.lictor_core.specs.Masks.{any_of, workspace, speed, accel, jerk, reach, nonfinite, schema}
 use Rattle.lictor_core.specs.Num.{sat_up}
@@ -50,8 +48,8 @@ accepted_by handoff nonces a =
     ltb a.operator_slot operators && (eqb a.handoff_seq handoff && ltb (get_or nonces a.operator_slot 0) a.nonce)
 
 -- the acknowledgement that came, if it is accepted (fsm.rs, accepted_ack)
-unfoldable pub accepted_ack : ℕ → List ℕ → MaybeAck → MaybeAck
-accepted_ack handoff nonces ack = by_ack ack NoAck (λ a. cond (accepted_by handoff nonces a) (Given a) NoAck)
+unfoldable pub accepted_ack : ℕ → List ℕ → Option VerifiedAck → Option VerifiedAck
+accepted_ack handoff nonces ack = by_option ack None (λ a. cond (accepted_by handoff nonces a) (Some a) None)
 
 -- its nonce is the stored one of its slot from now on, the other seven stay (fsm.rs, consume_nonce;
 -- past the eighth slot nothing changes)

@@ -2,7 +2,7 @@
 -- compute.
 -- That all this is the table is shown in proofs/ByTable, and `next` of lictor_fsm promises the
 -- table.
-use Rattle.std.specs.Prelude.{Bool, false, true, cond, not, ◌&&◌, ◌||◌, List, ℕ, ◌+◌, ltb, leb, eqb, Float}
+use Rattle.std.specs.Prelude.{Bool, false, true, cond, not, ◌&&◌, ◌||◌, List, ℕ, ◌+◌, ltb, leb, eqb, Float, Option}
 use Rattle.std.specs.Int.Bits.{bit_and}
 use Rattle.std.specs.Int.Count.{ones}
 use Rattle.lictor_core.specs.declared.state.FuseState.{FuseState}
@@ -10,11 +10,10 @@ use Rattle.lictor_core.specs.declared.state.FuseState.TheVariants.{Armed, Watchi
 use Rattle.lictor_core.specs.declared.reason.ReasonCode.{ReasonCode}
 use Rattle.lictor_core.specs.declared.reason.ReasonCode.TheVariants as R
 use Rattle.lictor_core.specs.declared.ack.VerifiedAck.{VerifiedAck}
-use Rattle.lictor_core.specs.declared.ack.MaybeAck.{MaybeAck}
 use Rattle.lictor_core.specs.declared.envelope.RearmPolicy.{RearmPolicy}
 use Rattle.lictor_core.specs.declared.envelope.FuseConfig.{FuseConfig}
 use Rattle.lictor_core.specs.declared.fuse.Control.{Control}
-use Rattle.lictor_core.specs.Cases.{by_state, by_ack, by_decision}
+use Rattle.lictor_core.specs.Cases.{by_state, by_option, by_decision}
 use Rattle.lictor_core.specs.Codes.{is_state, is_auto}
 use Rattle.lictor_core.specs.Masks.{any_of, fault_bits, brake_bit, tier0_soft, tier1_cp, clamp_budget, handoff_timeout, operator_abort, brake_timeout, rearm_budget}
 use Rattle.lictor_core.specs.Num.{sat_up, wrap_up}
@@ -61,9 +60,9 @@ unfoldable pub unanswered_of : ℕ → Control → Turn
 unanswered_of limit rt = cond (leb limit rt.escalated_ticks) (timeout_row rt) (wait_row rt)
 
 -- rows 4 to 8
-unfoldable pub escalated_of : ℕ → Control → MaybeAck → Turn
+unfoldable pub escalated_of : ℕ → Control → Option VerifiedAck → Turn
 escalated_of limit rt ack =
-    by_ack ack (unanswered_of limit rt)
+    by_option ack (unanswered_of limit rt)
     (λ a. by_decision a.decision (resume_row rt a) (terminate_row rt a operator_abort R.TerminatedAbort) (terminate_row rt a 0 R.TerminatedRetune))
 
 -- ---- Held
@@ -95,9 +94,9 @@ holding_of cfg rt clean inp =
     (hold_row rt clean))))
 
 -- rows 9 to 13
-unfoldable pub held_of : FuseConfig → Control → Bool → MaybeAck → FsmInput → Turn
+unfoldable pub held_of : FuseConfig → Control → Bool → Option VerifiedAck → FsmInput → Turn
 held_of cfg rt clean ack inp =
-    by_ack ack (holding_of cfg rt clean inp)
+    by_option ack (holding_of cfg rt clean inp)
     (λ a. by_decision a.decision (resume_row rt a) (terminate_row rt a operator_abort R.TerminatedAbort) (holding_of cfg rt clean inp))
 
 -- ---- Braking
@@ -172,7 +171,7 @@ running_of cfg rt from inp =
 
 -- ---- the whole
 
-unfoldable pub by_from : FuseConfig → Control → List Float → FuseState → Bool → MaybeAck → FsmInput → Turn
+unfoldable pub by_from : FuseConfig → Control → List Float → FuseState → Bool → Option VerifiedAck → FsmInput → Turn
 by_from cfg rt pos from clean ack inp =
     by_state from
     (to Fault 0 R.FaultInternal (latch_hold cfg pos rt))
@@ -186,7 +185,7 @@ by_from cfg rt pos from clean ack inp =
     (to Terminated 0 R.HeldStandstill rt)
 
 -- fsm.rs, transition
-unfoldable pub transition_of : FuseConfig → Control → List Float → FuseState → Bool → MaybeAck → FsmInput → Turn
+unfoldable pub transition_of : FuseConfig → Control → List Float → FuseState → Bool → Option VerifiedAck → FsmInput → Turn
 transition_of cfg rt pos from clean ack inp =
     cond (any_of inp.trips fault_bits) (fault_row cfg rt pos from inp.trips) (by_from cfg rt pos from clean ack inp)
 

@@ -1,7 +1,8 @@
 -- The transition table (01-scope.md, One tick, Transitions; bits, reasons and counters as in
 -- fsm.rs): a list of lines, of which the first that applies decides.
 -- It is at the end of this file; before it come the words that it is written with.
-use Rattle.std.specs.Prelude.{Bool, true, false, cond, not, ◌&&◌, ◌||◌, List, [], ◌∷◌, ℕ, ◌+◌, ltb, leb, Float}
+use Rattle.std.specs.Prelude.{Bool, true, false, cond, not, ◌&&◌, ◌||◌, List, [], ◌∷◌, ℕ, ◌+◌, ltb, leb, Float, Option}
+use Rattle.lictor_core.specs.declared.ack.VerifiedAck.{VerifiedAck}
 use Rattle.std.specs.Int.Bits.{bit_and}
 use Rattle.std.specs.Int.Count.{ones}
 use Rattle.lictor_core.specs.declared.state.FuseState.{FuseState}
@@ -10,10 +11,9 @@ use Rattle.lictor_core.specs.declared.reason.ReasonCode.{ReasonCode}
 use Rattle.lictor_core.specs.declared.reason.ReasonCode.TheVariants as R
 use Rattle.lictor_core.specs.declared.ack.AckDecision.{AckDecision}
 use Rattle.lictor_core.specs.declared.ack.AckDecision.TheVariants.{Resume, Abort, Retune}
-use Rattle.lictor_core.specs.declared.ack.MaybeAck.{MaybeAck}
 use Rattle.lictor_core.specs.declared.envelope.FuseConfig.{FuseConfig}
 use Rattle.lictor_core.specs.declared.fuse.Control.{Control}
-use Rattle.lictor_core.specs.Cases.{by_ack, by_decision}
+use Rattle.lictor_core.specs.Cases.{by_option, by_decision}
 use Rattle.lictor_core.specs.Codes.{is_state, is_auto}
 use Rattle.lictor_core.specs.FirstThat.{first_that}
 use Rattle.lictor_core.specs.Masks.{any_of, fault_bits, brake_bit, tier0_soft, tier1_cp, clamp_budget, handoff_timeout, operator_abort, brake_timeout, rearm_budget}
@@ -38,7 +38,7 @@ pub record Facts : Type 0 where
   pub pos : List Float
   pub from : FuseState
   pub clean : Bool
-  pub ack : MaybeAck
+  pub ack : Option VerifiedAck
   pub inp : FsmInput
 
 -- ---- a line and its columns
@@ -210,7 +210,7 @@ is_decision d e = by_decision d (by_decision e true false false) (by_decision e 
 
 -- an accepted acknowledgement says d
 abbrev pub accepted : AckDecision → Test
-accepted d x = by_ack x.ack false (λ a. is_decision d a.decision)
+accepted d x = by_option x.ack false (λ a. is_decision d a.decision)
 
 -- ---- reasons
 
@@ -242,7 +242,7 @@ abbrev pub latch_unless_fault : Change
 latch_unless_fault x r = cond (only Fault x.from) r (latch_hold x.cfg x.pos r)
 
 abbrev pub store_nonce : Change
-store_nonce x r = by_ack x.ack r (λ a. consume_nonce a r)
+store_nonce x r = by_option x.ack r (λ a. consume_nonce a r)
 
 abbrev pub end_handoff : Change
 end_handoff x r = with_handoff_pending false r

@@ -3,7 +3,10 @@
 // lictor_fsm.
 #![tactic(auto)]
 
-use lictor_core::ack::MaybeAck;
+ghost use Rattle.std.specs.Prelude.{◌≡◌};
+ghost use Rattle.lictor_table.specs.Helpers.{to};
+
+use lictor_core::ack::VerifiedAck;
 use lictor_core::fuse::Control;
 use lictor_core::reason::ReasonCode;
 use lictor_core::state::FuseState;
@@ -18,7 +21,7 @@ pub struct FsmInput {
     pub stopped: bool,
     pub chunk_boundary: bool,
     pub chunk_ok: bool,
-    pub ack: MaybeAck,
+    pub ack: Option<VerifiedAck>,
 }
 
 // What a tick ends in: the machine's part of the run state, and beside it the triple that the
@@ -29,4 +32,19 @@ pub struct Turn {
     pub state: FuseState,
     pub extra: u32,
     pub reason: ReasonCode,
+}
+
+impl Turn {
+    // The state that a row goes to, the trip bits that it adds, its reason, and what it leaves of
+    // the run state.
+    pub fn to(state: FuseState, extra: u32, reason: ReasonCode, rt: Control) -> Turn
+        ensures { result ≡ to state extra reason rt }
+    {
+        Turn {
+            rt,
+            state,
+            extra,
+            reason,
+        }
+    }
 }

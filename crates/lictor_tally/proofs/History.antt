@@ -1,5 +1,7 @@
 -- The tally and its history: the proofs of specs/History. A law of one tick for each field, and
 -- what it says of a list of ticks.
+use Rattle.std.proofs.Common.{None, Some, Option, ℕ}
+use Rattle.std.specs.Option.{option_or}
 use mathlib.Core.Path.{◌≡◌, refl, ◌∙◌}
 use mathlib.Core.Bool.{Bool, true, false, cond, ◌&&◌}
 use mathlib.Core.List.{List, [], ◌∷◌, ◌++◌}
@@ -15,10 +17,6 @@ use Rattle.lictor_core.specs.Sizes.{features, trip_bits}
 use Rattle.lictor_core.specs.declared.reason.ReasonCode.{ReasonCode}
 use Rattle.lictor_core.specs.declared.state.FuseState.{FuseState}
 use Rattle.lictor_core.specs.declared.state.FuseState.TheVariants as S
-use Rattle.lictor_core.specs.declared.tally.Mark.{Mark}
-use Rattle.lictor_core.specs.declared.tally.Mark.TheVariants.{Never, At}
-use Rattle.lictor_core.specs.declared.tally.ReasonMark.{ReasonMark}
-use Rattle.lictor_core.specs.declared.tally.ReasonMark.TheVariants.{NoReason, For}
 use Rattle.lictor_core.specs.declared.tally.Tally.{Tally}
 use Rattle.lictor_tally.specs.Tally.{count, count_bit, count_bits, first, first_reason, most_at, most_live, record_of, record_chunk, with_chunks}
 use Rattle.lictor_tally.specs.History.{Item, recorded, tally_from, tally_of, Count, ticks_count, nominal_count, watching_count, clamped_count, braking_count, held_count, escalated_count, fault_count, terminated_count, substituted_count, violations_count, chunks_seen_count, chunks_rejected_count, clamps_count, holds_count, rearms_count, escalations_count, stop_actions_count, trips_count, fired_count, value_of, counts, number, over_states, has_trips, stops, hands_over, Maximum, of_s, of_z, maximum_in, takes, score_of, first_in, first_reason_of, last_in, OfHistory}
@@ -93,10 +91,6 @@ pub tally_append : (t : Tally) (a b : List Item) → tally_from t (a ++ b) ≡ t
 tally_append t [] b = refl
 tally_append t (x ∷ a) b = tally_append (recorded t x) a b
 
--- one tick more
-pub tally_next : (h : List Item) (x : Item) → tally_of (h ++ (x ∷ [])) ≡ recorded (tally_of h) x
-tally_next h x = tally_append empty_tally h (x ∷ [])
-
 -- counts: what was there and the number of ticks counted, cut at the ceiling
 goes_on_lem : (b : Bool) (c n : ℕ) → min (count b c + n) (2 ^ 32 - 1) ≡ min (c + (cond b 1 0 + n)) (2 ^ 32 - 1)
 unfolding count
@@ -110,43 +104,39 @@ count_from k t (x ∷ h) z f =
     count_from k (recorded t x) h (stays_sized t x z) (rw e (count_fits (counts k x) (value_of k t) f)) ∙ rw e (goes_on_lem (counts k x) (value_of k t) (number (counts k) h))
 
 -- a mark that goes by `first`: the one that was set, else that of the first tick in the list
-abbrev pub or_else : Mark → Mark → Mark
-or_else Never m = m
-or_else (At k) m = At k
+mark_none : (m : Option ℕ) → m ≡ option_or m None
+mark_none None = refl
+mark_none (Some k) = refl
 
-mark_none : (m : Mark) → m ≡ or_else m Never
-mark_none Never = refl
-mark_none (At k) = refl
-
-mark_this : (b : Bool) (t : ℕ) (m n : Mark) → or_else (first b t m) n ≡ or_else m (cond b (At t) n)
+mark_this : (b : Bool) (t : ℕ) (m n : Option ℕ) → option_or (first b t m) n ≡ option_or m (cond b (Some t) n)
 unfolding first
-mark_this true t Never n = refl
-mark_this false t Never n = refl
-mark_this true t (At k) n = refl
-mark_this false t (At k) n = refl
+mark_this true t None n = refl
+mark_this false t None n = refl
+mark_this true t (Some k) n = refl
+mark_this false t (Some k) n = refl
 
-module _ (mark : Tally → Mark) (p : Item → Bool) (tick : (t : Tally) (x : Item) → mark (recorded t x) ≡ first (p x) x.verdict.t (mark t)) where
-  pub mark_from : (t : Tally) (h : List Item) → mark (tally_from t h) ≡ or_else (mark t) (first_in p h)
+module _ (mark : Tally → Option ℕ) (p : Item → Bool) (tick : (t : Tally) (x : Item) → mark (recorded t x) ≡ first (p x) x.verdict.t (mark t)) where
+  pub mark_from : (t : Tally) (h : List Item) → mark (tally_from t h) ≡ option_or (mark t) (first_in p h)
   mark_from t [] = mark_none (mark t)
   mark_from t (x ∷ h) = mark_from (recorded t x) h ∙ rw (tick t x) (mark_this (p x) x.verdict.t (mark t) (first_in p h))
 
 -- the reason beside a mark: the one that was written, else that of the first tick in the list, else
 -- the old one
-abbrev pub or_reason : Mark → ReasonMark → ReasonMark → ReasonMark
-or_reason Never old NoReason = old
-or_reason Never old (For w) = For w
-or_reason (At k) old n = old
+abbrev pub or_reason : Option ℕ → Option ReasonCode → Option ReasonCode → Option ReasonCode
+or_reason None old None = old
+or_reason None old (Some w) = Some w
+or_reason (Some k) old n = old
 
-reason_none : (m : Mark) (old : ReasonMark) → old ≡ or_reason m old NoReason
-reason_none Never old = refl
-reason_none (At k) old = refl
+reason_none : (m : Option ℕ) (old : Option ReasonCode) → old ≡ or_reason m old None
+reason_none None old = refl
+reason_none (Some k) old = refl
 
-reason_this : (b : Bool) (t : ℕ) (w : ReasonCode) (m : Mark) (old n : ReasonMark) → or_reason (first b t m) (first_reason b m w old) n ≡ or_reason m old (cond b (For w) n)
+reason_this : (b : Bool) (t : ℕ) (w : ReasonCode) (m : Option ℕ) (old n : Option ReasonCode) → or_reason (first b t m) (first_reason b m w old) n ≡ or_reason m old (cond b (Some w) n)
 unfolding first first_reason
-reason_this true t w Never old n = refl
-reason_this false t w Never old n = refl
-reason_this true t w (At k) old n = refl
-reason_this false t w (At k) old n = refl
+reason_this true t w None old n = refl
+reason_this false t w None old n = refl
+reason_this true t w (Some k) old n = refl
+reason_this false t w (Some k) old n = refl
 
 trip_marked : (t : Tally) (x : Item) → (recorded t x).first_trip_tick ≡ first (has_trips x) x.verdict.t t.first_trip_tick
 unfolding ticked record_of
@@ -242,9 +232,9 @@ each_state (x ∷ h) = omega (arith, each_state h, one_state x.verdict.state x r
 sums : (h : List Item) → ((k : Count) → value_of k (tally_of h) ≡ number (counts k) h) → over_states (λ k. value_of k (tally_of h)) ≡ (tally_of h).ticks
 sums h e = omega (arith, each_state h, each_tick h, e ticks_count, e nominal_count, e watching_count, e clamped_count, e braking_count, e held_count, e escalated_count, e fault_count, e terminated_count)
 
-reason_first : (n : ReasonMark) → or_reason Never NoReason n ≡ n
-reason_first NoReason = refl
-reason_first (For w) = refl
+reason_first : (n : Option ReasonCode) → or_reason None None n ≡ n
+reason_first None = refl
+reason_first (Some w) = refl
 
 -- each maximum is the larger of what it was and the score, where it takes the tick in
 larger : (m : Maximum) (t : Tally) (x : Item) → Sized t → maximum_in m (recorded t x) ≡ cond (takes m x) (max_of (maximum_in m t) (score_of m x)) (maximum_in m t)

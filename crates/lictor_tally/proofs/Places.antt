@@ -1,6 +1,6 @@
 -- Lists whose elements each go by the rule of their place: what an element becomes, and how a loop
 -- gets there, one place a turn.
-use mathlib.Core.Path.{◌≡◌, refl, sym, ap, ◌∙◌}
+use mathlib.Core.Path.{◌≡◌, refl, sym, subst, ap, ◌∙◌}
 use mathlib.Core.Bool.{Bool, true, false, cond}
 use mathlib.Core.List.{List, [], ◌∷◌}
 use Prim.Native.Nat.{ℕ, zero, suc, ◌+◌, ◌≤◌, ◌<◌}
@@ -8,7 +8,10 @@ use native.Mathlib.Numerals.{add-one}
 use native.Mathlib.Omega.{arith}
 use lib.Dec.{ltb}
 use lib.ListN.{length, get_or, set, get_or-eq_default}
+use Rattle.std.proofs.lemmas.List.{ext_get_or}
 use borrow.Author.Tests.{ltb-true, ltb-false}
+use denote.Param.Members.{Mut, Called}
+use Rattle.std.specs.Array.{IsFromFnResultFrom, IsFromFnResult}
 use Rattle.lictor_tally.specs.Counts.{each_from}
 
 module _ {X : Type 0} (f : ℕ → X → X) where
@@ -89,3 +92,25 @@ module _ {X : Type 0} (f : ℕ → X → X) where
 
   pub each_alike : (g : ℕ → X → X) (l : List X) (d : X) → ((k : ℕ) → k < length l → f k (get_or l k d) ≡ g k (get_or l k d)) → each_from 0 f l ≡ each_from 0 g l
   each_alike g l d h = each_agree g 0 l d (λ k b. let e : 0 + k ≡ k = omega arith in rw e (h k b))
+
+-- what calls at each place gave, of a closure that each call leaves as it was: the list whose
+-- elements go by the rule of their place
+module _ {F X : Type 0} (g : Mut F (ℕ × Unit {0}) X) (rule : ℕ → X → X) (old : List X) (d : X) (f : F) where
+  abbrev At : Type 0
+  At = (k : ℕ) (x : X) (q : F) → Called g f (k, tt) x q → (x ≡ rule k (get_or old k d)) × (q ≡ f)
+
+  made_from : At → (l : List X) (i n : ℕ) (p : F) → p ≡ f → IsFromFnResultFrom g p l i n → (k : ℕ) → k < n → get_or l (i + k) d ≡ rule (i + k) (get_or old (i + k) d)
+  made_from h l i zero p e m k b = absurd (omega arith)
+  made_from h l i (suc n) p e m zero b =
+      let z : i + 0 ≡ i = omega arith in
+      rw z (m.2.1 d ∙ (h i m.1 m.0 (subst (λ (v : F). Called g v (i, tt) m.1 m.0) e m.3)).0)
+  made_from h l i (suc n) p e m (suc k) b =
+      let z : i + suc k ≡ i + 1 + k = omega arith in
+      rw z (made_from h l (i + 1) n m.0 (h i m.1 m.0 (subst (λ (v : F). Called g v (i, tt) m.1 m.0) e m.3)).1 m.4 k (omega arith))
+
+  pub each_made : At → (l : List X) (n : ℕ) → length old ≡ n → IsFromFnResult g f l n → l ≡ each_from 0 rule old
+  each_made h l n e m =
+      ext_get_or d l (each_from 0 rule old) (m.long ∙ sym e ∙ sym (length_each rule 0 old))
+      (λ k b.
+      let z : 0 + k ≡ k = omega arith in
+      (rw z at (made_from h l 0 n f refl m.each k (omega (arith, m.long)))) ∙ sym (rw z at (each_at rule 0 old k d (omega (arith, m.long)))))

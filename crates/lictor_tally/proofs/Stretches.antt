@@ -1,5 +1,6 @@
 -- The laws of joining: the proofs of specs/Stretches. A law of one tick for each kind of field says
 -- that a tick may be recorded before or after joining; the others follow from it.
+use Rattle.std.proofs.Common.{None, Some, Option, ℕ}
 use mathlib.Core.Path.{◌≡◌, refl, sym, ap, ◌∙◌}
 use mathlib.Core.Bool.{Bool, true, false, cond}
 use mathlib.Core.List.{List, [], ◌∷◌, ◌++◌, append_assoc}
@@ -17,10 +18,6 @@ use Rattle.lictor_core.specs.Num.{sat_up}
 use Rattle.lictor_core.specs.Sizes.{features, trip_bits}
 use Rattle.lictor_core.specs.declared.reason.ReasonCode.{ReasonCode}
 use Rattle.lictor_core.specs.declared.state.FuseState.{FuseState}
-use Rattle.lictor_core.specs.declared.tally.Mark.{Mark}
-use Rattle.lictor_core.specs.declared.tally.Mark.TheVariants.{Never, At}
-use Rattle.lictor_core.specs.declared.tally.ReasonMark.{ReasonMark}
-use Rattle.lictor_core.specs.declared.tally.ReasonMark.TheVariants.{NoReason, For}
 use Rattle.lictor_core.specs.declared.tally.Tally.{Tally}
 use Rattle.lictor_tally.specs.Tally.{count, bit_of, count_bit, count_bits, each_from, first, first_reason, most_at, most_live, record_of}
 use Rattle.lictor_tally.specs.History as H
@@ -37,17 +34,17 @@ unfolding sum_of count
 sum_count true a b = omega arith
 sum_count false a b = refl
 
-mark_first : (happens : Bool) (t : ℕ) (a b : Mark) → mark_of a (first happens t b) ≡ first happens t (mark_of a b)
+mark_first : (happens : Bool) (t : ℕ) (a b : Option ℕ) → mark_of a (first happens t b) ≡ first happens t (mark_of a b)
 unfolding mark_of marked_by first
-mark_first happens t Never b = refl
-mark_first true t (At k) b = refl
-mark_first false t (At k) b = refl
+mark_first happens t None b = refl
+mark_first true t (Some k) b = refl
+mark_first false t (Some k) b = refl
 
-reason_first : (happens : Bool) (w : ReasonCode) (a b : Mark) (v u : ReasonMark) → marked_by a v (first_reason happens b w u) ≡ first_reason happens (mark_of a b) w (marked_by a v u)
+reason_first : (happens : Bool) (w : ReasonCode) (a b : Option ℕ) (v u : Option ReasonCode) → marked_by a v (first_reason happens b w u) ≡ first_reason happens (mark_of a b) w (marked_by a v u)
 unfolding mark_of marked_by first_reason
-reason_first happens w Never b v u = refl
-reason_first true w (At k) b v u = refl
-reason_first false w (At k) b v u = refl
+reason_first happens w None b v u = refl
+reason_first true w (Some k) b v u = refl
+reason_first false w (Some k) b v u = refl
 
 max_most : (takes : Bool) (a b s : Float) → max_of a (cond takes (max_of b s) b) ≡ cond takes (max_of (max_of a b) s) (max_of a b)
 max_most true a b s = sym (max_assoc a b s)
@@ -128,17 +125,17 @@ pub record Ordinary (t : Tally) : Type 0 where
   pub sized : Sized t
   pub fits : (k : Count) → value_of k t < 2 ^ 32
   -- no reason without its mark
-  pub reason : marked_by t.first_trip_tick t.first_trip_reason NoReason ≡ t.first_trip_reason
+  pub reason : marked_by t.first_trip_tick t.first_trip_reason None ≡ t.first_trip_reason
   pub numbers : (m : Maximum) → Number (maximum_in m t)
 
 sum_none : (n : ℕ) → n < 2 ^ 32 → sum_of n 0 ≡ n
 unfolding sum_of
 sum_none n h = omega arith
 
-mark_none : (m : Mark) → mark_of m Never ≡ m
+mark_none : (m : Option ℕ) → mark_of m None ≡ m
 unfolding mark_of marked_by
-mark_none Never = refl
-mark_none (At k) = refl
+mark_none None = refl
+mark_none (Some k) = refl
 
 -- a list joined with one that has a neutral value everywhere
 module _ {X : Type 0} (f : X → X → X) (d e none : X) (n : ℕ) where
@@ -189,13 +186,13 @@ from_sized : (t : Tally) (h : List Item) → Sized t → Sized (tally_from t h)
 from_sized t [] z = z
 from_sized t (x ∷ h) z = from_sized (recorded t x) h (stays_sized t x z)
 
-with_its_mark : (h : List Item) → marked_by (first_in has_trips h) (first_reason_of h) NoReason ≡ first_reason_of h
+with_its_mark : (h : List Item) → marked_by (first_in has_trips h) (first_reason_of h) None ≡ first_reason_of h
 unfolding marked_by
 with_its_mark [] = refl
 with_its_mark (x ∷ h) = by_trips (has_trips x) (with_its_mark h) where
-  by_trips : (b : Bool) → marked_by (first_in has_trips h) (first_reason_of h) NoReason ≡ first_reason_of h
-      → marked_by (cond b (At x.verdict.t) (first_in has_trips h)) (cond b (For x.verdict.reason) (first_reason_of h)) NoReason
-      ≡ cond b (For x.verdict.reason) (first_reason_of h)
+  by_trips : (b : Bool) → marked_by (first_in has_trips h) (first_reason_of h) None ≡ first_reason_of h
+      → marked_by (cond b (Some x.verdict.t) (first_in has_trips h)) (cond b (Some x.verdict.reason) (first_reason_of h)) None
+      ≡ cond b (Some x.verdict.reason) (first_reason_of h)
   by_trips true e = refl
   by_trips false e = e
 

@@ -1,5 +1,5 @@
 -- The rules by which the fields of a tally go (tally.rs).
-use Rattle.std.specs.Prelude.{Bool, true, false, cond, not, ◌&&◌, ◌||◌, List, [], ◌∷◌, ℕ, ◌+◌, ◌/◌, ◌%◌, ◌^◌, eqb, get_or, Float}
+use Rattle.std.specs.Prelude.{Bool, true, false, cond, not, ◌&&◌, ◌||◌, List, [], ◌∷◌, ℕ, ◌+◌, ◌/◌, ◌%◌, ◌^◌, eqb, get_or, Float, None, Some, Option}
 use Rattle.std.specs.Float.{nan}
 use Rattle.fmath.specs.Float.{max_of}
 use Rattle.lictor_core.specs.Codes.{is_state}
@@ -7,10 +7,6 @@ use Rattle.lictor_core.specs.Num.{sat_up}
 use Rattle.lictor_core.specs.declared.state.FuseState.{FuseState}
 use Rattle.lictor_core.specs.declared.state.FuseState.TheVariants as S
 use Rattle.lictor_core.specs.declared.reason.ReasonCode.{ReasonCode}
-use Rattle.lictor_core.specs.declared.tally.Mark.{Mark}
-use Rattle.lictor_core.specs.declared.tally.Mark.TheVariants.{Never, At}
-use Rattle.lictor_core.specs.declared.tally.ReasonMark.{ReasonMark}
-use Rattle.lictor_core.specs.declared.tally.ReasonMark.TheVariants.{For}
 
 -- ---- a count: one more where it moves, up to the largest number of 32 bits
 
@@ -39,16 +35,16 @@ count_bits mask l = each_from 0 (count_bit mask) l
 
 -- ---- a mark: set once, where it happens for the first time
 
-abbrev pub is_never : Mark → Bool
-is_never Never = true
-is_never (At t) = false
+abbrev pub is_never : Option ℕ → Bool
+is_never None = true
+is_never (Some t) = false
 
-unfoldable pub first : Bool → ℕ → Mark → Mark
-first happens t m = cond (happens && is_never m) (At t) m
+unfoldable pub first : Bool → ℕ → Option ℕ → Option ℕ
+first happens t m = cond (happens && is_never m) (Some t) m
 
 -- the reason that is written with the mark m
-unfoldable pub first_reason : Bool → Mark → ReasonCode → ReasonMark → ReasonMark
-first_reason happens m w old = cond (happens && is_never m) (For w) old
+unfoldable pub first_reason : Bool → Option ℕ → ReasonCode → Option ReasonCode → Option ReasonCode
+first_reason happens m w old = cond (happens && is_never m) (Some w) old
 
 -- ---- a maximum: by fmath's max; of the channels only those in the mask `live`
 

@@ -1,6 +1,7 @@
 -- The tally and its history: what a list of ticks leaves in a tally that was empty before it
 -- (01-scope.md, Modules 4). Proved in proofs/History.
-use Rattle.std.specs.Prelude.{◌≡◌, Bool, true, cond, not, ◌&&◌, List, [], ◌∷◌, ℕ, ◌+◌, ◌-◌, ◌^◌, ◌<◌, min, eqb, ltb, length, get_or, Float}
+use Rattle.std.specs.Prelude.{◌≡◌, Bool, true, cond, not, ◌&&◌, List, [], ◌∷◌, ℕ, ◌+◌, ◌-◌, ◌^◌, ◌<◌, min, eqb, ltb, length, get_or, Float, None, Some, Option}
+use Rattle.lictor_core.specs.declared.reason.ReasonCode.{ReasonCode}
 use Rattle.std.specs.Float.{inf, nan}
 use Rattle.fmath.specs.Most.{most_of, Largest}
 use Rattle.lictor_core.specs.Codes.{is_state, is_stop}
@@ -9,10 +10,6 @@ use Rattle.lictor_core.specs.Sizes.{features, trip_bits}
 use Rattle.lictor_core.specs.declared.state.FuseState.{FuseState}
 use Rattle.lictor_core.specs.declared.state.FuseState.TheVariants as S
 use Rattle.lictor_core.specs.declared.verdict.SafetyVerdict.{SafetyVerdict}
-use Rattle.lictor_core.specs.declared.tally.Mark.{Mark}
-use Rattle.lictor_core.specs.declared.tally.Mark.TheVariants.{Never, At}
-use Rattle.lictor_core.specs.declared.tally.ReasonMark.{ReasonMark}
-use Rattle.lictor_core.specs.declared.tally.ReasonMark.TheVariants.{NoReason, For}
 use Rattle.lictor_core.specs.declared.tally.Tally.{Tally}
 use Rattle.lictor_tally.specs.declared.TickEvents.{TickEvents}
 use Rattle.lictor_tally.specs.Tally.{bit_of, is_nominal, stops_arm, record_of, record_chunk}
@@ -133,13 +130,13 @@ abbrev pub score_of : Maximum → Item → Float
 score_of m x = score_in m x.verdict
 
 -- the t of the first tick with a property, and the reason of the first that trips
-abbrev pub first_in : (Item → Bool) → List Item → Mark
-first_in p [] = Never
-first_in p (x ∷ h) = cond (p x) (At x.verdict.t) (first_in p h)
+abbrev pub first_in : (Item → Bool) → List Item → Option ℕ
+first_in p [] = None
+first_in p (x ∷ h) = cond (p x) (Some x.verdict.t) (first_in p h)
 
-abbrev pub first_reason_of : List Item → ReasonMark
-first_reason_of [] = NoReason
-first_reason_of (x ∷ h) = cond (has_trips x) (For x.verdict.reason) (first_reason_of h)
+abbrev pub first_reason_of : List Item → Option ReasonCode
+first_reason_of [] = None
+first_reason_of (x ∷ h) = cond (has_trips x) (Some x.verdict.reason) (first_reason_of h)
 
 -- the state in which the last tick ended, s where there was none
 abbrev pub last_in : FuseState → List Item → FuseState

@@ -1,10 +1,9 @@
 -- What joining makes of the tallies of two stretches of one episode, the earlier and the later
 -- (request 3). Each field goes by one of four rules: a count, a mark, a maximum, the last state.
-use Rattle.std.specs.Prelude.{cond, List, ℕ, ◌+◌, ◌-◌, ◌^◌, min, eqb, get_or, Float}
+use Rattle.std.specs.Prelude.{cond, List, ℕ, ◌+◌, ◌-◌, ◌^◌, min, eqb, get_or, Float, Option}
 use Rattle.std.specs.Float.{nan}
 use Rattle.fmath.specs.Float.{max_of}
 use Rattle.lictor_core.specs.declared.state.FuseState.{FuseState}
-use Rattle.lictor_core.specs.declared.tally.Mark.{Mark}
 use Rattle.lictor_core.specs.declared.tally.Tally.{Tally}
 use Rattle.lictor_tally.specs.Counts.{each_from, is_never}
 
@@ -15,11 +14,11 @@ unfoldable pub sum_of : ℕ → ℕ → ℕ
 sum_of a b = min (a + b) (2 ^ 32 - 1)
 
 -- what goes by a mark m of the earlier: the earlier's if the earlier has m, otherwise the later's
-unfoldable pub marked_by : {X : Type 0} → Mark → X → X → X
+unfoldable pub marked_by : {X : Type 0} → Option ℕ → X → X → X
 marked_by m a b = cond (is_never m) b a
 
 -- a mark: the earlier's if the earlier has it, whatever its t is, otherwise the later's
-unfoldable pub mark_of : Mark → Mark → Mark
+unfoldable pub mark_of : Option ℕ → Option ℕ → Option ℕ
 mark_of a b = marked_by a a b
 
 -- the last state: the later's, unless the later has no ticks

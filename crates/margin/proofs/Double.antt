@@ -24,10 +24,6 @@ none_left m k h p =
     let r : m * 1000 % 2 ^ k ≡ m * 1000 = mod-eq_of_lt l in
     sym (goes_down (m * 1000) (2 ^ k) (pow_pos k) (rw r (omega arith)) (λ half. absurd (omega arith)) ∙ div-eq_of_lt l)
 
--- a shifted one is the power
-pub one_shifted : (k : ℕ) → k ≤ 63 → (1 * 2 ^ k) % 18446744073709551616 ≡ 2 ^ k
-one_shifted k p = let q : 2 ^ k ≤ 2 ^ 63 = pow_mono {i = k} {j = 63} p in omega arith
-
 -- equal fractions have the same nearest whole number, and it is not below the quotient
 nearest_same : (n d a c : ℕ) → 0 < d → 0 < c → n * c ≡ a * d → nearest_whole n d ≡ nearest_whole a c
 unfolding nearest_whole

@@ -1,6 +1,6 @@
 -- The definition of the rounding is the nearest whole number, of an exact half the even one, and
 -- that alone; so is what a margin prints.
-use Prim.Native.Nat.{ℕ, zero, suc, ◌+◌, ◌-◌, ◌*◌, ◌/◌, ◌%◌, ◌≤◌, ◌<◌, compare, Ordering}
+use Prim.Native.Nat.{ℕ, zero, suc, ◌+◌, ◌*◌, ◌/◌, ◌%◌, ◌≤◌, ◌<◌, compare, Ordering}
 use mathlib.Core.Path.{◌≡◌, refl, sym, ap, subst, ◌∙◌}
 use mathlib.Core.Bool.{Bool, true, false, not}
 use native.Mathlib.Omega.{arith}
@@ -13,7 +13,7 @@ use lib.Ieee.{fin, up, down, nearest}
 use lib.Ieee.Fits.{down_pos}
 use Rattle.margin.specs.declared.Margin.TheVariants.{Millis}
 use Rattle.margin.specs.Margin.{nearest_whole, far_of, signed, margin_of}
-use Rattle.margin.specs.Nearest.{apart, Nearest, PrintedAs, PrintedNearest}
+use Rattle.margin.specs.Nearest.{Nearest, PrintedAs, PrintedNearest}
 
 module _ (num den : ℕ) (D : 0 < den) where
   whole : num / den * den + num % den ≡ num

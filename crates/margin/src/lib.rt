@@ -4,13 +4,28 @@
 ghost use Rattle.std.specs.Prelude.{◌≡◌, ◌*◌, ◌^◌, ◌<◌};
 ghost use Rattle.margin.specs.Margin.{nearest_whole, far_of, millis_of, margin_of};
 
-#[derive(Clone, Copy)]
+use std::cmp::Ordering;
+
+#[derive(Clone, Copy, PartialEq, Eq)]
 pub enum Margin {
     NoMargin,
     PlusFar,
     MinusFar,
     Millis(i32),
 }
+
+// The most millimetres that are printed; more are far.
+const MOST: u64 = 999_999;
+
+// The parts of a double's bits: the sign is the highest, the exponent has 11, and the fraction 52.
+const SIGN: u64 = 1 << 63;
+
+const LEADING: u64 = 1 << 52;
+
+// The exponent of 1024 metres, and that of a fraction whose last bit is a metre.
+const KILOMETRE: u64 = 1033;
+
+const METRE: u64 = 1075;
 
 fn far_of(minus: bool) -> Margin
     ensures { result ≡ far_of minus }
@@ -25,7 +40,7 @@ fn far_of(minus: bool) -> Margin
 fn millis_of(minus: bool, n: u64) -> Margin
     ensures { result ≡ millis_of minus n }
 {
-    if n > 999999 {
+    if n > MOST {
         return far_of(minus);
     }
     let z = n as i32;
@@ -43,14 +58,11 @@ fn nearest_whole(num: u64, den: u64) -> u64
 {
     let n = num / den;
     let below = num % den;
-    let above = den - below;
-    if below < above {
-        return n;
+    match below.cmp(&(den - below)) {
+        Ordering::Less => n,
+        Ordering::Greater => n + 1,
+        Ordering::Equal => if n % 2 == 0 { n } else { n + 1 },
     }
-    if above < below {
-        return n + 1;
-    }
-    if n % 2 == 0 { n } else { n + 1 }
 }
 
 // m / 2^k metres in millimetres.
@@ -66,24 +78,23 @@ fn millis(m: u64, k: u64) -> u64
 
 // A margin in metres: none for NaN, far where its rounded millimetres pass 999999.
 // (From 1024 m on that is known without working them out.)
-pub fn margin_of(x: f64) -> Margin
-    ensures { result ≡ margin_of x }
-{
-    if x != x {
-        return Margin::NoMargin;
+impl From<f64> for Margin {
+    ghost from_gives = { λ x m. m ≡ margin_of x };
+
+    fn from(x: f64) -> Margin {
+        if x.is_nan() {
+            return Margin::NoMargin;
+        }
+        let bits = x.to_bits();
+        let minus = bits >= SIGN;
+        let exponent = bits % SIGN / LEADING;
+        let fraction = bits % LEADING;
+        if exponent >= KILOMETRE {
+            return far_of(minus);
+        }
+        if exponent == 0 {
+            return millis_of(minus, millis(fraction, METRE - 1));
+        }
+        millis_of(minus, millis(fraction + LEADING, METRE - exponent))
     }
-    let bits = f64::to_bits(x);
-    let minus = bits >= 0x8000_0000_0000_0000;
-    let exponent = bits % 0x8000_0000_0000_0000 / 0x10_0000_0000_0000;
-    let fraction = bits % 0x10_0000_0000_0000;
-    if exponent >= 1033 {
-        return far_of(minus);
-    }
-    if exponent == 0 {
-        return millis_of(minus, millis(fraction, 1074));
-    }
-    millis_of(
-        minus,
-        millis(fraction + 0x10_0000_0000_0000, 1075 - exponent),
-    )
 }

@@ -1,5 +1,6 @@
 -- The numbers of each verdict of a journal fit their types: t and the outcome's trips are read from
 -- four bytes, seq stops at its end, and the guard and the table add bits below 2 ^ 16.
+use Rattle.std.proofs.Common.{Ok, Err}
 use mathlib.Core.Path.{◌≡◌, refl}
 use mathlib.Core.Bool.{Bool, true, false, cond, ◌&&◌}
 use mathlib.Core.List.{List, [], ◌∷◌}
@@ -46,9 +47,7 @@ use Rattle.journal_frames.specs.declared.Frame.TheVariants as F
 use Rattle.journal_frames.specs.Frames.{body_of, frame_of, on_frame}
 use Rattle.journal_refusals.specs.declared.Refusal.{Refusal}
 use Rattle.journal_refusals.specs.declared.Refusal.TheVariants.{UnknownKind}
-use Rattle.journal_refusals.specs.declared.Judged.{Judged}
-use Rattle.journal_refusals.specs.declared.Judged.TheVariants.{Accepted, Refused}
-use Rattle.journal_refusals.specs.Table.{whole_of}
+use Rattle.journal_refusals.specs.Table.{Judged, whole_of}
 use Rattle.stream.specs.Stream.{Next, wait, halt, go, tell, after, settle, settled}
 use Rattle.journal_reader.specs.State.{State, seen_in, ack_waits, head_waits, value_waits, outcome_waits, settings_came, width_came, emptied, input_of, start_reader}
 use Rattle.journal_reader.specs.Reading.{Brought, Instruction, begin, restart, tick, width, brought_of, on_record, on_judged, on_whole, on_bytes}
@@ -179,8 +178,8 @@ record_moves st k b n h w =
     })
 
 judged_moves : (st : State) (k : ℕ) (b : List ℕ) (n : ℕ) → Bytes b → Waits st → (j : Judged) → Moves (on_judged st b n (decode_of k b) j)
-judged_moves st k b n h w (Refused r) = tt
-judged_moves st k b n h w Accepted = record_moves st k b n h w
+judged_moves st k b n h w (Err r) = tt
+judged_moves st k b n h w (Ok _) = record_moves st k b n h w
 
 frame_moves : (st : State) (s : List ℕ) → Bytes s → Waits st → (x : Frame) → Moves (on_frame UnknownKind on_whole st s x)
 unfolding on_whole

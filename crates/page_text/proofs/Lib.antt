@@ -1,3 +1,2 @@
 -- Laws that belong to no one function, and theorems.
 pub mod Rows
-pub mod Fields

@@ -1,6 +1,6 @@
 -- The lines of a page (02-change-requests.md, Ask 1): a row of six columns for each tick, and the
 -- line with the page's number.
-use Rattle.std.specs.Prelude.{ℕ, ◌^◌, ◌<◌, List, [], ◌∷◌, ◌++◌, ◌≡◌, length, take, drop}
+use Rattle.std.specs.Prelude.{ℕ, ◌^◌, ◌<◌, List, [], ◌∷◌, ◌++◌, ◌≡◌, length}
 use Rattle.text.specs.Ascii.{ascii}
 use Rattle.text.specs.Line.{line_room}
 use Rattle.text.specs.Memory.{place_with, memory_with}
@@ -76,14 +76,3 @@ pub record RowShown (v : SafetyVerdict) (out : List ℕ) (n r : ℕ) (out' : Lis
 pub record PageShown (number : ℕ) (out : List ℕ) (n r : ℕ) (out' : List ℕ) : Type 0 where
   pub ends : r ≡ place_with line_room (length out) n (as_line (page_row number))
   pub memory : out' ≡ memory_with line_room out n (as_line (page_row number))
-
--- the bytes that a column can have at most: a blank, a sign and the digits of a number
-abbrev pub field_room : ℕ
-field_room = 22
-
--- the columns up to the state, and those after it
-abbrev pub front_columns : SafetyVerdict → List Column
-front_columns v = take 3 (tick_columns v)
-
-abbrev pub back_columns : SafetyVerdict → List Column
-back_columns v = drop 3 (tick_columns v)

@@ -1,123 +1,95 @@
 // The lines of a page, put into lent memory: a tick's row, and the line with the page's number.
 #![tactic(auto)]
 
-ghost use Rattle.std.specs.Prelude.{◌≡◌, ◌++◌, ◌+◌, ◌-◌, ◌*◌, ◌≤◌, length};
-ghost use Rattle.text.specs.Line.{line_room};
+ghost use Rattle.std.specs.Prelude.{◌≡◌, ◌≤◌};
+ghost use Rattle.text.specs.Line.{line_of, push_of};
 ghost use Rattle.text.specs.Number.{decimal_of};
-ghost use Rattle.text.specs.Memory.{Put};
-ghost use Rattle.text.specs.Column.{blanks, right, left, row_of, after_blanks};
-ghost use Rattle.report.specs.Lines.{margin_text};
+ghost use Rattle.text.specs.Column.{blanks, right, left};
 ghost use Rattle.page_text.specs.Names.{state_name};
-ghost use Rattle.page_text.specs.Rows.{field_room, front_columns, back_columns, tick_row, page_row, as_line, RowShown, PageShown};
+ghost use Rattle.page_text.specs.Rows.{tick_row, page_row, as_line, RowShown, PageShown};
 
-use lictor_core::reason::reason_code;
 use lictor_core::state::FuseState;
 use lictor_core::verdict::SafetyVerdict;
-use margin::{Margin, margin_of};
-use report::margin_line;
-use text::LINE;
-use text::memory::{has_room, put};
+use margin::Margin;
+use report::push_margin;
+use text::Line;
+use text::memory::show_line;
 
 // The characters of each line, without its newline.
 const WIDTH: usize = 55;
 
-// The blanks that are put at once: those after a page's number are 40.
-const BLANKS: usize = 40;
+// More blanks than are put at once.
+const BLANKS: usize = 64;
 
-fn put_blanks(out: &mut [u8], n: usize, k: usize) -> usize
-    requires { (k ≤ 40) × (n + k ≤ length out.old) }
-    ensures { Put out.old n (blanks k) result out.new }
+fn push_blanks(l: &mut Line, k: usize)
+    requires { k ≤ 64 }
+    ensures { l.new ≡ push_of l.old (blanks k) }
 {
-    let all = [b' '; BLANKS];
-    put(out, n, &all[..k])
+    l.push(&[b' '; BLANKS][..k]);
 }
 
-// The blanks that a text of n characters leaves in a field of w.
-fn blanks_left(w: usize, n: usize) -> usize
-    ensures { result ≡ w - n }
+// A text at the right of w characters, or at the left.
+fn push_right(l: &mut Line, w: usize, text: &[u8])
+    requires { w ≤ 64 }
+    ensures { l.new ≡ push_of l.old (right w text.now) }
 {
-    if n < w { w - n } else { 0 }
+    push_blanks(l, w.saturating_sub(text.len()));
+    l.push(text);
 }
 
-// A text at the right of w characters, after so many blanks.
-fn put_field(out: &mut [u8], n: usize, before: usize, w: usize, b: &[u8]) -> usize
-    requires { (before ≤ 1) × (w ≤ 10) × (length b.now ≤ 21) × (n + field_room ≤ length out.old) }
-    ensures { (Put out.old n (blanks before ++ right w b.now) result out.new) × (result ≤ n + field_room) }
+fn push_left(l: &mut Line, w: usize, text: &[u8])
+    requires { w ≤ 64 }
+    ensures { l.new ≡ push_of l.old (left w text.now) }
 {
-    let k = before + blanks_left(w, b.len());
-    let m = put_blanks(out, n, k);
-    put(out, m, b)
+    l.push(text);
+    push_blanks(l, w.saturating_sub(text.len()));
 }
 
-fn put_number(out: &mut [u8], n: usize, before: usize, w: usize, x: u64) -> usize
-    requires { (before ≤ 1) × (w ≤ 10) × (n + field_room ≤ length out.old) }
-    ensures { (Put out.old n (blanks before ++ right w (decimal_of x)) result out.new) × (result ≤ n + field_room) }
+// (The digits lie in an array first, since blanks come before them.)
+fn push_number(l: &mut Line, w: usize, x: u64)
+    requires { w ≤ 64 }
+    ensures { l.new ≡ push_of l.old (right w (decimal_of x)) }
 {
     let mut digits = [0u8; 20];
     let k = io::decimal(x, &mut digits);
-    put_field(out, n, before, w, &digits[..k])
+    push_right(l, w, &digits[..k]);
 }
 
-// The state's name, as in state.rs, at the left of 10 characters.
-fn put_name(out: &mut [u8], n: usize, s: FuseState) -> usize
-    requires { n + field_room ≤ length out.old }
-    ensures { (Put out.old n (blanks 1 ++ left 10 (state_name s)) result out.new) × (result ≤ n + field_room) }
+// The state's name, as in state.rs.
+fn name_of(s: FuseState) -> &'static [u8]
+    ensures { result.now ≡ state_name s }
 {
     match s {
-        FuseState::Idle => put(out, n, b" Idle      "),
-        FuseState::Armed => put(out, n, b" Armed     "),
-        FuseState::Watching => put(out, n, b" Watching  "),
-        FuseState::Clamped => put(out, n, b" Clamped   "),
-        FuseState::Braking => put(out, n, b" Braking   "),
-        FuseState::Held => put(out, n, b" Held      "),
-        FuseState::Escalated => put(out, n, b" Escalated "),
-        FuseState::Fault => put(out, n, b" Fault     "),
-        FuseState::Terminated => put(out, n, b" Terminated"),
+        FuseState::Idle => b"Idle",
+        FuseState::Armed => b"Armed",
+        FuseState::Watching => b"Watching",
+        FuseState::Clamped => b"Clamped",
+        FuseState::Braking => b"Braking",
+        FuseState::Held => b"Held",
+        FuseState::Escalated => b"Escalated",
+        FuseState::Fault => b"Fault",
+        FuseState::Terminated => b"Terminated",
     }
 }
 
-// The margin's text, as `fuse` prints it.
-fn put_margin(out: &mut [u8], n: usize, m: Margin) -> usize
-    requires { n + field_room ≤ length out.old }
-    ensures { (Put out.old n (blanks 1 ++ right 8 (margin_text m)) result out.new) × (result ≤ n + field_room) }
+// Six columns: seq, t, state, reason, trips, and the margin as `fuse` prints it.
+fn push_row(l: &mut Line, v: SafetyVerdict)
+    ensures { l.new ≡ push_of l.old (as_line (tick_row v)) }
 {
-    let l = margin_line(m);
-    let k = l.n;
-    let text = l.text;
-    put_field(out, n, 1, 8, &text[..k])
-}
-
-// The first three columns: seq, t, state.
-fn put_front(v: SafetyVerdict, out: &mut [u8], n: usize) -> usize
-    requires { n + line_room ≤ length out.old }
-    ensures { (Put out.old n (row_of (front_columns v)) result out.new) × (result ≤ n + 3 * field_room) }
-{
-    let state = v.state;
-    let a = put_number(out, n, 0, 10, v.seq as u64);
-    let b = put_number(out, a, 1, 10, v.t as u64);
-    put_name(out, b, state)
-}
-
-// The last three, each after a blank: reason, trips, margin.
-fn put_back(v: SafetyVerdict, out: &mut [u8], n: usize) -> usize
-    requires { n + 4 * field_room ≤ length out.old }
-    ensures { (Put out.old n (after_blanks (back_columns v)) result out.new) × (result ≤ n + 3 * field_room) }
-{
-    let reason = v.reason;
-    let code = reason_code(reason);
-    let m = margin_of(v.brake_margin);
-    let a = put_number(out, n, 1, 2, code as u64);
-    let b = put_number(out, a, 1, 10, v.trips as u64);
-    put_margin(out, b, m)
-}
-
-fn put_row(v: SafetyVerdict, out: &mut [u8], n: usize) -> usize
-    requires { n + line_room ≤ length out.old }
-    ensures { Put out.old n (as_line (tick_row v)) result out.new }
-{
-    let a = put_front(v, out, n);
-    let b = put_back(v, out, a);
-    put(out, b, b"\n")
+    push_number(l, 10, u64::from(v.seq));
+    l.push(b" ");
+    push_number(l, 10, u64::from(v.t));
+    l.push(b" ");
+    push_left(l, 10, name_of(v.state));
+    l.push(b" ");
+    push_number(l, 2, v.reason as u64);
+    l.push(b" ");
+    push_number(l, 10, u64::from(v.trips));
+    l.push(b" ");
+    let mut margin = Line::new();
+    push_margin(&mut margin, Margin::from(v.brake_margin));
+    push_right(l, 8, margin.as_bytes());
+    l.push(b"\n");
 }
 
 // Puts the row of a tick after the first n bytes, and answers where it ends.
@@ -125,20 +97,21 @@ fn put_row(v: SafetyVerdict, out: &mut [u8], n: usize) -> usize
 pub fn show_row(v: SafetyVerdict, out: &mut [u8], n: usize) -> usize
     ensures { RowShown v out.old n result out.new }
 {
-    if has_room(LINE, n, out.len()) {
-        return put_row(v, out, n);
-    }
-    n
+    let mut l = Line::new();
+    push_row(&mut l, v);
+    show_line(out, n, &l)
 }
 
-fn put_page(number: u64, out: &mut [u8], n: usize) -> usize
-    requires { n + line_room ≤ length out.old }
-    ensures { Put out.old n (as_line (page_row number)) result out.new }
+fn page_line(number: u64) -> Line
+    ensures { result ≡ line_of (as_line (page_row number)) }
 {
-    let a = put(out, n, b"page ");
-    let b = put_number(out, a, 0, 10, number);
-    let c = put_blanks(out, b, blanks_left(WIDTH, b - n));
-    put(out, c, b"\n")
+    let mut l = Line::new();
+    l.push(b"page ");
+    push_number(&mut l, 10, number);
+    let n = l.as_bytes().len();
+    push_blanks(&mut l, WIDTH.saturating_sub(n));
+    l.push(b"\n");
+    l
 }
 
 // Puts the line of a page's number after the first n bytes, and answers where it ends.
@@ -146,8 +119,5 @@ fn put_page(number: u64, out: &mut [u8], n: usize) -> usize
 pub fn show_page(number: u64, out: &mut [u8], n: usize) -> usize
     ensures { PageShown number out.old n result out.new }
 {
-    if has_room(LINE, n, out.len()) {
-        return put_page(number, out, n);
-    }
-    n
+    show_line(out, n, &page_line(number))
 }

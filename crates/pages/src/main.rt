@@ -4,8 +4,9 @@
 // All that matters is in the libraries (crates/console).
 #![tactic(auto)]
 
+use printer::pages::Pages;
 use std::rt::HostRuntime;
 
 fn main(rt: HostRuntime) {
-    console::play(&rt, b"pages", printer::PAGES);
+    console::play::<Pages>(&rt, b"pages");
 }

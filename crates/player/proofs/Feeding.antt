@@ -10,7 +10,7 @@ use lib.Ieee.{Float}
 use borrow.Author.Tests.{leb-true, leb-false}
 use Rattle.lictor_core.specs.declared.fuse.TickInput.{TickInput}
 use Rattle.journal_refusals.specs.declared.Refusal.{Refusal}
-use Rattle.journal_refusals.specs.Table.{number_of}
+use Rattle.std.specs.Prelude.{Option, None, Some}
 use Rattle.journal_records.specs.Long.{settings_of}
 use Rattle.journal_frames.specs.Frames.{body_of}
 use Rattle.stream.specs.Stream.{Next, wait, halt, go, tell, awaits, halted, Settled, telling, settled, Advanced, advanced, goes_on, size}
@@ -140,7 +140,7 @@ module _ (kinds : List ℕ) (sh : Shows) (p : Played) (l : List Float) (s : List
 
   -- before the instruction, with its end for the place
   abbrev here : Played
-  here = record { reader = a.reader; run = p.run; notes = p.notes; at = at + a.end; n = p.n; more = true; refused = 0 }
+  here = record { reader = a.reader; run = p.run; notes = p.notes; at = at + a.end; n = p.n; more = true; refused = None }
 
   module _ (out : List ℕ) (room : p.n + event_room ≤ length out) where
     abbrev play : Playing → List ℕ → Next Playing Instruction Stop
@@ -151,11 +151,11 @@ module _ (kinds : List ℕ) (sh : Shows) (p : Played) (l : List Float) (s : List
 
     -- ---- no instruction
 
-    module _ (number : ℕ) where
+    module _ (why : Option Refusal) where
       abbrev over : Played
-      over = record { reader = a.reader; run = p.run; notes = p.notes; at = at + a.end; n = p.n; more = false; refused = number }
+      over = record { reader = a.reader; run = p.run; notes = p.notes; at = at + a.end; n = p.n; more = false; refused = why }
 
-      over_by : a.end ≡ a.used → Stopped kinds (length out) (playing_of sh over l') (drop i s) false number → PlayedOn kinds sh p l s out over l' out
+      over_by : a.end ≡ a.used → Stopped kinds (length out) (playing_of sh over l') (drop i s) false why → PlayedOn kinds sh p l s out over l' out
       unfolding text_by printed printer_after_all
       over_by z q =
           let k : at + a.end ≡ i = omega (arith, z) in
@@ -174,26 +174,26 @@ module _ (kinds : List ℕ) (sh : Shows) (p : Played) (l : List Float) (s : List
             stops = λ y. rw k q;
           }
 
-    pub on_waits : a.what ≡ W.Waits → PlayedOn kinds sh p l s out (over 0) l' out
+    pub on_waits : a.what ≡ W.Waits → PlayedOn kinds sh p l s out (over None) l' out
     unfolding with_text
     on_waits y =
         let w = what_waits (on_bytes kinds v (drop i s)) (ap goes_on next_is ∙ there.stops) (sym what_is ∙ y) in
-        over_by 0 (omega (arith, size_is, ap size w)) (record {
+        over_by None (omega (arith, size_is, ap size w)) (record {
           end = awaits;
           stays = settled_wait play (play_there kinds (length out)) (playing_of sh here l') (drop i s) (play_room kinds (length out) (playing_of sh here l') (drop i s) room wait w);
           more_is = refl;
           refused_is = refl;
         })
 
-    pub on_refuses : (r : Refusal) → a.what ≡ W.Refuses r → (number : ℕ) → number ≡ number_of r → PlayedOn kinds sh p l s out (over number) l' out
+    pub on_refuses : (r : Refusal) → a.what ≡ W.Refuses r → PlayedOn kinds sh p l s out (over (Some r)) l' out
     unfolding with_text
-    on_refuses r y number m =
+    on_refuses r y =
         let w = what_refuses (on_bytes kinds v (drop i s)) r (sym what_is ∙ y) in
-        over_by number (omega (arith, size_is, ap size w)) (record {
+        over_by (Some r) (omega (arith, size_is, ap size w)) (record {
           end = halted (refuses r);
           stays = settled_halt play (play_there kinds (length out)) (playing_of sh here l') (drop i s) (refuses r) (play_room kinds (length out) (playing_of sh here l') (drop i s) room (halt r) w);
           more_is = refl;
-          refused_is = m;
+          refused_is = refl;
         })
 
     -- ---- an instruction, which leaves the reader so
@@ -297,9 +297,9 @@ unfolding goes_on_of
 goes_on_is t n room m e y = more_by t n room (has_room event_room n room) refl (sym e ∙ y)
 
 -- nothing more to do: no more is to be had, or there is no room
-module _ (kinds : List ℕ) (room : ℕ) (p : Playing) (s : List ℕ) (number : ℕ) where
-  over_room : (t : Bool) → (t ≡ true → number ≡ 0) → (t ≡ false → Stopped kinds room p s t number)
-      → (b : Bool) → has_room event_room p.n room ≡ b → cond b t false ≡ false → Stopped kinds room p s t number
+module _ (kinds : List ℕ) (room : ℕ) (p : Playing) (s : List ℕ) (why : Option Refusal) where
+  over_room : (t : Bool) → (t ≡ true → why ≡ None) → (t ≡ false → Stopped kinds room p s t why)
+      → (b : Bool) → has_room event_room p.n room ≡ b → cond b t false ≡ false → Stopped kinds room p s t why
   over_room false none stops b e y = stops refl
   over_room true none stops true e y = impossible cc
   over_room true none stops false e y = record {
@@ -309,7 +309,7 @@ module _ (kinds : List ℕ) (room : ℕ) (p : Playing) (s : List ℕ) (number : 
     refused_is = none refl;
   }
 
-  over_is : (t : Bool) (m : Bool) → m ≡ goes_on_of t p.n room → (t ≡ true → number ≡ 0) → (t ≡ false → Stopped kinds room p s t number) → m ≡ false → Stopped kinds room p s t number
+  over_is : (t : Bool) (m : Bool) → m ≡ goes_on_of t p.n room → (t ≡ true → why ≡ None) → (t ≡ false → Stopped kinds room p s t why) → m ≡ false → Stopped kinds room p s t why
   unfolding goes_on_of
   over_is t m e none stops y = over_room t none stops (has_room event_room p.n room) refl (sym e ∙ y)
 
@@ -317,25 +317,24 @@ module _ (kinds : List ℕ) (room : ℕ) (p : Playing) (s : List ℕ) (number : 
 
 -- before the first record
 abbrev first : Playing → Played
-first p = record { reader = p.state.reader; run = p.run; notes = p.printer.notes; at = 0; n = 0; more = true; refused = 0 }
+first p = record { reader = p.state.reader; run = p.run; notes = p.printer.notes; at = 0; n = 0; more = true; refused = None }
 
--- what was played so far, from p to r: where there is more to do, there is room; where it is over,
--- no more records are taken
-pub record Since (kinds : List ℕ) (sh : Shows) (p : Played) (l₀ : List Float) (s out₀ : List ℕ) (r : Played) (l : List Float) (out : List ℕ) (more : Bool) : Type 0 where
+-- what was played so far, from p to r, and where no more is to be had, why
+pub record Since (kinds : List ℕ) (sh : Shows) (p : Played) (l₀ : List Float) (s out₀ : List ℕ) (r : Played) (l : List Float) (out : List ℕ) : Type 0 where
   pub told : List Instruction
   pub plays : PlayedUpTo kinds sh (length out₀) p l₀ s out₀ told r l out
   pub long : length out ≡ length out₀
-  pub room : more ≡ true → r.n + event_room ≤ length out
-  pub over : more ≡ false → Stopped kinds (length out₀) (playing_of sh r l) (drop r.at s) r.more r.refused
+  pub none : r.more ≡ true → r.refused ≡ None
+  pub stops : r.more ≡ false → Stopped kinds (length out₀) (playing_of sh r l) (drop r.at s) r.more r.refused
 
-pub since_first : (kinds : List ℕ) (p : Playing) (s out : List ℕ) (more : Bool) → more ≡ goes_on_of true 0 (length out) → Since kinds p.printer.shows (first p) p.state.lists s out (first p) p.state.lists out more
+pub since_first : (kinds : List ℕ) (p : Playing) (s out : List ℕ) → Since kinds p.printer.shows (first p) p.state.lists s out (first p) p.state.lists out
 unfolding text_by printed printer_after_all
-since_first kinds p s out more e = record {
+since_first kinds p s out = record {
   told = [];
   plays = record { from = omega arith; within = omega arith; goes = refl; run_is = refl; printer_is = refl; text = put_none out 0 };
   long = refl;
-  room = λ y. (goes_on_is true 0 (length out) more e y).1;
-  over = over_is kinds (length out) (playing_of p.printer.shows (first p) p.state.lists) s 0 true more e (λ y. refl) (λ y. impossible cc);
+  none = λ y. refl;
+  stops = λ y. impossible cc;
 }
 
 -- one way after the other
@@ -360,19 +359,16 @@ plays_on kinds sh room p l s out told q l' out' more r l'' out'' h x y =
           (rw (x.printer_is, x.run_is) at y.text));
     }
 
-pub since_more : (kinds : List ℕ) (sh : Shows) (p : Played) (l₀ : List Float) (s out₀ : List ℕ) (q : Played) (l : List Float) (out : List ℕ) (more : Bool) (r : Played) (l' : List Float)
-    (out' : List ℕ) (more' : Bool) → p.n ≤ length out₀ → length out' ≡ length out → Since kinds sh p l₀ s out₀ q l out more
-    → PlayedOn kinds sh q l s out r l' out' → more' ≡ goes_on_of r.more r.n (length out') → Since kinds sh p l₀ s out₀ r l' out' more'
-since_more kinds sh p l₀ s out₀ q l out more r l' out' more' h k i o y =
+pub since_more : (kinds : List ℕ) (sh : Shows) (p : Played) (l₀ : List Float) (s out₀ : List ℕ) (q : Played) (l : List Float) (out : List ℕ) (r : Played) (l' : List Float) (out' : List ℕ)
+    → p.n ≤ length out₀ → length out' ≡ length out → Since kinds sh p l₀ s out₀ q l out → PlayedOn kinds sh q l s out r l' out' → Since kinds sh p l₀ s out₀ r l' out'
+since_more kinds sh p l₀ s out₀ q l out r l' out' h k i o =
     let on : PlayedUpTo kinds sh (length out₀) q l s out o.told r l' out' = rw i.long at o.plays in
     record {
       told = i.told ++ o.told;
       plays = plays_on kinds sh (length out₀) p l₀ s out₀ i.told q l out o.told r l' out' h i.plays on;
       long = k ∙ i.long;
-      room = λ m. (goes_on_is r.more r.n (length out') more' y m).1;
-      over =
-          over_is kinds (length out₀) (playing_of sh r l') (drop r.at s) r.refused r.more more'
-          (y ∙ ap (goes_on_of r.more r.n) (k ∙ i.long)) o.none (rw i.long at o.stops);
+      none = o.none;
+      stops = rw i.long at o.stops;
     }
 
 -- text at the front of memory
@@ -380,11 +376,11 @@ put_front : (out s : List ℕ) (r : ℕ) (out' : List ℕ) → Put out 0 s r out
 put_front out s r out' p = let z : 0 + length s ≡ length s = omega arith in p.memory ∙ ap₂ (λ (x : List ℕ) (k : ℕ). x ++ drop k out) (take-length s) z
 
 -- where it is over, that is what the bytes are played to
-pub fed_is : (kinds : List ℕ) (p : Playing) (s out : List ℕ) (r : Played) (l : List Float) (out' : List ℕ) (more : Bool) → p.n ≡ 0 → more ≡ false → Since kinds p.printer.shows (first p) p.state.lists s out r l out' more
-    → Fed kinds p s out r l out'
+pub fed_is : (kinds : List ℕ) (p : Playing) (s out : List ℕ) (r : Played) (l : List Float) (out' : List ℕ) (more : Bool) → p.n ≡ 0 → more ≡ goes_on_of r.more r.n (length out') → more ≡ false
+    → Since kinds p.printer.shows (first p) p.state.lists s out r l out' → Fed kinds p s out r l out'
 unfolding fed_of played_of
-fed_is kinds p s out r l out' more none y i =
-    let o = i.over y in
+fed_is kinds p s out r l out' more none g y i =
+    let o = over_is kinds (length out) (playing_of p.printer.shows r l) (drop r.at s) r.refused r.more more (g ∙ ap (goes_on_of r.more r.n) i.long) i.none i.stops y in
     let q : p ≡ playing_of p.printer.shows (first p) p.state.lists = ap (λ (k : ℕ). record { state = p.state; run = p.run; printer = p.printer; n = k }) none in
     let a : Settled Playing Instruction Stop = record { state = playing_of p.printer.shows r l; rest = drop r.at s; told = i.told; end = o.end } in
     let e : fed_of kinds p s (length out) ≡ a

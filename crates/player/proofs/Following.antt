@@ -100,10 +100,10 @@ module _ (kinds : List ℕ) (room : ℕ) where
       rw (settled_halt play (play_there kinds room) p s full (play_full kinds room p s o)) (follows_none p s (halted full) (λ y. impossible cc) (λ k y. omega arith))
   follows_by f ih p s l true h wait e =
       rw (settled_wait play (play_there kinds room) p s (play_room kinds room p s (leb-true (p.n + event_room) room h) wait e))
-      (follows_none p s awaits (λ y. record { end = awaits; number_is = refl; rests = settled_wait (on_bytes kinds) (machine kinds).there p.state s e }) (λ k y. impossible cc))
+      (follows_none p s awaits (λ y. settled_wait (on_bytes kinds) (machine kinds).there p.state s e) (λ k y. impossible cc))
   follows_by f ih p s l true h (halt r) e =
       rw (settled_halt play (play_there kinds room) p s (refuses r) (play_room kinds room p s (leb-true (p.n + event_room) room h) (halt r) e))
-      (follows_none p s (halted (refuses r)) (λ y. record { end = halted r; number_is = refl; rests = settled_halt (on_bytes kinds) (machine kinds).there p.state s r e }) (λ k y. impossible cc))
+      (follows_none p s (halted (refuses r)) (λ y. settled_halt (on_bytes kinds) (machine kinds).there p.state s r e) (λ k y. impossible cc))
   follows_by f ih p s l true h (go st k) e =
       let b = goes (on_bytes kinds) (machine kinds).there p.state s st k e in
       rw (settled_go play (play_there kinds room) p s (with_reading p st) k (play_room kinds room p s (leb-true (p.n + event_room) room h) (go st k) e))

@@ -1,8 +1,7 @@
 -- What bytes that are at hand are played to: a journal whose instructions are obeyed, one after the
 -- other, while the text of their events goes to memory (01-scope.md, Journal, the program `fuse`).
-use Rattle.std.specs.Prelude.{Bool, true, false, cond, List, [], ◌++◌, ◌≡◌, ℕ, ◌+◌, ◌-◌, ◌≤◌, ◌<◌, Float, length, drop}
+use Rattle.std.specs.Prelude.{Bool, true, false, cond, Option, None, Some, List, [], ◌++◌, ◌≡◌, ℕ, ◌+◌, ◌-◌, ◌≤◌, ◌<◌, Float, length, drop}
 use Rattle.journal_refusals.specs.declared.Refusal.{Refusal}
-use Rattle.journal_refusals.specs.Table.{number_of}
 use Rattle.stream.specs.Stream.{Next, wait, halt, go, tell, End, awaits, halted, Settled, telling, settled}
 use Rattle.journal_reader.specs.declared.waiting.Reader.{Reader}
 use Rattle.journal_reader.specs.State.{State}
@@ -65,11 +64,11 @@ is_full awaits = false
 is_full (halted (refuses r)) = false
 is_full (halted full) = true
 
--- the number of a refusal, or 0
-abbrev pub refused_by : End Stop → ℕ
-refused_by awaits = 0
-refused_by (halted (refuses r)) = number_of r
-refused_by (halted full) = 0
+-- the refusal
+abbrev pub refused_by : End Stop → Option Refusal
+refused_by awaits = None
+refused_by (halted (refuses r)) = Some r
+refused_by (halted full) = None
 
 unfoldable pub played_of : List ℕ → Settled Playing Instruction Stop → Played
 played_of s a = record {
@@ -99,17 +98,14 @@ playing_from p rd run l = record { state = record { reader = rd; lists = l }; ru
 
 -- ---- where a reader rests
 
--- why no more is to be had of some bytes, as a number: 0 where more bytes may come, or that of the
--- refusal
-abbrev pub number_at : End Refusal → ℕ
-number_at awaits = 0
-number_at (halted r) = number_of r
+-- why no more is to be had of some bytes: more bytes may come, or one is refused
+abbrev pub end_at : Option Refusal → End Refusal
+end_at None = awaits
+end_at (Some r) = halted r
 
--- of s nothing can be taken: the reader stays where it is, and `number` says why
-pub record Rests (kinds : List ℕ) (st : State) (s : List ℕ) (number : ℕ) : Type 0 where
-  pub end : End Refusal
-  pub number_is : number ≡ number_at end
-  pub rests : settled (on_bytes kinds) st s ≡ record { state = st; rest = s; told = []; end = end }
+-- of s nothing can be taken: the reader stays where it is, and why
+abbrev pub Rests : List ℕ → State → List ℕ → Option Refusal → Type 0
+Rests kinds st s why = settled (on_bytes kinds) st s ≡ record { state = st; rest = s; told = []; end = end_at why }
 
 -- ---- what its own functions promise each other
 
@@ -140,7 +136,7 @@ abbrev pub playing_of : Shows → Played → List Float → Playing
 playing_of w r l = record { state = record { reader = r.reader; lists = l }; run = r.run; printer = showing w r.notes; n = r.n }
 
 -- before all of s no record is taken, and why
-pub record Stopped (kinds : List ℕ) (room : ℕ) (p : Playing) (s : List ℕ) (more : Bool) (refused : ℕ) : Type 0 where
+pub record Stopped (kinds : List ℕ) (room : ℕ) (p : Playing) (s : List ℕ) (more : Bool) (refused : Option Refusal) : Type 0 where
   pub end : End Stop
   pub stays : settled (play_of kinds room) p s ≡ record { state = p; rest = s; told = []; end = end }
   pub more_is : more ≡ is_full end
@@ -161,5 +157,5 @@ pub record PlayedOn (kinds : List ℕ) (w : Shows) (p : Played) (l : List Float)
   pub told : List Instruction
   pub plays : PlayedUpTo kinds w (length out) p l s out told r l' out'
   pub further : r.more ≡ true → p.at < r.at
-  pub none : r.more ≡ true → r.refused ≡ 0
+  pub none : r.more ≡ true → r.refused ≡ None
   pub stops : r.more ≡ false → Stopped kinds (length out) (playing_of w r l') (drop r.at s) r.more r.refused

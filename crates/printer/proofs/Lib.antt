@@ -3,3 +3,4 @@ pub mod Rooms
 pub mod Parts
 pub mod Fifties
 pub mod Widths
+pub mod Numbers

@@ -1,13 +1,13 @@
 -- The text of an event and that of an ending have room; and what their texts in memory are.
 use Prim.Native.Nat.{ℕ, zero, suc, ◌+◌, ◌*◌, ◌≤◌, ◌<◌}
-use mathlib.Core.Bool.{Bool, true, false, cond, ◌&&◌}
-use mathlib.Core.Path.{◌≡◌, refl, sym, ap, ◌∙◌}
+use mathlib.Core.Bool.{Bool, true, false, cond}
+use mathlib.Core.Path.{◌≡◌, refl, ap, ◌∙◌}
 use mathlib.Core.List.{List, [], ◌++◌, append-nil}
 use native.Mathlib.Omega.{arith}
-use native.Mathlib.Decide.{dec_le}
 use borrow.Author.Tests.{eq-eqb, ne_eqb, le-leb, lt-leb}
-use lib.Dec.{eqb, leb}
+use lib.Dec.{eqb}
 use lib.Ieee.{Float}
+use Rattle.std.specs.Prelude.{Option, None, Some}
 use lib.ListN.{length, length-append, length-take, take}
 use Rattle.lictor_core.specs.declared.envelope.FuseConfig.{FuseConfig}
 use Rattle.lictor_core.specs.declared.fuse.FuseRt.{FuseRt}
@@ -15,7 +15,6 @@ use Rattle.lictor_core.specs.declared.tally.Tally.{Tally}
 use Rattle.lictor_core.specs.declared.verdict.SafetyVerdict.{SafetyVerdict}
 use Rattle.journal_refusals.specs.declared.Refusal.{Refusal}
 use Rattle.journal_refusals.specs.Table.{number_of}
-use Rattle.journal_refusals.proofs.Exactly.{numbers}
 use Rattle.journal.specs.declared.tick.Run.{Run}
 use Rattle.journal.specs.Events.{Event, began, restarted, ticked, width_given}
 use Rattle.journal.specs.Journal.{Ending, ended, refused}
@@ -30,15 +29,14 @@ use Rattle.report.specs.Text.{trace_room, trace_up_to}
 use Rattle.report.proofs.Fits.{tick_fits, end_fits, refused_fits}
 use Rattle.page_text.specs.Rows.{tick_row, page_row, as_line, RowShown, PageShown}
 use Rattle.page_text.proofs.Rows.{tick_row_fits, page_row_fits}
-use Rattle.proximity_text.specs.declared.Before.{Before}
-use Rattle.proximity_text.specs.Near.{dims_of, inside_of}
+use Rattle.proximity_text.specs.Near.{dims_of}
 use Rattle.proximity_text.specs.Lines.{lines_of, lines_room, LinesShown}
 use Rattle.proximity_text.proofs.Laws.{lines_fit}
 use Rattle.printer.specs.declared.Channel.TheVariants.{Output}
 use Rattle.printer.specs.declared.Measure.{Measure}
 use Rattle.printer.specs.declared.Notes.{Notes}
 use Rattle.printer.specs.declared.Shown.{Shown}
-use Rattle.printer.specs.Printer.{Shows, lines, trace, pages, proximity, trace_code, pages_code, proximity_code, shows_by, Printer, page_rows, next_page, fills, after_tick, tick_on_page, page_closed, is_clean, tick_lines, with_inside, measure_after, tick_shown, shown_text, remembered, closing_text, end_shown, ending_text, ending_on, ending_by, channel_by, event_room, ending_room, silent_shown, shown_at, memory_at, ShownIn, EndedIn}
+use Rattle.printer.specs.Printer.{Shows, lines, trace, pages, proximity, Printer, fills, tick_on_page, page_closed, is_clean, width_lines, tick_lines, tick_shown, shown_text, remembered, closing_text, end_shown, ending_text, ending_on, ending_by, channel_by, event_room, ending_room, silent_shown, shown_at, memory_at, ShownIn, EndedIn}
 
 -- ---- room
 
@@ -54,9 +52,10 @@ page_maybe_fits true n = page_row_fits n
 page_maybe_fits false n = omega arith
 
 -- the lines of components, where there are some
-tick_lines_fit : (b : Bool) (cfg : FuseConfig) (x : Before) (t : ℕ) (pos : List Float) → length (cond b (lines_of cfg x t pos) []) ≤ lines_room
-tick_lines_fit true cfg x t pos = omega (arith, lines_fit x t cfg.box_lo cfg.box_hi pos (dims_of cfg))
-tick_lines_fit false cfg x t pos = omega arith
+tick_lines_fit : (b : Bool) (w : Option Float) (was : List Bool) (pos : List Float) (v : SafetyVerdict) (cfg : FuseConfig) → length (cond b (width_lines w was pos v cfg) []) ≤ lines_room
+tick_lines_fit true (Some w) was pos v cfg = omega (arith, lines_fit (record { width = w; inside = was }) v.t cfg.box_lo cfg.box_hi pos (dims_of cfg))
+tick_lines_fit true None was pos v cfg = omega arith
+tick_lines_fit false w was pos v cfg = omega arith
 
 tick_shown_fits : (w : Shows) (m : Notes) (pos : List Float) (guard : ℕ) (v : SafetyVerdict) (run : Run) → length (tick_shown w m pos guard v run) ≤ event_room
 tick_shown_fits lines m pos guard v run = omega (arith, tick_fits v)
@@ -65,7 +64,7 @@ tick_shown_fits trace m pos guard v run =
     omega (arith, tick_fits v, trace_fits trace_count v rt, length-append (tick_text v) (trace_up_to trace_count v rt))
 tick_shown_fits proximity m pos guard v run =
     let x = m.measure in
-    omega (arith, tick_lines_fit (is_clean guard && x.given) run.config x.before v.t pos)
+    omega (arith, tick_lines_fit (is_clean guard) x.width x.inside pos v run.config)
 tick_shown_fits pages m pos guard v run =
     omega (arith, tick_row_fits v, page_maybe_fits (fills m) m.page, length-append (as_line (tick_row v)) (cond (fills m) (as_line (page_row m.page)) []))
 
@@ -141,66 +140,7 @@ module _ (out : List ℕ) (n : ℕ) (p : Printer) (e : Event) where
       let y = le-leb (n + event_room) (length out) h in
       (ap (λ (x : Shown). x.notes) (rw y at q.answer), put_with event_room out n (shown_text p e) h r.n out' (ap (λ (x : Shown). x.n) q.answer, q.memory))
 
--- ---- what is shown, by its number
-
-pub shows_trace : (code : ℕ) → code ≡ trace_code → shows_by code ≡ trace
-unfolding shows_by
-shows_trace code e = rw (eq-eqb code trace_code e) refl
-
-pub shows_pages : (code : ℕ) → code ≡ pages_code → shows_by code ≡ pages
-unfolding shows_by
-shows_pages code e = rw (ne_eqb code trace_code (λ z. omega (arith, z, e)), eq-eqb code pages_code e) refl
-
-pub shows_proximity : (code : ℕ) → code ≡ proximity_code → shows_by code ≡ proximity
-unfolding shows_by
-shows_proximity code e = rw (ne_eqb code trace_code (λ z. omega (arith, z, e)), ne_eqb code pages_code (λ z. omega (arith, z, e)), eq-eqb code proximity_code e) refl
-
-pub shows_lines : (code : ℕ) → (code ≡ trace_code → ⊥) → (code ≡ pages_code → ⊥) → (code ≡ proximity_code → ⊥) → shows_by code ≡ lines
-unfolding shows_by
-shows_lines code e f g = rw (ne_eqb code trace_code e, ne_eqb code pages_code f, ne_eqb code proximity_code g) refl
-
--- what holds of those that are not pages, and of those that are not proximity
-pub unless_pages : (code : ℕ) → (code ≡ pages_code → ⊥) → (P : Shows → Type 0) → P lines → P trace → P proximity → P (shows_by code)
-unfolding shows_by
-unless_pages code f P l t x = rw (ne_eqb code pages_code f) (go (eqb code trace_code) (eqb code proximity_code))
-  where
-    go : (b d : Bool) → P (cond b trace (cond d proximity lines))
-    go true d = t
-    go false true = x
-    go false false = l
-
-pub unless_proximity : (code : ℕ) → (code ≡ proximity_code → ⊥) → (P : Shows → Type 0) → P lines → P trace → P pages → P (shows_by code)
-unfolding shows_by
-unless_proximity code f P l t p = rw (ne_eqb code proximity_code f) (go (eqb code trace_code) (eqb code pages_code))
-  where
-    go : (b d : Bool) → P (cond b trace (cond d pages lines))
-    go true d = t
-    go false true = p
-    go false false = l
-
--- of the two that are neither
-pub unless_either : (code : ℕ) → (code ≡ pages_code → ⊥) → (code ≡ proximity_code → ⊥) → (P : Shows → Type 0) → P lines → P trace → P (shows_by code)
-unfolding shows_by
-unless_either code f g P l t = rw (ne_eqb code pages_code f, ne_eqb code proximity_code g) (go (eqb code trace_code))
-  where
-    go : (b : Bool) → P (cond b trace lines)
-    go true = t
-    go false = l
-
 -- ---- a page, row by row
-
-pub fills_by : (m : Notes) → leb 49 m.rows ≡ fills m
-fills_by m = go (dec_le 49 m.rows)
-  where
-    go : Dec (49 ≤ m.rows) → leb 49 m.rows ≡ fills m
-    go (yes h) = le-leb 49 m.rows h ∙ sym (le-leb page_rows (m.rows + 1) (omega arith))
-    go (no h) = lt-leb 49 m.rows (omega arith) ∙ sym (lt-leb page_rows (m.rows + 1) (omega arith))
-
-pub after_full : (m : Notes) (k : ℕ) → fills m ≡ true → k ≡ next_page m.page → record { rows = 0; page = k; measure = m.measure } ≡ after_tick m
-after_full m k b e = rw (b, e) refl
-
-pub after_more : (m : Notes) → fills m ≡ false → record { rows = m.rows + 1; page = m.page; measure = m.measure } ≡ after_tick m
-after_more m b = rw b refl
 
 pub closed_none : (m : Notes) (out : List ℕ) → m.rows ≡ 0 → Put out 0 (page_closed m) 0 out
 closed_none m out e = rw (eq-eqb m.rows 0 e) (put_none out 0)
@@ -212,28 +152,28 @@ closed_page m out e h r out' p = rw (ne_eqb m.rows 0 e) (put_with line_room out 
 
 module _ (x : Measure) (pos : List Float) (guard : ℕ) (v : SafetyVerdict) (cfg : FuseConfig) (out : List ℕ) (n : ℕ) where
   -- a fault tick, or no width yet: nothing is put
-  pub no_tick_lines : (is_clean guard && x.given) ≡ false → Put out n (tick_lines x pos guard v cfg) n out
-  no_tick_lines e = rw e (put_none out n)
+  pub fault_lines : is_clean guard ≡ false → Put out n (tick_lines x pos guard v cfg) n out
+  fault_lines e = rw e (put_none out n)
 
-  pub some_tick_lines : (is_clean guard && x.given) ≡ true → n + event_room ≤ length out → (r : ℕ) (out' : List ℕ) → LinesShown cfg x.before v.t pos out n r out'
-      → Put out n (tick_lines x pos guard v cfg) r out'
-  some_tick_lines e h r out' q = rw e (put_with lines_room out n (lines_of cfg x.before v.t pos) (omega (arith, h)) r out' (q.ends, q.memory))
+  by_width : (b : Bool) → Put out n (cond b [] []) n out
+  by_width true = put_none out n
+  by_width false = put_none out n
 
--- what is remembered of a clean tick, and of a fault tick
-module _ (x : Measure) (pos : List Float) (guard : ℕ) (cfg : FuseConfig) where
-  pub after_clean : is_clean guard ≡ true → (y : Measure) → y ≡ with_inside x (inside_of cfg pos) → y ≡ measure_after x pos guard cfg
-  after_clean e y q = rw e q
+  pub no_width_lines : x.width ≡ None → Put out n (tick_lines x pos guard v cfg) n out
+  no_width_lines e = rw e (by_width (is_clean guard))
 
-  pub after_fault : is_clean guard ≡ false → x ≡ measure_after x pos guard cfg
-  after_fault e = rw e refl
+  pub some_tick_lines : is_clean guard ≡ true → (w : Float) → x.width ≡ Some w → n + event_room ≤ length out → (r : ℕ) (out' : List ℕ)
+      → LinesShown cfg (record { width = w; inside = x.inside }) v.t pos out n r out' → Put out n (tick_lines x pos guard v cfg) r out'
+  some_tick_lines e w z h r out' q =
+      rw (e, z) (put_with lines_room out n (lines_of cfg (record { width = w; inside = x.inside }) v.t pos) (omega (arith, h)) r out' (q.ends, q.memory))
 
 -- ---- a line in memory
 
 module _ (l : Line) (s : List ℕ) (e : l ≡ line_of s) (f : length s ≤ line_room) where
   pub line_put : (out : List ℕ) (n : ℕ) → n + line_room ≤ length out → (r : ℕ) (out' : List ℕ)
-      → (r ≡ place_put (length out) n (take l.n l.text)) × (out' ≡ memory_put out n (take l.n l.text)) → Put out n s r out'
+      → (r ≡ place_put (length out) n l) × (out' ≡ memory_put out n l) → Put out n s r out'
   line_put out n h r out' q =
-      let shows : take l.n l.text ≡ s = ap (λ (x : Line). take x.n x.text) e ∙ line_text s f in
+      let shows : l ≡ s = e ∙ line_text s f in
       put_there out n s (omega (arith, h, f)) r out' (rw shows at q)
 
 -- the row of a tick, and the line of the page that it fills
@@ -251,52 +191,39 @@ module _ (m : Notes) (v : SafetyVerdict) (out : List ℕ) (n : ℕ) (h : n + eve
       rw b (put_on out n (as_line (tick_row v)) k out₁ line r out₂ (omega (arith, h)) row_there there)
 
 -- the line of a tick, and the trace after it
-module _ (w : Shows) (m : Notes) (pos : List Float) (guard : ℕ) (v : SafetyVerdict) (run : Run) (out : List ℕ) (n : ℕ) (h : n + event_room ≤ length out) (k : ℕ) (out' : List ℕ)
+module _ (v : SafetyVerdict) (out : List ℕ) (n : ℕ) (h : n + event_room ≤ length out) (k : ℕ) (out' : List ℕ)
     (q : (k ≡ place_with line_room (length out) n (tick_text v)) × (out' ≡ memory_with line_room out n (tick_text v))) where
-  line_there : Put out n (tick_text v) k out'
+  pub line_there : Put out n (tick_text v) k out'
   line_there = put_with line_room out n (tick_text v) (omega (arith, h)) k out' q
 
-  pub lines_shown : w ≡ lines → Put out n (tick_shown w m pos guard v run) k out'
-  lines_shown e = rw e line_there
-
-  pub trace_shown : w ≡ trace → length out' ≡ length out → (r : ℕ) (out'' : List ℕ)
-      → (r ≡ place_with trace_room (length out') k (trace_up_to trace_count v run.rt)) × (out'' ≡ memory_with trace_room out' k (trace_up_to trace_count v run.rt))
-      → Put out n (tick_shown w m pos guard v run) r out''
-  trace_shown e l r out'' z =
-      let rt = run.rt in
+  pub trace_there : (rt : FuseRt) → length out' ≡ length out → (r : ℕ) (out'' : List ℕ)
+      → (r ≡ place_with trace_room (length out') k (trace_up_to trace_count v rt)) × (out'' ≡ memory_with trace_room out' k (trace_up_to trace_count v rt))
+      → Put out n (tick_text v ++ trace_up_to trace_count v rt) r out''
+  trace_there rt l r out'' z =
       let there = put_with trace_room out' k (trace_up_to trace_count v rt) (omega (arith, h, l, line_there.ends, tick_fits v)) r out'' z in
-      rw e (put_on out n (tick_text v) k out' (trace_up_to trace_count v rt) r out'' (omega (arith, h)) line_there there)
+      put_on out n (tick_text v) k out' (trace_up_to trace_count v rt) r out'' (omega (arith, h)) line_there there
 
 -- ---- an ending by its number
 
 module _ (p : Printer) (run : Run) (place : ℕ) where
-  pub ended_by : ending_by p run 0 place ≡ ending_text p run ended
+  pub ended_by : ending_by p run None place ≡ ending_text p run ended
   unfolding ending_by ending_text
   ended_by = refl
 
-  pub refused_by_lem : (r : Refusal) → ending_by p run (number_of r) place ≡ ending_text p run (refused r place)
+  pub refused_by_lem : (r : Refusal) → ending_by p run (Some (number_of r)) place ≡ ending_text p run (refused r place)
   unfolding ending_by ending_text
-  refused_by_lem r = rw (ne_eqb (number_of r) 0 (λ z. omega (arith, z, (numbers r).0))) refl
-
-  -- the two texts that it can be
-  pub end_by : (number : ℕ) → number ≡ 0 → closing_text p.shows p.notes ++ end_shown p.shows run.rt.tally ≡ ending_by p run number place
-  unfolding ending_by
-  end_by number z = rw (eq-eqb number 0 z) refl
-
-  pub refusal_by_lem : (number : ℕ) → (number ≡ 0 → ⊥) → closing_text p.shows p.notes ++ refused_text number place ≡ ending_by p run number place
-  unfolding ending_by
-  refusal_by_lem number z = rw (ne_eqb number 0 z) refl
+  refused_by_lem r = refl
 
 -- ---- its channel by its number
 
-pub ended_on : (w : Shows) → channel_by w 0 ≡ ending_on w ended
+pub ended_on : (w : Shows) → channel_by w None ≡ ending_on w ended
 unfolding channel_by
 ended_on lines = refl
 ended_on trace = refl
 ended_on pages = refl
 ended_on proximity = refl
 
-pub refused_on : (w : Shows) (r : Refusal) (place : ℕ) → channel_by w (number_of r) ≡ ending_on w (refused r place)
+pub refused_on : (w : Shows) (r : Refusal) (place : ℕ) → channel_by w (Some (number_of r)) ≡ ending_on w (refused r place)
 unfolding channel_by
 refused_on lines r place = refl
 refused_on trace r place = refl
@@ -304,7 +231,7 @@ refused_on pages r place = refl
 refused_on proximity r place = refl
 
 -- which is standard output, whatever is shown
-pub on_output : (w : Shows) (number : ℕ) → Output ≡ channel_by w number
+pub on_output : (w : Shows) (number : Option ℕ) → Output ≡ channel_by w number
 unfolding channel_by
 on_output lines number = refl
 on_output trace number = refl
@@ -313,29 +240,19 @@ on_output proximity number = refl
 
 -- ---- an ending in memory
 
--- pages have no `end`, nor has proximity
-pub no_end : (p : Printer) (t : Tally) → p.shows ≡ pages → closing_text p.shows p.notes ≡ closing_text p.shows p.notes ++ end_shown p.shows t
-no_end p t e = rw e (sym (append-nil (page_closed p.notes)))
-
-pub none_at_end : (p : Printer) (t : Tally) → p.shows ≡ proximity → closing_text p.shows p.notes ≡ closing_text p.shows p.notes ++ end_shown p.shows t
-none_at_end p t e = rw e refl
-
 -- what closes a part page, and a line after it
 module _ (c out : List ℕ) (f : length c ≤ line_room) (h : ending_room ≤ length out) (k : ℕ) (out₁ : List ℕ) (q : Put out 0 c k out₁) where
-  pub closed_alone : (t : List ℕ) → c ≡ t → EndedIn t out k out₁
-  closed_alone t z =
-      let m = with_room ending_room out 0 c (le-leb (0 + ending_room) (length out) (omega (arith, h))) k out₁ q in
-      let done : EndedIn c out k out₁ = record { bytes = m.0; memory = m.1 } in
-      rw z at done
-
-  pub closed_line : (l : Line) (s t : List ℕ) → l ≡ line_of s → length s ≤ line_room → length out₁ ≡ length out → c ++ s ≡ t → (r : ℕ) (out₂ : List ℕ)
-      → (r ≡ place_put (length out₁) k (take l.n l.text)) × (out₂ ≡ memory_put out₁ k (take l.n l.text)) → EndedIn t out r out₂
-  closed_line l s t e g z w r out₂ p =
-      let there = line_put l s e g out₁ k (omega (arith, h, z, q.ends, f)) r out₂ p in
+  -- by a part of its text, put where the closing ends
+  pub closed_then : (s t : List ℕ) → c ++ s ≡ t → (r : ℕ) (out₂ : List ℕ) → Put out₁ k s r out₂ → EndedIn t out r out₂
+  closed_then s t w r out₂ there =
       let both = put_on out 0 c k out₁ s r out₂ (omega arith) q there in
       let m = with_room ending_room out 0 (c ++ s) (le-leb (0 + ending_room) (length out) (omega (arith, h))) r out₂ both in
       let done : EndedIn (c ++ s) out r out₂ = record { bytes = m.0; memory = m.1 } in
       rw w at done
+
+  -- there is room for a line
+  pub closed_room : length out₁ ≡ length out → k + line_room ≤ length out₁
+  closed_room z = omega (arith, h, z, q.ends, f)
 
 -- without room nothing is there
 pub ending_not_put : (out t : List ℕ) → length out < ending_room → EndedIn t out 0 out

@@ -2,3 +2,4 @@
 pub mod Printer
 pub mod Fifties
 pub mod Widths
+pub mod Numbers

@@ -2,11 +2,10 @@
 -- proximity 02-change-requests.md, Ask 1 and 7): a text for each event and one for its ending. A
 -- printer may remember something from event to event. The text of events goes to standard output;
 -- that of an ending may go beside it, to standard error.
-use Rattle.std.specs.Prelude.{Bool, true, false, cond, ◌&&◌, List, [], ◌∷◌, ◌++◌, ◌≡◌, ℕ, ◌+◌, ◌*◌, min, eqb, leb, Float, length}
+use Rattle.std.specs.Prelude.{Bool, cond, List, [], ◌∷◌, ◌++◌, ◌≡◌, ℕ, ◌+◌, ◌*◌, min, eqb, leb, Float, length, Option, None, Some}
 use Rattle.lictor_core.specs.declared.envelope.FuseConfig.{FuseConfig}
 use Rattle.lictor_core.specs.declared.tally.Tally.{Tally}
 use Rattle.lictor_core.specs.declared.verdict.SafetyVerdict.{SafetyVerdict}
-use Rattle.lictor_core.specs.Initial.{zero_float}
 use Rattle.journal_records.specs.Kinds.{journal_kinds}
 use Rattle.journal_refusals.specs.Table.{number_of}
 use Rattle.journal.specs.declared.tick.Run.{Run}
@@ -36,23 +35,6 @@ pub data Shows : Type 0 where
   pages : Shows
   proximity : Shows
 
--- by number, in the code
-abbrev pub trace_code : ℕ
-trace_code = 1
-
-abbrev pub pages_code : ℕ
-pages_code = 2
-
-abbrev pub proximity_code : ℕ
-proximity_code = 3
-
-unfoldable pub shows_by : ℕ → Shows
-shows_by code =
-    cond (eqb code trace_code) trace
-    (cond (eqb code pages_code) pages
-    (cond (eqb code proximity_code) proximity
-    lines))
-
 -- a printer: what it shows, and what it remembers from event to event
 pub record Printer : Type 0 where
   pub shows : Shows
@@ -62,12 +44,9 @@ pub record Printer : Type 0 where
 abbrev pub showing : Shows → Notes → Printer
 showing w m = record { shows = w; notes = m }
 
-abbrev pub printer_by : ℕ → Notes → Printer
-printer_by code m = showing (shows_by code) m
-
 -- before the first event: no row, on page 1; no width, and no clean tick
 abbrev pub measure_at_start : Measure
-measure_at_start = record { given = false; before = record { width = zero_float; inside = none_inside } }
+measure_at_start = record { width = None; inside = none_inside }
 
 abbrev pub at_start : Notes
 at_start = record { rows = 0; page = 1; measure = measure_at_start }
@@ -123,11 +102,15 @@ abbrev pub is_clean : ℕ → Bool
 is_clean guard = eqb guard 0
 
 -- the lines of a clean tick, once a width was given
+abbrev pub width_lines : Option Float → List Bool → List Float → SafetyVerdict → FuseConfig → List ℕ
+width_lines None was pos v cfg = []
+width_lines (Some w) was pos v cfg = lines_of cfg (record { width = w; inside = was }) v.t pos
+
 abbrev pub tick_lines : Measure → List Float → ℕ → SafetyVerdict → FuseConfig → List ℕ
-tick_lines m pos guard v cfg = cond (is_clean guard && m.given) (lines_of cfg m.before v.t pos) []
+tick_lines m pos guard v cfg = cond (is_clean guard) (width_lines m.width m.inside pos v cfg) []
 
 abbrev pub with_inside : Measure → List Bool → Measure
-with_inside m is = record { given = m.given; before = record { width = m.before.width; inside = is } }
+with_inside m is = record { width = m.width; inside = is }
 
 -- a clean tick says which components are inside; a fault tick is passed over
 abbrev pub measure_after : Measure → List Float → ℕ → FuseConfig → Measure
@@ -139,7 +122,7 @@ measure_cleared m = with_inside m none_inside
 
 -- a width is kept
 abbrev pub measure_given : Measure → Float → Measure
-measure_given m w = record { given = true; before = record { width = w; inside = m.before.inside } }
+measure_given m w = record { width = Some w; inside = m.inside }
 
 -- rows and page kept
 abbrev pub with_measure : Notes → Measure → Notes
@@ -299,13 +282,13 @@ pub record ShownIn (p : Printer) (e : Event) (out : List ℕ) (n : ℕ) (r : Sho
   pub answer : r ≡ shown_at (length out) n p e
   pub memory : out' ≡ memory_at out n p e
 
--- the ending of a journal by the number of its refusal, 0 where there is none
-unfoldable pub ending_by : Printer → Run → ℕ → ℕ → List ℕ
-ending_by p run number place =
-    closing_text p.shows p.notes ++ cond (eqb number 0) (end_shown p.shows run.rt.tally) (refused_text number place)
+-- the ending of a journal by the number of its refusal, where there is one
+unfoldable pub ending_by : Printer → Run → Option ℕ → ℕ → List ℕ
+ending_by p run None place = closing_text p.shows p.notes ++ end_shown p.shows run.rt.tally
+ending_by p run (Some number) place = closing_text p.shows p.notes ++ refused_text number place
 
 -- and its channel
-unfoldable pub channel_by : Shows → ℕ → Channel
+unfoldable pub channel_by : Shows → Option ℕ → Channel
 channel_by lines number = Output
 channel_by trace number = Output
 channel_by pages number = Output

@@ -1,9 +1,10 @@
 // Pages: the row of a tick, and after the last row of a page the line with its number.
-ghost use Rattle.std.specs.Prelude.{◌≡◌, ◌+◌, ◌≤◌, length};
-ghost use Rattle.text.specs.Memory.{Put};
-ghost use Rattle.printer.specs.Printer.{next_page, fills, after_tick, tick_on_page, page_closed, event_room, ending_room};
+ghost use Rattle.std.specs.Prelude.{◌≡◌};
+ghost use Rattle.printer.specs.Printer.{pages, next_page, fills};
 
-use crate::Notes;
+use crate::{Notes, Printer};
+use journal::tick::Run;
+use lictor_core::envelope::FuseConfig;
 use lictor_core::verdict::SafetyVerdict;
 use page_text::{show_page, show_row};
 
@@ -26,47 +27,61 @@ fn fills_page(notes: Notes) -> bool
     notes.rows >= PAGE_ROWS - 1
 }
 
-// What is remembered after a tick.
-pub(crate) fn after_tick(notes: Notes) -> Notes
-    ensures { result ≡ after_tick notes }
-{
-    let measure = notes.measure;
-    if fills_page(notes) {
-        let next = next_page(notes.page);
-        return Notes {
-            rows: 0,
-            page: next,
-            measure,
-        };
-    }
-    let rows = notes.rows + 1;
-    let page = notes.page;
-    Notes {
-        rows,
-        page,
-        measure,
-    }
-}
+// The printer of `pages`.
+pub struct Pages;
 
-// Puts the row of a tick, and where it fills the page the page's line.
-pub(crate) fn put_tick(notes: Notes, verdict: SafetyVerdict, out: &mut [u8], n: usize) -> usize
-    requires { n + event_room ≤ length out.old }
-    ensures { Put out.old n (tick_on_page notes verdict) result out.new }
-{
-    let end = show_row(verdict, out, n);
-    if fills_page(notes) {
-        return show_page(notes.page, out, end);
-    }
-    end
-}
+impl Printer for Pages {
+    ghost shows = { pages };
 
-// Puts the line of a page that has rows, at the front.
-pub(crate) fn put_closing(notes: Notes, out: &mut [u8]) -> usize
-    requires { ending_room ≤ length out.old }
-    ensures { Put out.old 0 (page_closed notes) result out.new }
-{
-    if notes.rows == 0 {
-        return 0;
+    // The row, and where it fills the page the page's line.
+    fn put_tick(
+        notes: Notes,
+        _pos: &[f64],
+        _guard: u32,
+        verdict: SafetyVerdict,
+        _run: Run,
+        out: &mut [u8],
+        n: usize,
+    ) -> usize {
+        let end = show_row(verdict, out, n);
+        if fills_page(notes) {
+            return show_page(notes.page, out, end);
+        }
+        end
     }
-    show_page(notes.page, out, 0)
+
+    fn after_tick(notes: Notes, _pos: &[f64], _guard: u32, _config: FuseConfig) -> Notes {
+        if fills_page(notes) {
+            return Notes {
+                rows: 0,
+                page: next_page(notes.page),
+                ..notes
+            };
+        }
+        Notes {
+            rows: notes.rows + 1,
+            ..notes
+        }
+    }
+
+    fn after_reset(notes: Notes) -> Notes {
+        notes
+    }
+
+    fn after_width(notes: Notes, _width: f64) -> Notes {
+        notes
+    }
+
+    // The line of a page that has rows.
+    fn put_closing(notes: Notes, out: &mut [u8]) -> usize {
+        if notes.rows == 0 {
+            return 0;
+        }
+        show_page(notes.page, out, 0)
+    }
+
+    // There is none.
+    fn put_end(_run: Run, _out: &mut [u8], n: usize) -> usize {
+        n
+    }
 }

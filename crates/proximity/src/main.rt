@@ -5,8 +5,9 @@
 // All that matters is in the libraries (crates/console).
 #![tactic(auto)]
 
+use printer::proximity::Proximity;
 use std::rt::HostRuntime;
 
 fn main(rt: HostRuntime) {
-    console::play(&rt, b"proximity", printer::PROXIMITY);
+    console::play::<Proximity>(&rt, b"proximity");
 }

@@ -14,9 +14,7 @@ use Rattle.journal_records.specs.Kinds.{width_kind}
 use Rattle.journal_records.specs.Body.{decode_of}
 use Rattle.journal_records.proofs.Decoded.{decoded}
 use Rattle.journal_refusals.specs.declared.Refusal.{Refusal}
-use Rattle.journal_refusals.specs.declared.Judged.{Judged}
-use Rattle.journal_refusals.specs.declared.Judged.TheVariants.{Accepted}
-use Rattle.journal_refusals.specs.Table.{judged_of}
+use Rattle.journal_refusals.specs.Table.{Accepted, Judged, judged_of}
 use Rattle.stream.specs.Stream.{wait, halt, go, tell, awaits, Settled, telling, after, settle, settled, takes, size}
 use Rattle.stream.proofs.Stream.{impossible, joined, settled_wait, settled_go, settled_tell}
 use Rattle.journal_reader.specs.State.{State, seen_in}

@@ -13,10 +13,11 @@ use lib.ListN.{length, get_or}
 use Rattle.lictor_core.specs.declared.envelope.FuseConfig.{FuseConfig}
 use Rattle.lictor_core.specs.Sizes.{max_pos}
 use Rattle.text.specs.Ascii.{ascii}
-use Rattle.proximity_text.specs.declared.Said.{Said}
-use Rattle.proximity_text.specs.declared.Said.TheVariants.{Nothing, Within, Out}
+use Rattle.std.specs.Prelude.{Option, None, Some}
+use Rattle.proximity_text.specs.declared.Word.{Word}
+use Rattle.proximity_text.specs.declared.Word.TheVariants.{Within as within, Out as out}
 use Rattle.proximity_text.specs.Near.{dims_of, inside_at, near_at, said_of, said_at, inside_of, none_inside}
-use Rattle.proximity_text.specs.Lines.{word_line, Word, within, out, word_text, said_text, lines_up_to}
+use Rattle.proximity_text.specs.Lines.{word_line, word_text, said_text, lines_up_to}
 use Rattle.proximity_text.specs.History.{Moment, clean, fault, reset, Says, Entry, LineOf, Earlier, EarlierThan, Rising, list_text, put_from, LinesListed}
 use Rattle.proximity_text.proofs.Flags.{Since, flags_after, flags_all, since_start, since_all, flag_told, flag_tells}
 
@@ -31,19 +32,19 @@ list_append [] ys = refl
 list_append (e ∷ xs) ys = ap (λ (s : List ℕ). line_of e ++ s) (list_append xs ys) ∙ sym (append_assoc (line_of e) (list_text xs) (list_text ys))
 
 -- the line of a component, where there is one
-abbrev entry_of : ℕ → ℕ → ℕ → Said → List Entry
-entry_of i t c Nothing = []
-entry_of i t c Within = record { place = i; component = c; word = within; t = t } ∷ []
-entry_of i t c Out = record { place = i; component = c; word = out; t = t } ∷ []
+abbrev entry_of : ℕ → ℕ → ℕ → Option Word → List Entry
+entry_of i t c None = []
+entry_of i t c (Some within) = record { place = i; component = c; word = within; t = t } ∷ []
+entry_of i t c (Some out) = record { place = i; component = c; word = out; t = t } ∷ []
 
-entry_text : (i t c : ℕ) (s : Said) → list_text (entry_of i t c s) ≡ said_text s t c
+entry_text : (i t c : ℕ) (s : Option Word) → list_text (entry_of i t c s) ≡ said_text s t c
 unfolding list_text said_text
-entry_text i t c Nothing = refl
-entry_text i t c Within = append-nil (word_line (ascii "within") t c)
-entry_text i t c Out = append-nil (word_line (ascii "out") t c)
+entry_text i t c None = refl
+entry_text i t c (Some within) = append-nil (word_line (ascii "within") t c)
+entry_text i t c (Some out) = append-nil (word_line (ascii "out") t c)
 
 module _ (cfg : FuseConfig) (w : Float) where
-  abbrev said_in : List Bool → List Float → ℕ → Said
+  abbrev said_in : List Bool → List Float → ℕ → Option Word
   said_in was pos c = said_at w was cfg.box_lo cfg.box_hi pos c
 
   -- the lines of the first n components of a tick, at place i
@@ -110,15 +111,15 @@ Placed i n e = (e.place ≡ i) × (e.component < n)
 abbrev Last : ℕ → ℕ → Entry → Type 0
 Last i n e = (e.place ≡ i) × (e.component ≡ n)
 
-entry_last : (i t c : ℕ) (s : Said) → Every (Last i c) (entry_of i t c s)
-entry_last i t c Nothing = tt
-entry_last i t c Within = ((refl, refl), tt)
-entry_last i t c Out = ((refl, refl), tt)
+entry_last : (i t c : ℕ) (s : Option Word) → Every (Last i c) (entry_of i t c s)
+entry_last i t c None = tt
+entry_last i t c (Some within) = ((refl, refl), tt)
+entry_last i t c (Some out) = ((refl, refl), tt)
 
-entry_rising : (i t c : ℕ) (s : Said) → Rising (entry_of i t c s)
-entry_rising i t c Nothing = tt
-entry_rising i t c Within = (tt, tt)
-entry_rising i t c Out = (tt, tt)
+entry_rising : (i t c : ℕ) (s : Option Word) → Rising (entry_of i t c s)
+entry_rising i t c None = tt
+entry_rising i t c (Some within) = (tt, tt)
+entry_rising i t c (Some out) = (tt, tt)
 
 module _ (cfg : FuseConfig) (w : Float) where
   up_placed : (was : List Bool) (i t : ℕ) (pos : List Float) (n : ℕ) → Every (Placed i n) (entries_up_to cfg w was i t pos n)
@@ -169,29 +170,29 @@ module _ (cfg : FuseConfig) (w : Float) where
 
 -- ---- which lines there are
 
-abbrev said_by : Word → Said
-said_by within = Within
-said_by out = Out
+abbrev said_by : Word → Option Word
+said_by within = (Some within)
+said_by out = (Some out)
 
 abbrev entry : ℕ → ℕ → Word → ℕ → Entry
 entry i c word t = record { place = i; component = c; word = word; t = t }
 
-record EntryIs (i t c : ℕ) (s : Said) (e : Entry) : Type 0 where
+record EntryIs (i t c : ℕ) (s : Option Word) (e : Entry) : Type 0 where
   place : e.place ≡ i
   component : e.component ≡ c
   time : e.t ≡ t
   said : s ≡ said_by e.word
 
-entry_only : (i t c : ℕ) (s : Said) (e : Entry) → Memᴰ e (entry_of i t c s) → EntryIs i t c s e
-entry_only i t c Nothing e m = absurd (Memᴰ.not-nil m)
-entry_only i t c Within e m =
+entry_only : (i t c : ℕ) (s : Option Word) (e : Entry) → Memᴰ e (entry_of i t c s) → EntryIs i t c s e
+entry_only i t c None e m = absurd (Memᴰ.not-nil m)
+entry_only i t c (Some within) e m =
     let q : e ≡ entry i c within t = Memᴰ.eq_of_singleton m in
     record { place = ap (λ (x : Entry). x.place) q; component = ap (λ (x : Entry). x.component) q; time = ap (λ (x : Entry). x.t) q; said = sym (ap (λ (x : Entry). said_by x.word) q) }
-entry_only i t c Out e m =
+entry_only i t c (Some out) e m =
     let q : e ≡ entry i c out t = Memᴰ.eq_of_singleton m in
     record { place = ap (λ (x : Entry). x.place) q; component = ap (λ (x : Entry). x.component) q; time = ap (λ (x : Entry). x.t) q; said = sym (ap (λ (x : Entry). said_by x.word) q) }
 
-entry_every : (i t c : ℕ) (word : Word) (s : Said) → s ≡ said_by word → Memᴰ (entry i c word t) (entry_of i t c s)
+entry_every : (i t c : ℕ) (word : Word) (s : Option Word) → s ≡ said_by word → Memᴰ (entry i c word t) (entry_of i t c s)
 entry_every i t c within s e = rw e (Memᴰ.head refl)
 entry_every i t c out s e = rw e (Memᴰ.head refl)
 
@@ -270,36 +271,36 @@ module _ (cfg : FuseConfig) (w : Float) where
 
 -- ---- what they say
 
-other : {A : Type 0} → Nothing ≡ Within → A
+other : {A : Type 0} → None ≡ (Some within) → A
 other e = let z : ◌≡◌ {A = ℕ} 0 1 = cc in absurd (omega (arith, z))
 
-other_out : {A : Type 0} → Nothing ≡ Out → A
+other_out : {A : Type 0} → None ≡ (Some out) → A
 other_out e = let z : ◌≡◌ {A = ℕ} 0 1 = cc in absurd (omega (arith, z))
 
-exchanged : {A : Type 0} → Out ≡ Within → A
+exchanged : {A : Type 0} → (Some out) ≡ (Some within) → A
 exchanged e = let z : ◌≡◌ {A = ℕ} 0 1 = cc in absurd (omega (arith, z))
 
-abbrev choice : Bool → Bool → Bool → Said
-choice i n q = cond i (cond n Within Nothing) (cond q Out Nothing)
+abbrev choice : Bool → Bool → Bool → Option Word
+choice i n q = cond i (cond n (Some within) None) (cond q (Some out) None)
 
-within_only : (i n q : Bool) → choice i n q ≡ Within → T i × T n
+within_only : (i n q : Bool) → choice i n q ≡ (Some within) → T i × T n
 within_only true true q e = (tt, tt)
 within_only true false q e = other e
 within_only false n true e = exchanged e
 within_only false n false e = other e
 
-out_only : (i n q : Bool) → choice i n q ≡ Out → (T i → ⊥) × T q
+out_only : (i n q : Bool) → choice i n q ≡ (Some out) → (T i → ⊥) × T q
 out_only true true q e = exchanged (sym e)
 out_only true false q e = other_out e
 out_only false n true e = (λ z. z, tt)
 out_only false n false e = other_out e
 
-within_every : (i n q : Bool) → T i → T n → choice i n q ≡ Within
+within_every : (i n q : Bool) → T i → T n → choice i n q ≡ (Some within)
 within_every true true q a b = refl
 within_every true false q a b = absurd b
 within_every false n q a b = absurd a
 
-out_every : (i n q : Bool) → (T i → ⊥) → T q → choice i n q ≡ Out
+out_every : (i n q : Bool) → (T i → ⊥) → T q → choice i n q ≡ (Some out)
 out_every true n q a b = absurd (a tt)
 out_every false n true a b = refl
 out_every false n false a b = absurd b

@@ -2,7 +2,7 @@
 use Prim.Native.Nat.{ℕ, zero, suc, ◌+◌, ◌*◌, ◌≤◌, ◌<◌}
 use mathlib.Core.Bool.{Bool}
 use mathlib.Core.Path.{◌≡◌, refl, sym, ap, ◌∙◌}
-use mathlib.Core.List.{List}
+use mathlib.Core.List.{List, [], ◌∷◌, ◌++◌}
 use native.Mathlib.Omega.{arith}
 use native.Mathlib.Numerals.{add-one}
 use lib.Ieee.{Float}
@@ -15,22 +15,28 @@ use Rattle.text.specs.Memory.{Put, place_put, memory_put}
 use Rattle.text.proofs.Digits.{decimal_20}
 use Rattle.text.proofs.Lines.{line_text}
 use Rattle.text.proofs.Puts.{put_none, put_on, put_there}
-use Rattle.proximity_text.specs.declared.Said.{Said}
-use Rattle.proximity_text.specs.declared.Said.TheVariants.{Nothing, Within, Out}
+use Rattle.std.specs.Prelude.{Option, None, Some}
+use Rattle.proximity_text.specs.declared.Word.{Word}
+use Rattle.proximity_text.specs.declared.Word.TheVariants.{Within, Out}
+use Rattle.report.specs.Lines.{fields_text}
+use Rattle.report.proofs.Laws.{two_fields}
 use Rattle.proximity_text.specs.declared.Before.{Before}
 use Rattle.proximity_text.specs.Near.{inside_at, inside_up_to, said_at}
-use Rattle.proximity_text.specs.Lines.{word_line, said_text, lines_up_to}
+use Rattle.proximity_text.specs.Lines.{word_line, word_text, said_text, lines_up_to}
 
 -- ---- no line is cut
 
 word_fits : (word : List ℕ) (t c : ℕ) → length word ≤ 6 → length (word_line word t c) ≤ line_room
 word_fits word t c h = simp length-append (omega (arith, decimal_20 t, decimal_20 c))
 
-pub said_fits : (s : Said) (t c : ℕ) → length (said_text s t c) ≤ line_room
+text_short : (w : Word) → length (word_text w) ≤ 6
+text_short Within = omega arith
+text_short Out = omega arith
+
+pub said_fits : (s : Option Word) (t c : ℕ) → length (said_text s t c) ≤ line_room
 unfolding said_text
-said_fits Nothing t c = omega arith
-said_fits Within t c = word_fits (ascii "within") t c (omega arith)
-said_fits Out t c = word_fits (ascii "out") t c (omega arith)
+said_fits None t c = omega arith
+said_fits (Some w) t c = word_fits (word_text w) t c (text_short w)
 
 pub lines_fit : (b : Before) (t : ℕ) (lo hi pos : List Float) (n : ℕ) → length (lines_up_to b t lo hi pos n) ≤ n * line_room
 unfolding lines_up_to
@@ -41,26 +47,17 @@ lines_fit b t lo hi pos (suc n) =
 
 -- ---- one line
 
--- nothing is said, or the line of a word is put
-module _ (s : Said) (t c : ℕ) (out : List ℕ) (n : ℕ) where
-  pub said_none : s ≡ Nothing → Put out n (said_text s t c) n out
-  unfolding said_text
-  said_none e = rw e (put_none out n)
-
-  pub said_word : (word : List ℕ) → said_text s t c ≡ word_line word t c → n + line_room ≤ length out → (l : Line) → l ≡ line_of (word_line word t c) → (r : ℕ) (out' : List ℕ)
-      → (r ≡ place_put (length out) n (take l.n l.text)) × (out' ≡ memory_put out n (take l.n l.text)) → Put out n (said_text s t c) r out'
-  said_word word e h l f r out' q =
-      let fits : length (word_line word t c) ≤ line_room = rw e at (said_fits s t c) in
-      let shows : take l.n l.text ≡ word_line word t c = ap (λ (x : Line). take x.n x.text) f ∙ line_text (word_line word t c) fits in
-      rw e (put_there out n (word_line word t c) (omega (arith, h, fits)) r out' (rw shows at q))
-
-pub is_within : (s : Said) (t c : ℕ) → s ≡ Within → said_text s t c ≡ word_line (ascii "within") t c
+pub said_none : (t c : ℕ) (out : List ℕ) (n : ℕ) → Put out n (said_text None t c) n out
 unfolding said_text
-is_within s t c e = rw e refl
+said_none t c out n = put_none out n
 
-pub is_out : (s : Said) (t c : ℕ) → s ≡ Out → said_text s t c ≡ word_line (ascii "out") t c
+pub said_word : (w : Word) (t c : ℕ) (out : List ℕ) (n : ℕ) → n + line_room ≤ length out → (l : Line) → l ≡ line_of (word_text w ++ fields_text (t ∷ c ∷ []) ++ ascii "\n")
+    → (r : ℕ) (out' : List ℕ) → (r ≡ place_put (length out) n l) × (out' ≡ memory_put out n l) → Put out n (said_text (Some w) t c) r out'
 unfolding said_text
-is_out s t c e = rw e refl
+said_word w t c out n h l f r out' q =
+    let fits : length (word_line (word_text w) t c) ≤ line_room = word_fits (word_text w) t c (text_short w) in
+    let shows : l ≡ word_line (word_text w) t c = f ∙ ap line_of (two_fields (word_text w) t c) ∙ line_text (word_line (word_text w) t c) fits in
+    put_there out n (word_line (word_text w) t c) (omega (arith, h, fits)) r out' (rw shows at q)
 
 -- ---- the lines of the first c components are put
 
@@ -75,7 +72,7 @@ module _ (b : Before) (t : ℕ) (lo hi pos : List Float) (dims : ℕ) (out₀ : 
   unfolding lines_up_to
   lined_none = record { short = omega arith; long = refl; few = omega arith; so_far = put_none out₀ n }
 
-  pub lined_more : (out : List ℕ) (at c : ℕ) (s : Said) (at' : ℕ) (out' : List ℕ) → c < dims → n ≤ length out₀ → length out' ≡ length out
+  pub lined_more : (out : List ℕ) (at c : ℕ) (s : Option Word) (at' : ℕ) (out' : List ℕ) → c < dims → n ≤ length out₀ → length out' ≡ length out
       → s ≡ said_at b.width b.inside lo hi pos c → Put out at (said_text s t c) at' out' → Lined b t lo hi pos dims out₀ n out at c
       → Lined b t lo hi pos dims out₀ n out' at' (c + 1)
   unfolding lines_up_to

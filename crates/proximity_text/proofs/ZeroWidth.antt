@@ -17,7 +17,8 @@ use Rattle.lictor_core.specs.declared.envelope.FuseConfig.{FuseConfig}
 use Rattle.lictor_core.specs.Initial.{zero_float}
 use Rattle.lictor_core.specs.Rows.{place_of}
 use Rattle.proximity_text.specs.Near.{inside, near}
-use Rattle.proximity_text.specs.Lines.{Word, within, out}
+use Rattle.proximity_text.specs.declared.Word.{Word}
+use Rattle.proximity_text.specs.declared.Word.TheVariants.{Within as within, Out as out}
 use Rattle.proximity_text.specs.History.{Moment, IsOut, Says}
 use Rattle.proximity_text.specs.ZeroWidth.{ZeroWidth}
 

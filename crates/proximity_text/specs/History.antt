@@ -6,7 +6,9 @@ use mathlib.Core.List.{List, [], ◌∷◌, ◌++◌, Memᴰ}
 use Rattle.lictor_core.specs.declared.envelope.FuseConfig.{FuseConfig}
 use Rattle.lictor_core.specs.Sizes.{max_pos}
 use Rattle.proximity_text.specs.Near.{inside_at, near_at, inside_of, none_inside}
-use Rattle.proximity_text.specs.Lines.{word_line, Word, within, out, word_text, lines_of}
+use Rattle.proximity_text.specs.Lines.{word_line, word_text, lines_of}
+use Rattle.proximity_text.specs.declared.Word.{Word}
+use Rattle.proximity_text.specs.declared.Word.TheVariants.{Within as within, Out as out}
 
 -- ---- a history
 

@@ -1,13 +1,13 @@
 -- The lines of a clean tick (02-change-requests.md, Ask 7), one after the other.
-use Rattle.std.specs.Prelude.{List, [], ◌++◌, ◌≡◌, ℕ, zero, suc, ◌*◌, Float, length}
+use Rattle.std.specs.Prelude.{List, [], ◌++◌, ◌≡◌, ℕ, zero, suc, ◌*◌, Float, length, Option, None, Some}
 use Rattle.text.specs.Ascii.{ascii}
 use Rattle.text.specs.Line.{line_room}
 use Rattle.text.specs.Memory.{place_with, memory_with}
 use Rattle.report.specs.Lines.{field_text}
 use Rattle.lictor_core.specs.declared.envelope.FuseConfig.{FuseConfig}
 use Rattle.lictor_core.specs.Sizes.{max_pos}
-use Rattle.proximity_text.specs.declared.Said.{Said}
-use Rattle.proximity_text.specs.declared.Said.TheVariants.{Nothing, Within, Out}
+use Rattle.proximity_text.specs.declared.Word.{Word}
+use Rattle.proximity_text.specs.declared.Word.TheVariants.{Within as within, Out as out}
 use Rattle.proximity_text.specs.declared.Before.{Before}
 use Rattle.proximity_text.specs.Near.{dims_of, said_at}
 
@@ -15,18 +15,13 @@ use Rattle.proximity_text.specs.Near.{dims_of, said_at}
 abbrev pub word_line : List ℕ → ℕ → ℕ → List ℕ
 word_line word t c = word ++ field_text t ++ field_text c ++ ascii "\n"
 
-pub data Word : Type 0 where
-  within : Word
-  out : Word
-
 abbrev pub word_text : Word → List ℕ
 word_text within = ascii "within"
 word_text out = ascii "out"
 
-unfoldable pub said_text : Said → ℕ → ℕ → List ℕ
-said_text Nothing t c = []
-said_text Within t c = word_line (word_text within) t c
-said_text Out t c = word_line (word_text out) t c
+unfoldable pub said_text : Option Word → ℕ → ℕ → List ℕ
+said_text None t c = []
+said_text (Some word) t c = word_line (word_text word) t c
 
 -- the lines of the first n components, by rising number
 unfoldable pub lines_up_to : Before → ℕ → List Float → List Float → List Float → ℕ → List ℕ

@@ -1,13 +1,13 @@
 -- Where a component of a position is (02-change-requests.md, Ask 7): inside the box or not,
 -- close to a face or not; and what is said of it at a clean tick.
-use Rattle.std.specs.Prelude.{Bool, false, cond, ◌&&◌, ◌||◌, List, [], ◌∷◌, ◌++◌, ℕ, zero, suc, min, Float, get_or, replicate}
+use Rattle.std.specs.Prelude.{Bool, false, cond, ◌&&◌, ◌||◌, List, [], ◌∷◌, ◌++◌, ℕ, zero, suc, min, Float, get_or, replicate, Option, None, Some}
 use Rattle.std.specs.Float.{binary64}
 use Rattle.std.specs.Float.Ieee.{sub, lt, le}
 use Rattle.lictor_core.specs.declared.envelope.FuseConfig.{FuseConfig}
 use Rattle.lictor_core.specs.Rows.{place_of}
 use Rattle.lictor_core.specs.Sizes.{max_pos}
-use Rattle.proximity_text.specs.declared.Said.{Said}
-use Rattle.proximity_text.specs.declared.Said.TheVariants.{Nothing, Within, Out}
+use Rattle.proximity_text.specs.declared.Word.{Word}
+use Rattle.proximity_text.specs.declared.Word.TheVariants.{Within as within, Out as out}
 
 -- ---- one component, taken alone
 
@@ -20,8 +20,8 @@ unfoldable pub near : Float → Float → Float → Float → Bool
 near width lo hi p = lt (sub binary64 hi p) width || lt (sub binary64 p lo) width
 
 -- at most one of the two: `within` of one that is inside, and `out` of one that is not and was
-unfoldable pub said_of : Float → Bool → Float → Float → Float → Said
-said_of width was lo hi p = cond (inside lo hi p) (cond (near width lo hi p) Within Nothing) (cond was Out Nothing)
+unfoldable pub said_of : Float → Bool → Float → Float → Float → Option Word
+said_of width was lo hi p = cond (inside lo hi p) (cond (near width lo hi p) (Some within) None) (cond was (Some out) None)
 
 -- ---- a component of a tick, by its number c from 0; lo and hi are the faces of the box
 
@@ -36,7 +36,7 @@ abbrev pub near_at : Float → List Float → List Float → List Float → ℕ 
 near_at width lo hi pos c = near width (place_of lo c) (place_of hi c) (place_of pos c)
 
 -- `was`: which components were inside at the clean tick before, no reset between
-abbrev pub said_at : Float → List Bool → List Float → List Float → List Float → ℕ → Said
+abbrev pub said_at : Float → List Bool → List Float → List Float → List Float → ℕ → Option Word
 said_at width was lo hi pos c = said_of width (get_or was c false) (place_of lo c) (place_of hi c) (place_of pos c)
 
 -- which of the first n components are inside

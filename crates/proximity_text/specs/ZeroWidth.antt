@@ -6,7 +6,7 @@ use Rattle.std.specs.Float.Ieee.{eq}
 use Rattle.lictor_core.specs.declared.envelope.FuseConfig.{FuseConfig}
 use Rattle.lictor_core.specs.Initial.{zero_float}
 use Rattle.proximity_text.specs.Near.{inside, near}
-use Rattle.proximity_text.specs.Lines.{out}
+use Rattle.proximity_text.specs.declared.Word.TheVariants.{Out as out}
 use Rattle.proximity_text.specs.History.{Moment, Entry, LineOf}
 
 pub record ZeroWidth : Type 0 where

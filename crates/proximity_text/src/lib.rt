@@ -3,22 +3,21 @@
 #![tactic(auto)]
 
 ghost use Rattle.std.specs.Prelude.{◌≡◌, ◌+◌, ◌≤◌, length};
-ghost use Rattle.text.specs.Line.{line_of, line_room};
+ghost use Rattle.text.specs.Line.{line_room};
 ghost use Rattle.text.specs.Memory.{Put};
 ghost use Rattle.lictor_core.specs.Rows.{place_of};
 ghost use Rattle.proximity_text.specs.Near.{inside, near, said_of, dims_of, inside_of};
-ghost use Rattle.proximity_text.specs.Lines.{word_line, said_text, lines_of, lines_room, LinesShown};
+ghost use Rattle.proximity_text.specs.Lines.{word_text, said_text, lines_of, lines_room, LinesShown};
 
 use lictor_core::chunk::MAX_POS;
 use lictor_core::envelope::FuseConfig;
-use lictor_core::num::least;
+use report::fields_line;
+use text::LINE;
 use text::memory::{has_room, put_line};
-use text::{LINE, Line, empty, push};
 
-// What is said of a component at a clean tick: at most one thing.
-#[derive(Clone, Copy)]
-pub enum Said {
-    Nothing,
+// What is said of a component at a clean tick, if anything is.
+#[derive(Clone, Copy, PartialEq, Eq)]
+pub enum Word {
     Within,
     Out,
 }
@@ -36,6 +35,7 @@ pub struct Before {
 const LINES_ROOM: usize = MAX_POS * LINE;
 
 // ---- one component, taken alone
+// (lo, hi and p are elements of three lists: a struct of them would only be filled to be taken apart.)
 
 // From one face to the other; on a face it is inside.
 fn is_inside(lo: f64, hi: f64, p: f64) -> bool
@@ -51,29 +51,22 @@ fn is_near(width: f64, lo: f64, hi: f64, p: f64) -> bool
     (hi - p < width) | (p - lo < width)
 }
 
-fn said_of(width: f64, was: bool, lo: f64, hi: f64, p: f64) -> Said
+#[tactic(auto, unfolding(crate::specs::Near::said_of))]
+fn said_of(width: f64, was: bool, lo: f64, hi: f64, p: f64) -> Option<Word>
     ensures { result ≡ said_of width was lo hi p }
 {
     if is_inside(lo, hi, p) {
-        if is_near(width, lo, hi, p) {
-            return Said::Within;
-        }
-        return Said::Nothing;
+        is_near(width, lo, hi, p).then_some(Word::Within)
+    } else {
+        was.then_some(Word::Out)
     }
-    if was {
-        return Said::Out;
-    }
-    Said::Nothing
 }
 
 // The position of a component; a NaN where the list is too short, which no clean tick's is.
 fn place_of(pos: &[f64], c: usize) -> f64
     ensures { result ≡ place_of pos.now c }
 {
-    if c < pos.len() {
-        return pos[c];
-    }
-    fmath::nan()
+    pos.get(c).copied().unwrap_or(fmath::nan())
 }
 
 // Which components are inside; those from pos_dim on are never asked for.
@@ -83,33 +76,30 @@ pub fn inside_of(config: FuseConfig, pos: &[f64]) -> [bool; MAX_POS]
     let lo = config.box_lo;
     let hi = config.box_hi;
     let mut inside = [false; MAX_POS];
-    let mut c: usize = 0;
-    while c < MAX_POS {
+    for c in 0..MAX_POS {
         inside[c] = is_inside(lo[c], hi[c], place_of(pos, c));
-        c += 1;
     }
     inside
 }
 
 // ---- lines
 
-// A word, t and the component's number.
-fn word_line(word: &[u8], t: u64, c: u64) -> Line
-    ensures { result ≡ line_of (word_line word.now t c) }
+fn text_of(word: Word) -> &'static [u8]
+    ensures { result.now ≡ word_text word }
 {
-    let begun = push(empty(), word);
-    let numbered = report::field(report::field(begun, t), c);
-    push(numbered, b"\n")
+    match word {
+        Word::Within => b"within",
+        Word::Out => b"out",
+    }
 }
 
-fn put_said(said: Said, t: u64, c: u64, out: &mut [u8], n: usize) -> usize
+fn put_said(said: Option<Word>, t: u64, c: u64, out: &mut [u8], n: usize) -> usize
     requires { n + line_room ≤ length out.old }
     ensures { Put out.old n (said_text said t c) result out.new }
 {
     match said {
-        Said::Nothing => n,
-        Said::Within => put_line(out, n, word_line(b"within", t, c)),
-        Said::Out => put_line(out, n, word_line(b"out", t, c)),
+        Some(word) => put_line(out, n, fields_line(text_of(word), &[t, c])),
+        None => n,
     }
 }
 
@@ -127,13 +117,11 @@ fn put_lines(
     let lo = config.box_lo;
     let hi = config.box_hi;
     let was = before.inside;
-    let dims = least(config.pos_dim, MAX_POS);
+    let dims = config.pos_dim.min(MAX_POS);
     let mut at = n;
-    let mut c: usize = 0;
-    while c < dims {
+    for c in 0..dims {
         let said = said_of(before.width, was[c], lo[c], hi[c], place_of(pos, c));
         at = put_said(said, t, c as u64, out, at);
-        c += 1;
     }
     at
 }

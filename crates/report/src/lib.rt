@@ -1,62 +1,89 @@
-// The lines of `fuse`: of a margin, the end and a refusal here, of a tick in `render`.
+// The lines of `fuse`: of a tick, a margin, the end and a refusal.
 #![tactic(auto)]
 
 pub mod render; // the text of a tick, put into lent memory
 
-ghost use Rattle.std.specs.Prelude.{◌≡◌};
+ghost use Rattle.std.specs.Prelude.{◌≡◌, ◌++◌};
+ghost use Rattle.text.specs.Ascii.{ascii};
 ghost use Rattle.text.specs.Line.{line_of, push_of};
-ghost use Rattle.report.specs.Lines.{margin_text, field_text, end_text, refused_text};
+ghost use Rattle.report.specs.Lines.{margin_text, fields_text, numbers_in, tick_text, end_text, refused_text};
 
 use lictor_core::tally::Tally;
+use lictor_core::verdict::SafetyVerdict;
 use margin::Margin;
-use text::{Line, empty, push, push_number, push_signed};
+use text::Line;
 
-fn push_margin(l: Line, m: Margin) -> Line
-    ensures { result ≡ push_of l (margin_text m) }
+// The text of a margin.
+#[tactic(auto, unfolding(crate::specs::Lines::margin_text))]
+pub fn push_margin(l: &mut Line, m: Margin)
+    ensures { l.new ≡ push_of l.old (margin_text m) }
 {
     match m {
-        Margin::NoMargin => push(l, b"none"),
-        Margin::PlusFar => push(l, b"+far"),
-        Margin::MinusFar => push(l, b"-far"),
-        Margin::Millis(z) => push_signed(l, z),
+        Margin::NoMargin => l.push(b"none"),
+        Margin::PlusFar => l.push(b"+far"),
+        Margin::MinusFar => l.push(b"-far"),
+        Margin::Millis(z) => l.push_signed(z),
     }
 }
 
-// The text of a margin alone.
-pub fn margin_line(m: Margin) -> Line
-    ensures { result ≡ line_of (margin_text m) }
+// Numbers, each after a blank.
+fn push_fields(l: &mut Line, numbers: &[u64])
+    ensures { l.new ≡ push_of l.old (fields_text numbers.now) }
 {
-    push_margin(empty(), m)
+    for x in numbers {
+        l.push(b" ");
+        l.push_number(*x);
+    }
 }
 
-// A blank and a number.
-pub fn field(l: Line, x: u64) -> Line
-    ensures { result ≡ push_of l (field_text x) }
+// A word, numbers each after a blank, and a newline.
+pub fn fields_line(word: &[u8], numbers: &[u64]) -> Line
+    ensures { result ≡ line_of (word.now ++ fields_text numbers.now ++ ascii "\n") }
 {
-    push_number(push(l, b" "), x)
+    let mut l = Line::new();
+    l.push(word);
+    push_fields(&mut l, numbers);
+    l.push(b"\n");
+    l
 }
 
-fn field32(l: Line, x: u32) -> Line
-    ensures { result ≡ push_of l (field_text x) }
+// The six numbers of a tick's line.
+fn numbers_in(v: SafetyVerdict) -> [u64; 6]
+    ensures { result ≡ numbers_in v }
 {
-    field(l, x as u64)
+    let (state, reason) = (v.state as u64, v.reason as u64);
+    [
+        u64::from(v.seq),
+        u64::from(v.t),
+        state,
+        reason,
+        u64::from(v.trips),
+        v.action_src as u64,
+    ]
+}
+
+// The line of a tick.
+pub(crate) fn push_tick(l: &mut Line, v: SafetyVerdict)
+    ensures { l.new ≡ push_of l.old (tick_text v) }
+{
+    l.push(b"tick");
+    push_fields(l, &numbers_in(v));
+    l.push(b" ");
+    push_margin(l, Margin::from(v.brake_margin));
+    l.push(b"\n");
 }
 
 // The line at the end of a journal.
 pub fn end_line(t: Tally) -> Line
     ensures { result ≡ line_of (end_text t) }
 {
-    let a = push(empty(), b"end");
-    let b = field32(field32(a, t.ticks), t.stop_actions);
-    push(b, b"\n")
+    fields_line(b"end", &[u64::from(t.ticks), u64::from(t.stop_actions)])
 }
 
-// The line of a refusal.
+// The line of a refusal. (Its number is what is printed: the programs have numbers of their own
+// beside the journal's refusals.)
 pub fn refused_line(number: u8, place: u64) -> Line
     ensures { result ≡ line_of (refused_text number place) }
 {
-    let n = number as u64;
-    let a = push(empty(), b"refused");
-    let b = field(field(a, n), place);
-    push(b, b"\n")
+    fields_line(b"refused", &[u64::from(number), place])
 }

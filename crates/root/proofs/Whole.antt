@@ -6,20 +6,21 @@ use native.Mathlib.Omega.{arith}
 use mathlib.Core.Bool.{Bool, true, false, not, cond, true≢false, false≢true}
 use lib.Dec.{T, leb, ltb, eqb, le→leb, lt→ltb, T_not}
 use lib.Pow.{pow-add, pow_pos}
-use lib.Ieee.{Float, nan, inf, fin, binary64, up, down, odd, round, of_fields, of_bits, to_bits, fits, is_nan, ne}
+use lib.Ieee.{Float, nan, inf, fin, binary64, up, down, odd, round, of_fields, of_bits, to_bits, fits, is_nan}
 use lib.Ieee.Bits.{of_bits-to_bits, nan_bits_is, nan_bits_above, to_bits-lt, is_true}
 use lib.Ieee.Exact.{HasValue, odd_sign}
 use lib.Ieee.Fits.{down_pos}
 use Rattle.root.specs.Root.{root_of, whole_root}
 use Rattle.root.specs.Steps.{Normed, NearRoot, RootBits}
 use Rattle.root.proofs.Rounded.{rounded, g_lt, g_ge}
-use Rattle.floats.proofs.Nan.{is_nan_lem, not_nan}
+use Rattle.std.proofs.lemmas.Float.{T_from_false}
+use Rattle.floats.proofs.Nan.{the_nan}
 use Rattle.root.proofs.Patterns.{no_nan_bits, of_bits_is, put, normal_value, low_value}
 
 -- ---- a NaN
-pub at_nan : (x : Float) → ne x x ≡ true → x ≡ root_of x
+pub at_nan : (x : Float) → is_nan x ≡ true → x ≡ root_of x
 unfolding root_of
-at_nan x d = subst (λ (y : Float). y ≡ root_of y) (sym (is_nan_lem x d)) refl
+at_nan x d = subst (λ (y : Float). y ≡ root_of y) (sym (the_nan x d)) refl
 
 -- ---- -0, +0 and the infinity are their own roots
 own_root : (x : Float) (b : ℕ) → T (fits binary64 x) → of_bits binary64 b ≡ root_of (of_bits binary64 b) → to_bits binary64 x ≡ b → x ≡ root_of x
@@ -74,12 +75,12 @@ not_above : (b : ℕ) → b < 2 ^ 63 → T (not (is_nan (of_bits binary64 b))) �
 not_above b u n = le_of_suc-le-suc (lt_of_not-le (λ (g : suc 0x7ff0_0000_0000_0000 ≤ b). T_not (is_nan (of_bits binary64 b)) n
     (subst T (sym (ap (λ (z : ℕ). ltb 0x7ff0_0000_0000_0000 z) (mod-eq_of_lt u)) ∙ sym (nan_bits_above binary64 b) ∙ nan_bits_is binary64 b) (lt→ltb 0x7ff0_0000_0000_0000 b g))))
 
-pub pattern_lt : (x : Float) → T (fits binary64 x) → ne x x ≡ false → (to_bits binary64 x ≡ 2 ^ 63 → ⊥) → to_bits binary64 x ≤ 2 ^ 63 → (to_bits binary64 x ≡ 0x7ff0_0000_0000_0000 → ⊥)
+pub pattern_lt : (x : Float) → T (fits binary64 x) → is_nan x ≡ false → (to_bits binary64 x ≡ 2 ^ 63 → ⊥) → to_bits binary64 x ≤ 2 ^ 63 → (to_bits binary64 x ≡ 0x7ff0_0000_0000_0000 → ⊥)
     → to_bits binary64 x < 0x7ff0_0000_0000_0000
 pattern_lt x F d z l i = go (to_bits binary64 x) (of_bits-to_bits binary64 x F) z l i
   where
     go : (b : ℕ) → of_bits binary64 b ≡ x → (b ≡ 2 ^ 63 → ⊥) → b ≤ 2 ^ 63 → (b ≡ 0x7ff0_0000_0000_0000 → ⊥) → b < 0x7ff0_0000_0000_0000
-    go b e z l i = let k : b ≤ 0x7ff0_0000_0000_0000 = not_above b (omega arith) (subst (λ (y : Float). T (not (is_nan y))) (sym e) (not_nan x d)) in omega arith
+    go b e z l i = let k : b ≤ 0x7ff0_0000_0000_0000 = not_above b (omega arith) (subst (λ (y : Float). T (not (is_nan y))) (sym e) (T_from_false (is_nan x) d)) in omega arith
 
 -- the root of n units
 pub root_at : (x : Float) (n : ℕ) → HasValue x false n (2 ^ 1074) → 0 < n → root_of x ≡ round binary64 false (whole_root (n * 2 ^ 1074)) (2 ^ 1074)
@@ -126,7 +127,7 @@ module _ (m e g : ℕ) (l : 2 ^ 52 ≤ m) (u : m < 2 ^ 53) (c : 1022 ≤ e) (d :
   near : NearRoot w.n g
   near = subst (λ (n : ℕ). NearRoot n g) (sym w.n_is) r
 
-  pub digits_lt : g < 2 ^ 53
+  digits_lt : g < 2 ^ 53
   digits_lt = g_lt w.n g w.k w.above w.below w.lo w.hi near
 
   digits_ge : 2 ^ 52 ≤ g

@@ -27,13 +27,8 @@ fn normed(t: u64) -> Moved
     requires { (0 < t) × (t < 2 ^ 52) }
     ensures { Normed t result.m result.up }
 {
-    let mut digits = t;
-    let mut up: u64 = 0;
-    while digits < PLACE {
-        digits = digits * 2;
-        up += 1;
-    }
-    Moved { m: digits, up }
+    let up = t.leading_zeros() as u64 - 11;
+    Moved { m: t << up, up }
 }
 
 // x * y / 2 ^ 52, cut to a whole number, from the halves of x and y: the product itself may have
@@ -84,10 +79,10 @@ fn guess(m: u64, odd: u64) -> u64
     let r3 = r2 * (1.5 - half * r2 * r2);
     let s = number * r3;
     let y = s + 0.5 * r3 * (number - s * s);
-    if y != y {
+    if y.is_nan() {
         return PLACE;
     }
-    PLACE + f64::to_bits(y) % PLACE
+    PLACE + y.to_bits() % PLACE
 }
 
 // g moved down until it is not too large.
@@ -127,19 +122,20 @@ fn pattern(m: u64, e: u64) -> u64
 
 // The square root, rounded to the nearest; of the infinity, of +0 and of -0 the argument itself,
 // and of a NaN and of what is below zero a NaN.
+// By hand: 01-scope.md asks for a root that is worked out from the bits, not for the processor's.
 // Which pattern a NaN has is the program's choice.
 pub fn sqrt(x: f64) -> f64
     ensures { result ≡ root_of x }
 {
-    if x != x {
+    if x.is_nan() {
         return x;
     }
-    let bits = f64::to_bits(x);
+    let bits = x.to_bits();
     if bits == MINUS_ZERO {
         return x;
     }
     if MINUS_ZERO < bits {
-        return 0.0 / 0.0;
+        return f64::NAN;
     }
     if bits == 0 {
         return x;

@@ -2,16 +2,15 @@
 use mathlib.Core.Path.{◌≡◌, refl, sym, ap, ◌∙◌}
 use mathlib.Core.Bool.{Bool, true, false, not, cond}
 use mathlib.Core.List.{List, [], ◌∷◌, ◌++◌, append_assoc, append-nil}
-use Prim.Native.Nat.{ℕ, zero, suc, ◌+◌, ◌-◌, ◌*◌, ◌/◌, ◌%◌, ◌^◌, ◌≤◌, ◌<◌, min}
+use Prim.Native.Nat.{ℕ, zero, suc, ◌+◌, ◌*◌, ◌/◌, ◌%◌, ◌^◌, ◌≤◌, ◌<◌, min}
 use native.Mathlib.Nat.{pow-suc, pow-le-pow_right}
 use native.Mathlib.Numerals.{add-one}
 use native.Mathlib.Omega.{arith}
-use borrow.Author.Tests.{lt-ltb, le-ltb}
 use lib.Dec.{T, leb, leb→le, nleb→lt}
-use lib.ListN.{length, take, drop, get_or, length-append, length-take, length-drop, length-replicate, drop_of_length-le}
-use lib.Seq.{drop-cons, get_or-take, take_all, drop-drop, length-take-le}
+use lib.ListN.{length, take, drop, get_or, length-append, length-take, length-drop, drop_of_length-le}
+use lib.Seq.{drop-cons, get_or-take, take_all, take_at, drop_at, length-take-le}
 use lib.Ieee.{Float, binary64, is_nan, to_bits, of_bits}
-use Rattle.text.specs.declared.Line.{Line}
+use Rattle.std.proofs.Common.{Option, Some, None}
 use Rattle.text.specs.Ascii.{ascii}
 use Rattle.text.specs.Line.{line_of}
 use Rattle.text.specs.Number.{hex_in, hex_digit, float_text}
@@ -19,25 +18,22 @@ use Rattle.text.specs.Memory.{Put}
 use Rattle.text.proofs.Lines.{line_text}
 use Rattle.text.proofs.Puts.{put_shows}
 use Rattle.fmath.specs.Root.{root_of}
-use Rattle.roots.specs.declared.Read.{Read}
-use Rattle.roots.specs.declared.Read.TheVariants.{Pattern, Bad}
 use Rattle.roots.specs.Text.{digit_of, read_digits, pattern_of, root_text, by_read, answer_to, is_bad, answers, some_bad, line_count, Answered}
 
 -- ---- reading: the digits of s from the i-th on
-pub digits_on : (s : List ℕ) (i b : ℕ) → length s ≡ 17 → i < 16 → digit_of (get_or s i 0) < 16
-    → read_digits b (drop i (take 16 s)) ≡ read_digits (b * 16 + digit_of (get_or s i 0)) (drop (i + 1) (take 16 s))
+pub digits_on : (s : List ℕ) (i b d : ℕ) → length s ≡ 17 → i < 16 → digit_of (get_or s i 0) ≡ Some d → read_digits b (drop i (take 16 s)) ≡ read_digits (b * 16 + d) (drop (i + 1) (take 16 s))
 unfolding read_digits
-digits_on s i b l h d =
+digits_on s i b d l h e =
     let k : i < length (take 16 s) = omega (arith, length-take 16 s) in
-    rw (add-one, drop-cons (take 16 s) i 0, get_or-take 16 s i 0, lt-ltb (digit_of (get_or s i 0)) 16 d)
+    rw (add-one, drop-cons (take 16 s) i 0, get_or-take 16 s i 0, e)
 
-pub digits_stop : (s : List ℕ) (i b : ℕ) → length s ≡ 17 → i < 16 → 16 ≤ digit_of (get_or s i 0) → read_digits b (drop i (take 16 s)) ≡ Bad
+pub digits_stop : (s : List ℕ) (i b : ℕ) → length s ≡ 17 → i < 16 → digit_of (get_or s i 0) ≡ None → read_digits b (drop i (take 16 s)) ≡ None
 unfolding read_digits
-digits_stop s i b l h d =
+digits_stop s i b l h e =
     let k : i < length (take 16 s) = omega (arith, length-take 16 s) in
-    rw (drop-cons (take 16 s) i 0, get_or-take 16 s i 0, le-ltb (digit_of (get_or s i 0)) 16 d)
+    rw (drop-cons (take 16 s) i 0, get_or-take 16 s i 0, e)
 
-pub digits_end : (s : List ℕ) (i b : ℕ) → 16 ≤ i → read_digits b (drop i (take 16 s)) ≡ Pattern b
+pub digits_end : (s : List ℕ) (i b : ℕ) → 16 ≤ i → read_digits b (drop i (take 16 s)) ≡ Some b
 unfolding read_digits
 digits_end s i b h =
     let k : length (take 16 s) ≤ i = omega (arith, length-take 16 s) in
@@ -72,98 +68,92 @@ pub answer_length : (s : List ℕ) → length (answer_to s) ≤ 34
 unfolding answer_to
 answer_length s = go (pattern_of s)
   where
-    go : (r : Read) → length (by_read r root_text (ascii "bad line\n")) ≤ 34
-    go (Pattern b) = line_length b
-    go Bad = omega arith
+    go : (r : Option ℕ) → length (by_read r root_text (ascii "bad line\n")) ≤ 34
+    go (Some b) = line_length b
+    go None = omega arith
 
 -- the line for a pattern holds its text whole
-line_fits : (s : List ℕ) → (line_of s).n ≤ length (line_of s).text
-unfolding line_of
-line_fits s = simp (length-append, length-take, length-replicate) (omega arith)
+pub root_shown : (b : ℕ) → line_of (root_text b) ≡ root_text b
+root_shown b = line_text (root_text b) (omega (arith, line_length b))
 
-pub root_fits : (b : ℕ) (l : Line) → l ≡ line_of (root_text b) → l.n ≤ length l.text
-root_fits b l e = rw e (line_fits (root_text b))
+-- ---- line by line: `rest` is what is left of s
 
-pub root_shown : (b : ℕ) (l : Line) → l ≡ line_of (root_text b) → take l.n l.text ≡ root_text b
-root_shown b l e = ap (λ (x : Line). take x.n x.text) e ∙ line_text (root_text b) (omega (arith, line_length b))
-
--- ---- the lines of s, from the byte `at` on
-pub record Answering (s old new : List ℕ) (at n : ℕ) : Type 0 where
-  pub long : length new ≡ length old
-  pub room : n + line_count (drop at s) * 34 ≤ length new
-  pub text_is : answers (line_count s) s ≡ take n new ++ answers (line_count (drop at s)) (drop at s)
-  pub bad_is : some_bad (line_count s) s ≡ some_bad (line_count (drop at s)) (drop at s)
-
-pub none_answered : (s out : List ℕ) → line_count s * 34 ≤ length out → Answering s out out 0 0
-none_answered s out h = record { long = refl; room = omega arith; text_is = refl; bad_is = refl }
-
--- the line at `at`, 17 bytes or what is left
-pub line_is : (s : List ℕ) (at : ℕ) → take (min (at + 17) (length s) - at) (drop at s) ≡ take 17 (drop at s)
-line_is s at = go (leb (at + 17) (length s)) (leb→le (at + 17) (length s)) (nleb→lt (at + 17) (length s))
+-- 17 bytes or what is left, and what is left then
+pub one_line : (rest line later : List ℕ) → rest ≡ line ++ later → length line ≡ min 17 (length rest) → (line ≡ take 17 rest) × (later ≡ drop 17 rest)
+one_line rest line later e l = rw e (go (leb 17 (length rest)) (leb→le 17 (length rest)) (nleb→lt 17 (length rest)))
   where
-    whole : (at n : ℕ) → at + 17 ≤ n → min (at + 17) n - at ≡ 17
-    whole at n h = omega arith
+    short : (u : List ℕ) → length u ≡ 0 → length line ≤ 17 → (line ≡ take 17 (line ++ u)) × (u ≡ drop 17 (line ++ u))
+    short [] z h = rw append-nil (sym (take_all 17 line h), sym (drop_of_length-le line h))
+    short (x ∷ u) z h = absurd (omega arith)
 
-    go : (b : Bool) → (T b → at + 17 ≤ length s) → (T (not b) → length s < at + 17) → take (min (at + 17) (length s) - at) (drop at s) ≡ take 17 (drop at s)
-    go true f g = ap (λ (k : ℕ). take k (drop at s)) (whole at (length s) (f tt))
-    go false f g = let h = g tt in take_all (min (at + 17) (length s) - at) (drop at s) (omega (arith, length-drop at s)) ∙ sym (take_all 17 (drop at s) (omega (arith, length-drop at s)))
+    go : (b : Bool) → (T b → 17 ≤ length rest) → (T (not b) → length rest < 17) → (line ≡ take 17 (line ++ later)) × (later ≡ drop 17 (line ++ later))
+    go true f g = let k : length line ≡ 17 = omega (arith, f tt) in (sym (take_at line later 17 k), sym (drop_at line later 17 k))
+    go false f g = short later (omega (arith, g tt, ap length e, length-append line later)) (omega (arith, g tt))
 
-module _ (s old new : List ℕ) (at n : ℕ) (h : at < length s) (w : Answering s old new at n) (new' : List ℕ) (n' : ℕ) (long : length new' ≡ length new) (p : Put new n (answer_to (take 17 (drop at s))) n' new') where
-  abbrev rest : List ℕ
-  rest = answers (line_count (drop (at + 17) s)) (drop (at + 17) s)
+pub record Answering (s old new rest : List ℕ) (n : ℕ) : Type 0 where
+  pub long : length new ≡ length old
+  pub room : n + line_count rest * 34 ≤ length new
+  pub text_is : answers (line_count s) s ≡ take n new ++ answers (line_count rest) rest
+  pub bad_is : some_bad (line_count s) s ≡ some_bad (line_count rest) rest
 
-  abbrev rest_bad : Bool
-  rest_bad = some_bad (line_count (drop (at + 17) s)) (drop (at + 17) s)
+pub none_answered : (s out rest : List ℕ) → rest ≡ s → line_count s * 34 ≤ length out → Answering s out out rest 0
+none_answered s out rest e h = rw e (record { long = refl; room = omega arith; text_is = refl; bad_is = refl })
 
-  abbrev line : List ℕ
-  line = take 17 (drop at s)
+module _ (s old new rest : List ℕ) (n : ℕ) (h : 0 < length rest) (w : Answering s old new rest n) (line : List ℕ) (l : line ≡ take 17 rest) (new' : List ℕ) (n' : ℕ) (long : length new' ≡ length new) (p : Put new n (answer_to line) n' new') where
+  abbrev later : List ℕ
+  later = drop 17 rest
 
-  next : drop 17 (drop at s) ≡ drop (at + 17) s
-  next = drop-drop 17 at s
+  abbrev later_text : List ℕ
+  later_text = answers (line_count later) later
 
-  one_less : line_count (drop at s) ≡ suc (line_count (drop (at + 17) s))
-  one_less = omega (arith, length-drop at s, length-drop (at + 17) s)
+  abbrev later_bad : Bool
+  later_bad = some_bad (line_count later) later
 
-  first : answers (line_count (drop at s)) (drop at s) ≡ answer_to line ++ cond (is_bad line) [] rest
+  one_less : line_count rest ≡ suc (line_count later)
+  one_less = omega (arith, length-drop 17 rest)
+
+  first : answers (line_count rest) rest ≡ answer_to line ++ cond (is_bad line) [] later_text
   unfolding answers
-  first = rw (one_less, ← next)
+  first = rw (one_less, l)
 
-  first_bad : some_bad (line_count (drop at s)) (drop at s) ≡ cond (is_bad line) true rest_bad
+  first_bad : some_bad (line_count rest) rest ≡ cond (is_bad line) true later_bad
   unfolding some_bad
-  first_bad = rw (one_less, ← next)
+  first_bad = rw (one_less, l)
 
-  room : n' + line_count (drop (at + 17) s) * 34 ≤ length new'
+  room : n' + line_count later * 34 ≤ length new'
   room = omega (arith, w.room, p.ends, one_less, answer_length line)
 
   shown : take n' new' ≡ take n new ++ answer_to line
   shown = put_shows new n (answer_to line) n' new' (omega (arith, w.room)) p
 
-  pub one_answered : is_bad line ≡ false → Answering s old new' (at + 17) n'
-  one_answered e = record {
-    long = long ∙ w.long;
-    room = room;
-    text_is =
-        w.text_is
-        ∙ ap (λ (l : List ℕ). take n new ++ l) (first ∙ ap (λ (b : Bool). answer_to line ++ cond b [] rest) e)
-        ∙ sym (append_assoc (take n new) (answer_to line) rest)
-        ∙ ap (λ (l : List ℕ). l ++ rest) (sym shown);
-    bad_is = w.bad_is ∙ first_bad ∙ ap (λ (b : Bool). cond b true rest_bad) e;
-  }
+  pub one_answered : is_bad line ≡ false → (v : List ℕ) → v ≡ later → Answering s old new' v n'
+  one_answered e v q =
+      rw q (record {
+        long = long ∙ w.long;
+        room = room;
+        text_is =
+            w.text_is
+            ∙ ap (λ (l : List ℕ). take n new ++ l) (first ∙ ap (λ (b : Bool). answer_to line ++ cond b [] later_text) e)
+            ∙ sym (append_assoc (take n new) (answer_to line) later_text)
+            ∙ ap (λ (l : List ℕ). l ++ later_text) (sym shown);
+        bad_is = w.bad_is ∙ first_bad ∙ ap (λ (b : Bool). cond b true later_bad) e;
+      })
 
   pub bad_answered : is_bad line ≡ true → Answered s new' n' true
   bad_answered e = record {
     counts = (omega (arith, room), sym (length-take-le n' new' (omega (arith, room))));
     text_is =
         shown
-        ∙ ap (λ (l : List ℕ). take n new ++ l) (sym (append-nil (answer_to line)) ∙ ap (λ (b : Bool). answer_to line ++ cond b [] rest) (sym e) ∙ sym first)
+        ∙ ap (λ (l : List ℕ). take n new ++ l) (sym (append-nil (answer_to line)) ∙ ap (λ (b : Bool). answer_to line ++ cond b [] later_text) (sym e) ∙ sym first)
         ∙ sym w.text_is;
-    bad_is = sym (w.bad_is ∙ first_bad ∙ ap (λ (b : Bool). cond b true rest_bad) e);
+    bad_is = sym (w.bad_is ∙ first_bad ∙ ap (λ (b : Bool). cond b true later_bad) e);
   }
 
-pub all_answered : (s old new : List ℕ) (at n : ℕ) → length s ≤ at → Answering s old new at n → Answered s new n false
+pub all_answered : (s old new rest : List ℕ) (n : ℕ) → length rest ≡ 0 → Answering s old new rest n → Answered s new n false
 unfolding answers some_bad
-all_answered s old new at n h w = record {
+all_answered s old new (x ∷ rest) n h w = absurd (omega arith)
+all_answered s old new [] n h w = record {
   counts = (omega (arith, w.room), sym (length-take-le n new (omega (arith, w.room))));
-  text_is = sym (w.text_is ∙ ap (λ (l : List ℕ). take n new ++ answers (line_count l) l) (drop_of_length-le s h) ∙ append-nil (take n new));
-  bad_is = sym (w.bad_is ∙ ap (λ (l : List ℕ). some_bad (line_count l) l) (drop_of_length-le s h));
+  text_is = sym (w.text_is ∙ append-nil (take n new));
+  bad_is = sym w.bad_is;
 }

@@ -1,13 +1,11 @@
 -- The text that `roots` reads and writes. It states nothing of the papers.
-use Rattle.std.specs.Prelude.{ℕ, zero, suc, ◌+◌, ◌-◌, ◌*◌, ◌/◌, ◌≡◌, Bool, true, false, cond, List, [], ◌∷◌, ◌++◌, leb, ltb, eqb, length, take, drop, get_or}
+use Rattle.std.specs.Prelude.{Option, Some, None, option_and_then, ℕ, zero, suc, ◌+◌, ◌-◌, ◌*◌, ◌/◌, ◌≡◌, Bool, true, false, cond, List, [], ◌∷◌, ◌++◌, leb, ltb, eqb, length, take, drop, get_or}
 use Rattle.std.specs.Float.{binary64}
 use Rattle.std.specs.Float.Ieee.{of_bits}
 use Rattle.io.specs.Counts.{IsPrefixLen}
 use Rattle.text.specs.Ascii.{ascii}
 use Rattle.text.specs.Number.{hex_in, float_text}
 use Rattle.fmath.specs.Root.{root_of}
-use Rattle.roots.specs.declared.Read.{Read}
-use Rattle.roots.specs.declared.Read.TheVariants.{Pattern, Bad}
 
 -- ---- sizes
 
@@ -23,20 +21,20 @@ turn_lines = 240
 
 -- ---- reading
 
--- the value of a hexadecimal digit, `0` to `9` or `a` to `f`, and 16 for any other byte
-unfoldable pub digit_of : ℕ → ℕ
-digit_of c = cond (ltb c 48) 16 (cond (leb c 57) (c - 48) (cond (ltb c 97) 16 (cond (leb c 102) (c - 97 + 10) 16)))
+-- the value of a hexadecimal digit, `0` to `9` or `a` to `f`; no other byte is one
+unfoldable pub digit_of : ℕ → Option ℕ
+digit_of c = cond (ltb c 48) None (cond (leb c 57) (Some (c - 48)) (cond (ltb c 97) None (cond (leb c 102) (Some (c - 97 + 10)) None)))
 
 -- v followed by the digits cs
-unfoldable pub read_digits : ℕ → List ℕ → Read
+unfoldable pub read_digits : ℕ → List ℕ → Option ℕ
 unfolding digit_of
-read_digits v [] = Pattern v
-read_digits v (c ∷ cs) = cond (ltb (digit_of c) 16) (read_digits (v * 16 + digit_of c) cs) Bad
+read_digits v [] = Some v
+read_digits v (c ∷ cs) = option_and_then (λ d. read_digits (v * 16 + d) cs) (digit_of c)
 
 -- a line is 16 digits and a newline
-unfoldable pub pattern_of : List ℕ → Read
+unfoldable pub pattern_of : List ℕ → Option ℕ
 unfolding read_digits
-pattern_of s = cond (eqb (length s) line_bytes) (cond (eqb (get_or s 16 0) 10) (read_digits 0 (take 16 s)) Bad) Bad
+pattern_of s = cond (eqb (length s) line_bytes) (cond (eqb (get_or s 16 0) 10) (read_digits 0 (take 16 s)) None) None
 
 -- ---- writing
 
@@ -46,9 +44,9 @@ root_text b = hex_in 16 b ++ ascii " " ++ float_text (root_of (of_bits binary64 
 
 -- ---- the whole
 
-abbrev pub by_read : {A : Type 0} → Read → (ℕ → A) → A → A
-by_read (Pattern b) f a = f b
-by_read Bad f a = a
+abbrev pub by_read : {A : Type 0} → Option ℕ → (ℕ → A) → A → A
+by_read (Some b) f a = f b
+by_read None f a = a
 
 -- the answer to one line
 unfoldable pub answer_to : List ℕ → List ℕ

@@ -3,14 +3,13 @@
 // newline. At a line that is no such text it writes `bad line` and stops.
 #![tactic(auto)]
 
-ghost use Rattle.std.specs.Prelude.{◌≡◌, ◌+◌, ◌*◌, ◌≤◌, length};
+ghost use Rattle.std.specs.Prelude.{IfSome, ◌<◌, ◌≡◌, ◌+◌, ◌*◌, ◌≤◌, length};
 ghost use Rattle.text.specs.Line.{line_of};
 ghost use Rattle.text.specs.Memory.{Put};
 ghost use Rattle.roots.specs.Text.{line_bytes, answer_bytes, turn_lines, digit_of, pattern_of, root_text, answer_to, is_bad, line_count, Answered};
 
-use lictor_core::num::least;
+use text::Line;
 use text::memory::put;
-use text::{Line, empty, push, push_float, push_hex};
 
 // The bytes of a line, those of an answer at most, and the lines that a turn takes at most.
 const LINE_BYTES: usize = 17;
@@ -21,52 +20,35 @@ const MOST_LINES: usize = 240;
 
 // ---- reading
 
-#[derive(Clone, Copy)]
-enum Read {
-    Pattern(u64),
-    Bad,
-}
-
-// The value of a hexadecimal digit, and 16 for any other byte.
-fn digit(byte: u8) -> u8
-    ensures { result ≡ digit_of byte }
+// The value of a hexadecimal digit. By hand: the library's `to_digit` takes upper case too.
+#[tactic(auto, unfolding(crate::specs::Text::digit_of))]
+fn digit(byte: u8) -> Option<u8>
+    ensures value { result ≡ digit_of byte }
+    ensures small { IfSome result (λ d. d < 16) }
 {
-    if byte < b'0' {
-        return 16;
+    match byte {
+        b'0'..=b'9' => Some(byte - b'0'),
+        b'a'..=b'f' => Some(byte - b'a' + 10),
+        _ => None,
     }
-    if byte <= b'9' {
-        return byte - b'0';
-    }
-    if byte < b'a' {
-        return 16;
-    }
-    if byte <= b'f' {
-        return byte - b'a' + 10;
-    }
-    16
 }
 
-// What a line says, its newline included.
-fn read_line(line: &[u8]) -> Read
+// What a line says, its newline included, if it is such a text.
+fn read_line(line: &[u8]) -> Option<u64>
     ensures { result ≡ pattern_of line.now }
 {
     if line.len() != LINE_BYTES {
-        return Read::Bad;
+        return None;
     }
     if line[16] != b'\n' {
-        return Read::Bad;
+        return None;
     }
     let mut pattern: u64 = 0;
-    let mut at: usize = 0;
-    while at < 16 {
-        let d = digit(line[at]);
-        if d > 15 {
-            return Read::Bad;
-        }
+    for at in 0..16 {
+        let d = digit(line[at])?;
         pattern = pattern * 16 + d as u64;
-        at += 1;
     }
-    Read::Pattern(pattern)
+    Some(pattern)
 }
 
 // ---- writing
@@ -76,8 +58,12 @@ fn root_line(b: u64) -> Line
     ensures { result ≡ line_of (root_text b) }
 {
     let root = fmath::sqrt(floats::double(b));
-    let l = push(push_hex(empty(), b), b" ");
-    push(push_float(l, root), b"\n")
+    let mut l = Line::new();
+    l.push_hex(b);
+    l.push(b" ");
+    l.push_float(root);
+    l.push(b"\n");
+    l
 }
 
 // Puts the line for a pattern.
@@ -85,14 +71,13 @@ fn put_root(out: &mut [u8], at: usize, b: u64) -> usize
     requires { at + answer_bytes ≤ length out.old }
     ensures { Put out.old at (root_text b) result out.new }
 {
-    let l = root_line(b);
-    let text = l.text;
-    let n = l.n;
-    put(out, at, &text[..n])
+    put(out, at, root_line(b).as_bytes())
 }
 
 // ---- lines
 
+// How far the answers go, and whether the last is to a bad line. It says how far in both cases, so
+// that neither an Option nor a Result is plainer.
 #[derive(Clone, Copy)]
 struct Done {
     n: usize,
@@ -104,11 +89,11 @@ fn answer_line(s: &[u8], out: &mut [u8], at: usize) -> Done
     ensures { Put out.old at (answer_to s.now) result.n out.new × (result.bad ≡ is_bad s.now) }
 {
     match read_line(s) {
-        Read::Pattern(b) => Done {
+        Some(b) => Done {
             n: put_root(out, at, b),
             bad: false,
         },
-        Read::Bad => Done {
+        None => Done {
             n: put(out, at, b"bad line\n"),
             bad: true,
         },
@@ -120,25 +105,15 @@ fn answer(s: &[u8], out: &mut [u8]) -> Done
     requires { line_count s.now * answer_bytes ≤ length out.old }
     ensures { Answered s.now out.new result.n result.bad }
 {
-    let mut at: usize = 0;
-    let mut written: usize = 0;
-    while at < s.len() {
-        let end = least(at + LINE_BYTES, s.len());
-        let done = answer_line(&s[at..end], out, written);
-        let bad = done.bad;
-        written = done.n;
-        if bad {
-            return Done {
-                n: written,
-                bad: true,
-            };
+    let mut n: usize = 0;
+    for line in s.chunks(LINE_BYTES) {
+        let done = answer_line(line, out, n);
+        if done.bad {
+            return done;
         }
-        at += LINE_BYTES;
+        n = done.n;
     }
-    Done {
-        n: written,
-        bad: false,
-    }
+    Done { n, bad: false }
 }
 
 // ---- the program
@@ -165,19 +140,15 @@ fn turn() -> bool {
     }
     let mut out = answer_space();
     let done = answer(&lines[..n], &mut out);
-    let k = done.n;
-    let bad = done.bad;
-    let is_written = io::write_all(1, &out[..k]);
-    if bad {
-        return false;
-    }
-    is_written
+    let is_written = io::write_all(1, &out[..done.n]);
+    is_written && !done.bad
 }
 
-// Nothing says that the input ends, so turns are counted down from a number that none uses up.
+// Nothing says that the input ends, so there are as many turns as none uses up.
 fn main() {
-    let mut turns = u64::MAX;
-    while turns > 0 && turn() {
-        turns -= 1;
+    for _ in 0..u64::MAX {
+        if !turn() {
+            return;
+        }
     }
 }

@@ -1,9 +1,8 @@
 -- Samples of what a tick is given (the types of 01-scope.md, Modules 1).
 -- The parameters are what the users of a sample differ in.
-use Rattle.std.specs.Prelude.{Bool, false, ℕ, Float}
-use Rattle.lictor_core.specs.declared.ack.MaybeAck.{MaybeAck}
+use Rattle.std.specs.Prelude.{Bool, false, ℕ, Float, Option}
+use Rattle.lictor_core.specs.declared.ack.VerifiedAck.{VerifiedAck}
 use Rattle.lictor_core.specs.declared.chunk.ChunkHead.{ChunkHead}
-use Rattle.lictor_core.specs.declared.chunk.MaybeChunk.{MaybeChunk}
 use Rattle.lictor_core.specs.declared.envelope.Hysteresis.{Hysteresis}
 use Rattle.lictor_core.specs.declared.envelope.Settings.{Settings}
 use Rattle.lictor_core.specs.declared.fuse.TickInput.{TickInput}
@@ -58,7 +57,7 @@ sample_outcome trips feasible s = record {
 }
 
 -- a tick at t, after `missed` ticks, with a velocity or none, with this chunk and acknowledgement
-abbrev pub sample_input : (t missed : ℕ) (has_vel : Bool) → MaybeChunk → MaybeAck → TickInput
+abbrev pub sample_input : (t missed : ℕ) (has_vel : Bool) → Option ChunkHead → Option VerifiedAck → TickInput
 sample_input t missed has_vel chunk ack = record {
   t = t;
   idx = 0;

@@ -1,11 +1,12 @@
 -- `for_all` and `never_accepted`: what the starred cases say of every run state. Assumes nothing.
+use Rattle.std.proofs.Math.Bool.{and-false}
 use mathlib.Core.Path.{◌≡◌, refl, sym, subst}
-use mathlib.Core.Bool.{Bool, true, false, ◌&&◌, ◌||◌}
+use mathlib.Core.Bool.{true, false}
 use mathlib.Core.List.{List}
 use Prim.Native.Nat.{ℕ, ◌≤◌, ◌<◌}
 use native.Mathlib.Omega.{arith}
 use lib.Bits.{bit_and}
-use lib.Dec.{T, ltb, leb, eqb}
+use lib.Dec.{T, ltb, eqb}
 use lib.ListN.{get_or}
 use lib.Ieee.{Float}
 use borrow.Author.Tests.{lt-ltb, le-leb, le-ltb, lt-leb}
@@ -21,11 +22,7 @@ use Rattle.lictor_core.specs.Num.{sat_up}
 use Rattle.lictor_table.specs.declared.FsmInput.{FsmInput}
 use Rattle.lictor_table.specs.Helpers.{accepted_by, clamp_reason, count_run, settled_of}
 use Rattle.lictor_table.specs.Table.{table, next_from, next_of, running}
-use Rattle.starred.specs.ForAll.{Turns, Unanswered, MayClamp, ForAll, NeverAccepted}
-
-and_no : (b : Bool) → (b && false) ≡ false
-and_no true = refl
-and_no false = refl
+use Rattle.starred.specs.ForAll.{Turns, Unanswered, ForAll, NeverAccepted}
 
 -- ---- the machine, by the state that the turn starts from
 
@@ -57,9 +54,9 @@ module _ (cfg : FuseConfig) (rt : Control) (pos : List Float) (inp : FsmInput) (
 
     spent : (q : FuseState) → T (running q) → cfg.hyst.max_clamps_per_episode < rt.clamps → Turns (next_from q cfg rt pos inp) Braking 2048 11
     unfolding next_from settled_of table first_that count_run
-    spent Armed r k = rw (calm, no_brake, clamping, and_no (any_of inp.trips tier0_soft), not_predictive, lt-leb _ _ streak, lt-ltb cfg.hyst.max_clamps_per_episode rt.clamps (omega arith)) (record { state = refl; extra = refl; reason = refl })
-    spent Watching r k = rw (calm, no_brake, clamping, and_no (any_of inp.trips tier0_soft), not_predictive, lt-leb _ _ streak, lt-ltb cfg.hyst.max_clamps_per_episode rt.clamps (omega arith)) (record { state = refl; extra = refl; reason = refl })
-    spent Clamped r k = rw (calm, no_brake, clamping, and_no (any_of inp.trips tier0_soft), not_predictive, lt-leb _ _ streak, lt-ltb cfg.hyst.max_clamps_per_episode rt.clamps (omega arith)) (record { state = refl; extra = refl; reason = refl })
+    spent Armed r k = rw (calm, no_brake, clamping, and-false (any_of inp.trips tier0_soft), not_predictive, lt-leb _ _ streak, lt-ltb cfg.hyst.max_clamps_per_episode rt.clamps (omega arith)) (record { state = refl; extra = refl; reason = refl })
+    spent Watching r k = rw (calm, no_brake, clamping, and-false (any_of inp.trips tier0_soft), not_predictive, lt-leb _ _ streak, lt-ltb cfg.hyst.max_clamps_per_episode rt.clamps (omega arith)) (record { state = refl; extra = refl; reason = refl })
+    spent Clamped r k = rw (calm, no_brake, clamping, and-false (any_of inp.trips tier0_soft), not_predictive, lt-leb _ _ streak, lt-ltb cfg.hyst.max_clamps_per_episode rt.clamps (omega arith)) (record { state = refl; extra = refl; reason = refl })
     spent Idle r k = absurd r
     spent Braking r k = absurd r
     spent Held r k = absurd r
@@ -81,6 +78,6 @@ for_all cfg rt pos inp = record {
 pub never_accepted : (handoff : ℕ) (nonces : List ℕ) (a : VerifiedAck) → NeverAccepted handoff nonces a
 unfolding accepted_by
 never_accepted handoff nonces a = record {
-  nonce = λ z. rw (le-ltb (get_or nonces a.operator_slot 0) a.nonce (omega arith), and_no (eqb a.handoff_seq handoff), and_no (ltb a.operator_slot 8)) refl;
+  nonce = λ z. rw (le-ltb (get_or nonces a.operator_slot 0) a.nonce (omega arith), and-false (eqb a.handoff_seq handoff), and-false (ltb a.operator_slot 8)) refl;
   slot = λ k. rw (le-ltb a.operator_slot 8 (omega arith)) refl;
 }

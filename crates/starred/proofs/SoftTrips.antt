@@ -1,5 +1,6 @@
 -- `soft_trips`: by induction, a tick at a time.
 -- A later tick is clean, and the machine's turn is computed with its count of clamps as a variable.
+use Rattle.std.proofs.Common.{None}
 use mathlib.Core.Path.{◌≡◌, refl}
 use mathlib.Core.Bool.{true, false}
 use mathlib.Core.List.{List, [], ◌∷◌}
@@ -8,8 +9,6 @@ use native.Mathlib.Omega.{arith}
 use borrow.Author.Tests.{ne_eqb, eq-eqb, le-ltb}
 use lib.Count.{ones}
 use lib.Ieee.{Float, inf, is_nan, lt, sub}
-use Rattle.lictor_core.specs.declared.ack.MaybeAck.TheVariants.{NoAck}
-use Rattle.lictor_core.specs.declared.chunk.MaybeChunk.TheVariants.{NoChunk}
 use Rattle.lictor_core.specs.declared.envelope.FuseConfig.{FuseConfig}
 use Rattle.lictor_core.specs.declared.envelope.Settings.{Settings}
 use Rattle.lictor_core.specs.declared.fuse.FuseRt.{FuseRt}
@@ -49,7 +48,7 @@ module _ (c b h e : ℕ) where
   cfg = config_of settings
 
   abbrev input_at : ℕ → TickInput
-  input_at t = sample_input t 0 false NoChunk NoAck
+  input_at t = sample_input t 0 false None None
 
   abbrev soft_trip : Outcome
   soft_trip = sample_outcome 1 true (inf true)
@@ -77,7 +76,7 @@ module _ (c b h e : ℕ) where
     unfolding tick_opened row_limits
     no_bits = rw (o.filled, ne_eqb r.clock.seq 0 (λ z. let k = o.begun in omega arith), o.time, eq-eqb (n + 1 + 0) (suc n) (omega arith)) refl
 
-    clean : row_tick (row_limits c b h e) r (suc n) 0 NoAck 1 ≡ given_of (clean_tick cfg r (input_at (suc n)) soft_trip (zero_float ∷ []) [])
+    clean : row_tick (row_limits c b h e) r (suc n) 0 None 1 ≡ given_of (clean_tick cfg r (input_at (suc n)) soft_trip (zero_float ∷ []) [])
     unfolding
         row_tick row_tick_at row_limits tick_of tick_by accepted_tick decide_of decide_by
         check_of first_that settings_table bad_code bad_size bad_float bad_box crossed_of any_below all_finite is_nan lt zeros
@@ -87,7 +86,7 @@ module _ (c b h e : ℕ) where
     one_more = omega arith
 
     -- it counts one clamp more, and the clock goes on
-    later : n < c → Trips (suc (suc n)) (suc n) (row_tick (row_limits c b h e) r (suc n) 0 NoAck 1).rt
+    later : n < c → Trips (suc (suc n)) (suc n) (row_tick (row_limits c b h e) r (suc n) 0 None 1).rt
     unfolding given_of clean_tick close_clean closed_of clean_clock delivered_of
     later few = rw clean (record {
       control = rw (o.control, turned (min (suc n) 65535) (omega arith) _ _ _, one_more) refl;
@@ -97,7 +96,7 @@ module _ (c b h e : ℕ) where
     })
 
     -- what a row looks at
-    pub clamps_on : n < c → clamping (row_tick (row_limits c b h e) r (suc n) 0 NoAck 1) ≡ 3 ∷ 3 ∷ min (suc (suc n)) 65535 ∷ []
+    pub clamps_on : n < c → clamping (row_tick (row_limits c b h e) r (suc n) 0 None 1) ≡ 3 ∷ 3 ∷ min (suc (suc n)) 65535 ∷ []
     unfolding clamping given_of clean_tick close_clean closed_of verdict_of delivered_of fresh_control
     clamps_on few = rw (clean, o.control, turned (min (suc n) 65535) (omega arith) _ _ _, one_more) refl
 

@@ -2,14 +2,11 @@
 -- What a contract says, and the cases).
 -- It is of one turn of the machine (lictor_table, `next_of`), whatever comes beside what is named,
 -- and of the acceptance rule.
-use Rattle.std.specs.Prelude.{◌≡◌, true, false, List, ℕ, ◌≤◌, ◌<◌, T, Float}
+use Rattle.std.specs.Prelude.{◌≡◌, true, false, List, ℕ, ◌≤◌, ◌<◌, T, Float, None}
 use Rattle.std.specs.Int.Bits.{bit_and}
-use Rattle.lictor_core.specs.declared.ack.MaybeAck.TheVariants.{NoAck}
 use Rattle.lictor_core.specs.declared.ack.VerifiedAck.{VerifiedAck}
 use Rattle.lictor_core.specs.declared.envelope.FuseConfig.{FuseConfig}
 use Rattle.lictor_core.specs.declared.fuse.Control.{Control}
-use Rattle.lictor_core.specs.declared.reason.ReasonCode.{ReasonCode}
-use Rattle.lictor_core.specs.declared.reason.ReasonCode.TheVariants as R
 use Rattle.lictor_core.specs.declared.state.FuseState.{FuseState}
 use Rattle.lictor_core.specs.declared.state.FuseState.TheVariants.{Clamped, Braking, Escalated, Fault, Terminated}
 use Rattle.lictor_core.specs.Codes.{reason_code}
@@ -28,7 +25,7 @@ pub record Turns (t : Turn) (q : FuseState) (bits why : ℕ) : Type 0 where
 
 -- no acknowledgement is accepted
 abbrev pub Unanswered : Control → FsmInput → Type 0
-Unanswered rt inp = accepted_ack rt.handoff_seq rt.last_nonce inp.ack ≡ NoAck
+Unanswered rt inp = accepted_ack rt.handoff_seq rt.last_nonce inp.ack ≡ None
 
 -- Running, clamping on, not predictive, streak below its limit, and no BRAKE
 pub record MayClamp (cfg : FuseConfig) (rt : Control) (inp : FsmInput) : Type 0 where

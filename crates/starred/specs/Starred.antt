@@ -5,7 +5,7 @@
 -- Cases of a tick go through `tick_of`, the definition that `tick` promises, from run states that
 -- ticks after a reset leave. What the cases say of every run state is in specs/ForAll.
 -- A case of the paper brings no guard bit and no trip but those that it names.
-use Rattle.std.specs.Prelude.{Bool, true, false, cond, List, [], ◌∷◌, map, ◌≡◌, ℕ, zero, suc, eqb, get_or, Float}
+use Rattle.std.specs.Prelude.{Bool, true, false, cond, List, [], ◌∷◌, map, ◌≡◌, ℕ, zero, suc, eqb, get_or, Float, None, Some, Option}
 use Rattle.std.specs.Float.{nan, inf, binary64}
 use Rattle.std.specs.Float.Ieee.{of_bits, to_bits}
 use Rattle.fmath.specs.Root.{root_of}
@@ -14,10 +14,7 @@ use Rattle.report.specs.Lines.{margin_text}
 use Rattle.text.specs.Ascii.{ascii}
 use Rattle.lictor_core.specs.declared.ack.AckDecision.{AckDecision}
 use Rattle.lictor_core.specs.declared.ack.AckDecision.TheVariants.{Resume, Retune}
-use Rattle.lictor_core.specs.declared.ack.MaybeAck.{MaybeAck}
-use Rattle.lictor_core.specs.declared.ack.MaybeAck.TheVariants.{NoAck, Given}
 use Rattle.lictor_core.specs.declared.ack.VerifiedAck.{VerifiedAck}
-use Rattle.lictor_core.specs.declared.chunk.MaybeChunk.TheVariants.{NoChunk, Delivered}
 use Rattle.lictor_core.specs.declared.envelope.Hysteresis.{Hysteresis}
 use Rattle.lictor_core.specs.declared.fuse.FuseRt.{FuseRt}
 use Rattle.lictor_core.specs.Codes.{state_code, reason_code}
@@ -55,15 +52,15 @@ row_ack d slot nonce handoff = record { decision = d; operator_slot = slot; nonc
 
 -- the tick after rt at t, after `missed` ticks, with this acknowledgement, these trips, one
 -- position; the one at 0 delivers the chunk that all later ones use
-unfoldable pub row_tick_at : Float → Hysteresis → FuseRt → ℕ → ℕ → MaybeAck → ℕ → Ticked
+unfoldable pub row_tick_at : Float → Hysteresis → FuseRt → ℕ → ℕ → Option VerifiedAck → ℕ → Ticked
 row_tick_at x limits rt t missed ack trips =
     let settings = sample_settings limits 1 63 one_float in
     let first = eqb t 0 in
-    tick_of settings rt (sample_input t missed false (cond first (Delivered (sample_chunk 0)) NoChunk) ack) (sample_outcome trips true (inf true))
+    tick_of settings rt (sample_input t missed false (cond first (Some (sample_chunk 0)) None) ack) (sample_outcome trips true (inf true))
     (x ∷ []) [] [] [] (cond first (zero_float ∷ []) [])
 
 -- the same at position 0
-unfoldable pub row_tick : Hysteresis → FuseRt → ℕ → ℕ → MaybeAck → ℕ → Ticked
+unfoldable pub row_tick : Hysteresis → FuseRt → ℕ → ℕ → Option VerifiedAck → ℕ → Ticked
 row_tick limits rt t missed ack trips = row_tick_at zero_float limits rt t missed ack trips
 
 -- ---- run states that rows start from: each is one tick after the one before it, from the reset on
@@ -74,28 +71,28 @@ armed = reset_of new_of
 
 -- BRAKE at 0
 unfoldable pub braking : Hysteresis → FuseRt
-braking limits = (row_tick limits armed 0 0 NoAck 64).rt
+braking limits = (row_tick limits armed 0 0 None 64).rt
 
 -- standstill at 1
 unfoldable pub held : Hysteresis → FuseRt
-held limits = (row_tick limits (braking limits) 1 0 NoAck 0).rt
+held limits = (row_tick limits (braking limits) 1 0 None 0).rt
 
 -- a Resume of slot 3 with nonce 1 at 2, and a reset
 unfoldable pub spent : Hysteresis → FuseRt
-spent limits = reset_of (row_tick limits (held limits) 2 0 (Given (row_ack Resume 3 1 0)) 0).rt
+spent limits = reset_of (row_tick limits (held limits) 2 0 (Some (row_ack Resume 3 1 0)) 0).rt
 
 -- the hold limit at 2, where H is 0: the handoff with number 1 begins
 unfoldable pub escalated : Hysteresis → FuseRt
-escalated limits = (row_tick limits (held limits) 2 0 NoAck 0).rt
+escalated limits = (row_tick limits (held limits) 2 0 None 0).rt
 
 -- the handoff limit at 3, where E is 0
 unfoldable pub terminated : Hysteresis → FuseRt
-terminated limits = (row_tick limits (escalated limits) 3 0 NoAck 0).rt
+terminated limits = (row_tick limits (escalated limits) 3 0 None 0).rt
 
 -- n soft trips, one at each t from 0 on (what they leave: specs/SoftTrips)
 unfoldable pub clamped_for : ℕ → Hysteresis → FuseRt
 clamped_for zero limits = armed
-clamped_for (suc n) limits = (row_tick limits (clamped_for n limits) n 0 NoAck 1).rt
+clamped_for (suc n) limits = (row_tick limits (clamped_for n limits) n 0 None 1).rt
 
 -- ---- what a row looks at
 
@@ -151,10 +148,10 @@ quick_end = row_limits 2 5 0 0
 unfoldable pub starred : List Case
 starred =
     -- the handoff limit 0, and nobody answers
-    ending (row_tick quick_end (escalated quick_end) 3 0 NoAck 0) is (6 ∷ 8 ∷ 4096 ∷ 25 ∷ [])
+    ending (row_tick quick_end (escalated quick_end) 3 0 None 0) is (6 ∷ 8 ∷ 4096 ∷ 25 ∷ [])
     -- a nonce of 0 while held: nothing is stored and the fuse stays held
     ∷ acceptance armed (row_ack Resume 3 0 0) is (0 ∷ [])
-    ∷ ending_nonce (row_tick usual_limits (held usual_limits) 2 0 (Given (row_ack Resume 3 0 0)) 0) is (5 ∷ 5 ∷ 13 ∷ 0 ∷ [])
+    ∷ ending_nonce (row_tick usual_limits (held usual_limits) 2 0 (Some (row_ack Resume 3 0 0)) 0) is (5 ∷ 5 ∷ 13 ∷ 0 ∷ [])
     -- the last slot there is, and the one past it: from settings, before the first reset and after it
     ∷ acceptance new_of (row_ack Resume 7 1 0) is (1 ∷ [])
     ∷ acceptance armed (row_ack Resume 7 1 0) is (1 ∷ [])
@@ -164,21 +161,21 @@ starred =
     ∷ acceptance (spent usual_limits) (row_ack Resume 3 1 0) is (0 ∷ [])
     ∷ acceptance (spent usual_limits) (row_ack Resume 3 2 0) is (1 ∷ [])
     -- a Retune in each of the two states that take acknowledgements
-    ∷ ending_nonce (row_tick quick_handoff (escalated quick_handoff) 3 0 (Given (row_ack Retune 3 1 1)) 0) is (6 ∷ 8 ∷ 26 ∷ 1 ∷ [])
-    ∷ ending_nonce (row_tick usual_limits (held usual_limits) 2 0 (Given (row_ack Retune 3 1 0)) 0) is (5 ∷ 5 ∷ 13 ∷ 0 ∷ [])
+    ∷ ending_nonce (row_tick quick_handoff (escalated quick_handoff) 3 0 (Some (row_ack Retune 3 1 1)) 0) is (6 ∷ 8 ∷ 26 ∷ 1 ∷ [])
+    ∷ ending_nonce (row_tick usual_limits (held usual_limits) 2 0 (Some (row_ack Retune 3 1 0)) 0) is (5 ∷ 5 ∷ 13 ∷ 0 ∷ [])
     -- a clamp at the clamp limit, and the tick after it
-    ∷ clamping (row_tick usual_limits (clamped_for 2 usual_limits) 2 0 NoAck 1) is (3 ∷ 3 ∷ 3 ∷ [])
-    ∷ ending (row_tick usual_limits (clamped_for 3 usual_limits) 3 0 NoAck 0) is (3 ∷ 4 ∷ 2048 ∷ 11 ∷ [])
+    ∷ clamping (row_tick usual_limits (clamped_for 2 usual_limits) 2 0 None 1) is (3 ∷ 3 ∷ 3 ∷ [])
+    ∷ ending (row_tick usual_limits (clamped_for 3 usual_limits) 3 0 None 0) is (3 ∷ 4 ∷ 2048 ∷ 11 ∷ [])
     -- the same with limit and count at the end of the counter
-    ∷ clamping (row_tick wide_limits (clamped_for 65535 wide_limits) 65535 0 NoAck 1) is (3 ∷ 3 ∷ 65535 ∷ [])
+    ∷ clamping (row_tick wide_limits (clamped_for 65535 wide_limits) 65535 0 None 1) is (3 ∷ 3 ∷ 65535 ∷ [])
     -- the brake limit 0, with the arm at a standstill
-    ∷ ending (row_tick (row_limits 2 0 5 5) (braking (row_limits 2 0 5 5)) 1 0 NoAck 0) is (4 ∷ 7 ∷ 16384 ∷ 20 ∷ [])
+    ∷ ending (row_tick (row_limits 2 0 5 5) (braking (row_limits 2 0 5 5)) 1 0 None 0) is (4 ∷ 7 ∷ 16384 ∷ 20 ∷ [])
     -- a watchdog fault after the end: found by the guard, and brought by the outcome
-    ∷ ending (row_tick quick_end (terminated quick_end) 5 1 NoAck 0) is (8 ∷ 7 ∷ 512 ∷ 19 ∷ [])
-    ∷ ending (row_tick quick_end (terminated quick_end) 4 0 NoAck 512) is (8 ∷ 7 ∷ 512 ∷ 19 ∷ [])
+    ∷ ending (row_tick quick_end (terminated quick_end) 5 1 None 0) is (8 ∷ 7 ∷ 512 ∷ 19 ∷ [])
+    ∷ ending (row_tick quick_end (terminated quick_end) 4 0 None 512) is (8 ∷ 7 ∷ 512 ∷ 19 ∷ [])
     -- all three fault bits: by the guard (a NaN, t not 0, one tick missed), and by the outcome
-    ∷ ending (row_tick_at nan usual_limits armed 7 1 NoAck 0) is (1 ∷ 7 ∷ 896 ∷ 17 ∷ [])
-    ∷ ending (row_tick usual_limits armed 0 0 NoAck 896) is (1 ∷ 7 ∷ 896 ∷ 17 ∷ [])
+    ∷ ending (row_tick_at nan usual_limits armed 7 1 None 0) is (1 ∷ 7 ∷ 896 ∷ 17 ∷ [])
+    ∷ ending (row_tick usual_limits armed 0 0 None 896) is (1 ∷ 7 ∷ 896 ∷ 17 ∷ [])
     -- the root of 2.25, by its bits
     ∷ (to_bits binary64 (root_of (of_bits binary64 0x4002_0000_0000_0000)) ∷ []) is (0x3ff8_0000_0000_0000 ∷ [])
     -- 0.0625 and -0.0625: an exact half of a millimetre goes to the even one, here towards zero

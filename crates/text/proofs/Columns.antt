@@ -4,8 +4,8 @@
 --     right_back, left_back            without its blanks a field is its text, where that has none
 --     row_length                       the width of a row
 --     field_at, text_at                the column i at its place: the field, and its text
-use Prim.Native.Nat.{ℕ, zero, suc, ◌+◌, ◌-◌, ◌/◌, ◌%◌, ◌^◌, ◌≤◌, ◌<◌}
-use mathlib.Core.Path.{◌≡◌, refl, sym, ap, ap₂, ◌∙◌}
+use Prim.Native.Nat.{ℕ, zero, suc, ◌+◌, ◌/◌, ◌%◌, ◌^◌, ◌≤◌, ◌<◌}
+use mathlib.Core.Path.{◌≡◌, refl, sym, ap, ◌∙◌}
 use mathlib.Core.Bool.{Bool, true, false, cond, ◌&&◌}
 use mathlib.Core.List.{List, [], ◌∷◌, ◌++◌, append-nil, append_assoc}
 use native.Mathlib.Omega.{arith}
@@ -13,7 +13,7 @@ use borrow.Author.Tests.{ne_eqb, lt-ltb}
 use lib.Dec.{T, ltb, ltb→lt}
 use lib.Ieee.Fits.{and_l, and_r}
 use lib.IntN.{ℤ, pos, negsuc, nat_abs}
-use lib.ListN.{length, take, drop, get_or, length-append, length-replicate, replicate-append-replicate}
+use lib.ListN.{length, take, drop, get_or, length-append, length-replicate}
 use lib.Seq.{take_at, drop-drop}
 use Rattle.text.specs.Number.{decimal_in, decimal_of, signed_of}
 use Rattle.text.specs.Column.{blank, blanks, right, left, is_blank, unblanked, plain, cut, Side, at_right, at_left, Column, sided, field, after_blanks, row_of, widths, row_width, place_of, Within, Plain}
@@ -176,23 +176,8 @@ pub row_joined : (c : Column) (cs : List Column) → joined (field c) cs ≡ row
 unfolding row_of
 row_joined c cs = joined_is (field c) cs
 
--- a row in two parts
-after_append : (cs ds : List Column) → after_blanks (cs ++ ds) ≡ after_blanks cs ++ after_blanks ds
-unfolding after_blanks
-after_append [] ds = refl
-after_append (c ∷ cs) ds =
-    ap (λ (s : List ℕ). blank ∷ field c ++ s) (after_append cs ds) ∙ sym (append_assoc (blank ∷ field c) (after_blanks cs) (after_blanks ds))
-
-pub row_append : (c : Column) (cs ds : List Column) → row_of (c ∷ (cs ++ ds)) ≡ row_of (c ∷ cs) ++ after_blanks ds
-unfolding row_of
-row_append c cs ds = ap (λ (s : List ℕ). field c ++ s) (after_append cs ds) ∙ sym (append_assoc (field c) (after_blanks cs) (after_blanks ds))
-
 -- the first of many blanks
 pub blanks_first : (k n : ℕ) → k ≤ n → take k (blanks n) ≡ blanks k
 blanks_first zero n h = refl
 blanks_first (suc k) zero h = absurd (omega arith)
 blanks_first (suc k) (suc n) h = ap (λ (s : List ℕ). blank ∷ s) (blanks_first k n (omega arith))
-
--- blanks before a field, and those in it
-pub blanks_both : (i j : ℕ) (s : List ℕ) → blanks (i + j) ++ s ≡ blanks i ++ (blanks j ++ s)
-blanks_both i j s = ap (λ (b : List ℕ). b ++ s) (sym (replicate-append-replicate i j blank)) ∙ append_assoc (blanks i) (blanks j) s

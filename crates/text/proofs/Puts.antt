@@ -1,10 +1,10 @@
 -- Text put after text.
-use Prim.Native.Nat.{ℕ, ◌≤◌, ◌<◌, ◌+◌}
+use Prim.Native.Nat.{ℕ, ◌≤◌, ◌+◌}
 use mathlib.Core.Bool.{true, false}
 use mathlib.Core.Path.{◌≡◌, refl, sym, ap, ap₂, ◌∙◌}
 use mathlib.Core.List.{List, [], ◌++◌, append_assoc}
 use native.Mathlib.Omega.{arith}
-use borrow.Author.Tests.{le-leb, lt-leb}
+use borrow.Author.Tests.{le-leb}
 use lib.ListN.{length, take, drop, length-append}
 use lib.Seq.{paste, paste-zero, take-paste, drop-paste, take-length, length_paste_head, drop-drop}
 use Rattle.text.specs.Memory.{Put, place_put, memory_put, has_room, place_with, memory_with}
@@ -14,13 +14,13 @@ put_none out n = record { ends = (let e : n ≡ n + 0 = omega arith in e); memor
 
 -- where there is no room for s, and where there is
 module _ (out : List ℕ) (n : ℕ) (s : List ℕ) where
-  pub not_put : length out < n + length s → (n ≡ place_put (length out) n s) × (out ≡ memory_put out n s)
+  pub not_put : has_room (length s) n (length out) ≡ false → (n ≡ place_put (length out) n s) × (out ≡ memory_put out n s)
   unfolding place_put memory_put
-  not_put h = rw (lt-leb (n + length s) (length out) h) (refl, refl)
+  not_put h = rw h (refl, refl)
 
-  pub all_put : n + length s ≤ length out → (out' : List ℕ) → out' ≡ paste out n s (length s) → (n + length s ≡ place_put (length out) n s) × (out' ≡ memory_put out n s)
+  pub all_put : has_room (length s) n (length out) ≡ true → (out' : List ℕ) → out' ≡ paste out n s (length s) → (n + length s ≡ place_put (length out) n s) × (out' ≡ memory_put out n s)
   unfolding place_put memory_put
-  all_put h out' e = rw (le-leb (n + length s) (length out) h) (refl, e)
+  all_put h out' e = rw h (refl, e)
 
   -- what a caller learns who saw to the room
   pub put_there : n + length s ≤ length out → (r : ℕ) (out' : List ℕ) → (r ≡ place_put (length out) n s) × (out' ≡ memory_put out n s) → Put out n s r out'

@@ -1,150 +1,184 @@
-// Lines of text, built by value: a function takes a line and returns it with more after it.
-// What comes after LINE bytes is dropped.
+// Lines of text, built in fixed memory. What comes after LINE bytes is dropped.
 #![tactic(auto)]
 
 pub mod memory; // text put into lent memory
 
-ghost use Rattle.std.specs.Prelude.{◌≡◌, [], nat_abs};
-ghost use Rattle.text.specs.Line.{line_of, push_of};
-ghost use Rattle.text.specs.Number.{decimal_of, signed_of, hex_in, float_text};
-ghost use Rattle.text.specs.Commas.{comma_at, numbers_text, floats_text};
+ghost use Rattle.std.specs.Prelude.{◌≡◌, ◌≤◌, ℕ, List, [], map, length, cond};
+ghost use Rattle.text.specs.Line.{line_room, line_of, push_of};
+ghost use Rattle.text.specs.Number.{decimal_of, signed_of, hex_in, float_text, optional_text};
+ghost use Rattle.text.specs.Commas.{commas};
+
+use arrayvec::ArrayVec;
+use std::marker::Model;
 
 // The bytes that a line has room for.
 pub const LINE: usize = 256;
 
-// The first n bytes are the line's, the others are zero.
-#[derive(Clone, Copy)]
+// Clauses see the bytes of a line.
+#[derive(Drop)]
 pub struct Line {
-    pub text: [u8; LINE],
-    pub n: usize,
+    bytes: ArrayVec<u8, LINE>,
 }
 
-pub fn empty() -> Line
-    ensures { result ≡ line_of [] }
-{
-    let text = [0; LINE];
-    Line { text, n: 0 }
+impl Model for Line {
+    ghost use Rattle.std.specs.Prelude.{ℕ, List};
+
+    ghost Value = { List ℕ };
+
+    ghost view = { λ l. l.bytes.items };
 }
 
-// The bytes b after the line; a full line stays as it is.
-pub fn push(mut l: Line, b: &[u8]) -> Line
-    ensures { result ≡ push_of l b.now }
-{
-    let mut taken: usize = 0;
-    while taken < b.len() {
-        let n = l.n;
-        if n < LINE {
-            l.text[n] = b[taken];
-            l.n = n + 1;
+impl Line {
+    #[tactic(auto, unfolding(crate::specs::Line::line_of))]
+    pub fn new() -> Line
+        ensures { result ≡ line_of [] }
+    {
+        Line {
+            bytes: ArrayVec::new(),
         }
-        taken += 1;
     }
-    l
-}
 
-// A number in decimal.
-pub fn push_number(l: Line, x: u64) -> Line
-    ensures { result ≡ push_of l (decimal_of x) }
-{
-    let mut digits = [0u8; 20];
-    let k = io::decimal(x, &mut digits);
-    push(l, &digits[..k])
-}
+    pub fn as_bytes(&self) -> &[u8]
+        ensures bytes { result.now ≡ self.now }
+        ensures fits { length result.now ≤ line_room }
+    {
+        self.bytes.as_slice()
+    }
 
-fn magnitude(z: i32) -> u64
-    ensures { result ≡ nat_abs z }
-{
-    if z < 0 {
-        let w = z as i64;
-        let v = -w;
-        v as u64
-    } else {
-        z as u64
+    // The bytes b after the line; a full line stays as it is.
+    pub fn push(&mut self, b: &[u8])
+        ensures { self.new ≡ push_of self.old b.now }
+    {
+        match self.bytes.try_extend_from_slice(b) {
+            Ok(()) => {}
+            Err(_) => {
+                let n = self.bytes.remaining_capacity();
+                let _fits = self.bytes.try_extend_from_slice(&b[..n]);
+            }
+        }
+    }
+
+    // A number in decimal. (Here and in push_hex the digits lie in an array first: so `io` gives them.)
+    pub fn push_number(&mut self, x: u64)
+        ensures { self.new ≡ push_of self.old (decimal_of x) }
+    {
+        let mut digits = [0u8; 20];
+        let k = io::decimal(x, &mut digits);
+        self.push(&digits[..k]);
+    }
+
+    // A signed number in decimal, with a minus sign where it is negative.
+    pub fn push_signed(&mut self, z: i32)
+        ensures { self.new ≡ push_of self.old (signed_of z) }
+    {
+        let minus = z < 0;
+        if minus {
+            self.push(b"-");
+        }
+        self.push_number(u64::from(z.unsigned_abs()));
+    }
+
+    // The 16 hexadecimal digits of a pattern.
+    pub fn push_hex(&mut self, b: u64)
+        ensures { self.new ≡ push_of self.old (hex_in 16 b) }
+    {
+        let mut digits = [0u8; 16];
+        let k = io::hex(b, 16, &mut digits);
+        self.push(&digits[..k]);
+    }
+
+    // The bits of a float as 16 hexadecimal digits, every NaN as `nan`.
+    pub fn push_float(&mut self, x: f64)
+        ensures { self.new ≡ push_of self.old (float_text x) }
+    {
+        if x.is_nan() {
+            self.push(b"nan");
+        } else {
+            self.push_hex(x.to_bits());
+        }
+    }
+
+    // Elements of a list with commas between.
+    pub fn push_list<T: Printed + Copy>(&mut self, xs: &[T])
+        ensures { self.new ≡ push_of self.old (commas (map T.text xs.now)) }
+    {
+        if let Some((first, others)) = xs.split_first() {
+            first.print(self);
+            for x in others {
+                self.push(b",");
+                x.print(self);
+            }
+        }
     }
 }
 
-// A signed number in decimal, with a minus sign where it is negative.
-pub fn push_signed(l: Line, z: i32) -> Line
-    ensures { result ≡ push_of l (signed_of z) }
-{
-    let m = magnitude(z);
-    let minus = z < 0;
-    if minus {
-        push_number(push(l, b"-"), m)
-    } else {
-        push_number(l, m)
+// What has one text, whatever line it is put after. (Not Display, here and in the crates above: a
+// float is printed by its bits, and a line takes what fits and cannot fail.)
+pub trait Printed {
+    ghost text: { Self → List ℕ };
+
+    // Its text after the line.
+    fn print(self, line: &mut Line)
+        ensures { line.new ≡ push_of line.old (text self) };
+}
+
+// A flag is 0 or 1.
+impl Printed for bool {
+    ghost text = { λ b. decimal_of (cond b 1 0) };
+
+    fn print(self, line: &mut Line) {
+        line.push_number(u64::from(self));
     }
 }
 
-// The 16 hexadecimal digits of a pattern.
-pub fn push_hex(l: Line, b: u64) -> Line
-    ensures { result ≡ push_of l (hex_in 16 b) }
-{
-    let mut digits = [0u8; 16];
-    let k = io::hex(b, 16, &mut digits);
-    push(l, &digits[..k])
-}
+// (An impl for each width: one for all T: Into<u64> would overlap those below.)
+impl Printed for u8 {
+    ghost text = { decimal_of };
 
-// The bits of a float as 16 hexadecimal digits, every NaN as `nan`.
-pub fn push_float(l: Line, x: f64) -> Line
-    ensures { result ≡ push_of l (float_text x) }
-{
-    if x != x {
-        return push(l, b"nan");
+    fn print(self, line: &mut Line) {
+        line.push_number(u64::from(self));
     }
-    push_hex(l, f64::to_bits(x))
 }
 
-// A comma, but not before the first element of a list.
-fn push_comma(l: Line, i: usize) -> Line
-    ensures { result ≡ push_of l (comma_at i) }
-{
-    if i == 0 {
-        return l;
+impl Printed for u16 {
+    ghost text = { decimal_of };
+
+    fn print(self, line: &mut Line) {
+        line.push_number(u64::from(self));
     }
-    push(l, b",")
 }
 
-// Floats with commas between.
-pub fn push_floats(mut l: Line, xs: &[f64]) -> Line
-    ensures { result ≡ push_of l (floats_text xs.now) }
-{
-    let mut i: usize = 0;
-    while i < xs.len() {
-        let a = push_comma(l, i);
-        l = push_float(a, xs[i]);
-        i += 1;
+impl Printed for u32 {
+    ghost text = { decimal_of };
+
+    fn print(self, line: &mut Line) {
+        line.push_number(u64::from(self));
     }
-    l
 }
 
-fn wide(x: u32) -> u64
-    ensures { result ≡ x }
-{
-    x as u64
-}
+impl Printed for u64 {
+    ghost text = { decimal_of };
 
-// Numbers with commas between, of 32 and of 64 bits.
-pub fn push_counts(mut l: Line, xs: &[u32]) -> Line
-    ensures { result ≡ push_of l (numbers_text xs.now) }
-{
-    let mut i: usize = 0;
-    while i < xs.len() {
-        let a = push_comma(l, i);
-        l = push_number(a, wide(xs[i]));
-        i += 1;
+    fn print(self, line: &mut Line) {
+        line.push_number(self);
     }
-    l
 }
 
-pub fn push_numbers(mut l: Line, xs: &[u64]) -> Line
-    ensures { result ≡ push_of l (numbers_text xs.now) }
-{
-    let mut i: usize = 0;
-    while i < xs.len() {
-        let a = push_comma(l, i);
-        l = push_number(a, xs[i]);
-        i += 1;
+impl Printed for f64 {
+    ghost text = { float_text };
+
+    fn print(self, line: &mut Line) {
+        line.push_float(self);
     }
-    l
+}
+
+impl<T: Printed> Printed for Option<T> {
+    ghost text = { optional_text T.text };
+
+    fn print(self, line: &mut Line) {
+        match self {
+            Some(x) => x.print(line),
+            None => line.push(b"none"),
+        }
+    }
 }

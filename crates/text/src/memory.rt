@@ -1,7 +1,9 @@
 // Text put into lent memory, after the first bytes of it. Where there is no room for all of it,
-// nothing is put.
-ghost use Rattle.std.specs.Prelude.{◌≡◌, length, take};
-ghost use Rattle.text.specs.Memory.{place_put, memory_put, has_room};
+// nothing is put. (The place n stands beside the memory, here and in the crates above: each function
+// promises what it does for every n, REQUIREMENTS.md, Q-02, and the caller keeps it.)
+ghost use Rattle.std.specs.Prelude.{◌≡◌, length};
+ghost use Rattle.text.specs.Line.{line_room};
+ghost use Rattle.text.specs.Memory.{place_put, memory_put, has_room, place_with, memory_with};
 
 use crate::{LINE, Line};
 
@@ -9,41 +11,38 @@ use crate::{LINE, Line};
 pub fn put(out: &mut [u8], n: usize, text: &[u8]) -> usize
     ensures { (result ≡ place_put (length out.old) n text.now) × (out.new ≡ memory_put out.old n text.now) }
 {
-    if out.len() < n {
+    if !has_room(text.len(), n, out.len()) {
         return n;
     }
-    if out.len() - n < text.len() {
-        return n;
-    }
-    let mut i: usize = 0;
-    while i < text.len() {
-        out[n + i] = text[i];
-        i += 1;
-    }
-    n + text.len()
+    let end = n + text.len();
+    out[n..end].copy_from_slice(text);
+    end
 }
 
 // Puts a line after the first n bytes, and answers where it ends: at n where it is not put.
 pub fn put_line(out: &mut [u8], n: usize, l: Line) -> usize
-    ensures { (result ≡ place_put (length out.old) n (take l.n l.text)) × (out.new ≡ memory_put out.old n (take l.n l.text)) }
+    ensures { (result ≡ place_put (length out.old) n l) × (out.new ≡ memory_put out.old n l) }
 {
-    let text = l.text;
-    let k = l.n;
-    if k > LINE {
-        return put(out, n, &text);
+    put(out, n, l.as_bytes())
+}
+
+// Puts a line after the first n bytes, and answers where it ends. Where fewer than LINE bytes are
+// left after n, it puts nothing.
+pub fn show_line(out: &mut [u8], n: usize, l: &Line) -> usize
+    ensures { (result ≡ place_with line_room (length out.old) n l.now) × (out.new ≡ memory_with line_room out.old n l.now) }
+{
+    if !has_room(LINE, n, out.len()) {
+        return n;
     }
-    put(out, n, &text[..k])
+    put(out, n, l.as_bytes())
 }
 
 // Whether so many bytes are left after the first n of so much memory.
 pub fn has_room(need: usize, n: usize, room: usize) -> bool
     ensures { result ≡ has_room need n room }
 {
-    if room < need {
-        return false;
+    match n.checked_add(need) {
+        Some(end) => end <= room,
+        None => false,
     }
-    if room - need < n {
-        return false;
-    }
-    true
 }

@@ -2,8 +2,9 @@
 // that the Rust has, one `name=value` a line.
 #![tactic(auto)]
 
+use printer::lines::Trace;
 use std::rt::HostRuntime;
 
 fn main(rt: HostRuntime) {
-    console::play(&rt, b"trace", printer::TRACE);
+    console::play::<Trace>(&rt, b"trace");
 }

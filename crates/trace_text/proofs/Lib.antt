@@ -1,5 +1,4 @@
 -- Laws that belong to no one function.
-mod Rest
-mod Parts
-mod Words
+pub mod Parts
 pub mod RowsLaws
+pub mod Codes

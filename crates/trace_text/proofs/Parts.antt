@@ -4,7 +4,7 @@ use Prim.Native.Nat.{ℕ, ◌+◌, ◌-◌, ◌≤◌, ◌<◌}
 use mathlib.Core.Path.{◌≡◌, refl, sym, ap, ◌∙◌}
 use mathlib.Core.List.{List, [], ◌++◌}
 use native.Mathlib.Omega.{arith}
-use lib.ListN.{length, get_or, get_or-eq_default, get_or-append}
+use lib.ListN.{length, get_or, get_or-append}
 use lib.Seq.{get_or-append-add}
 use Rattle.text.specs.declared.Line.{Line}
 use Rattle.text.specs.Line.{line_of}
@@ -56,7 +56,3 @@ module _ (k : ℕ) (v : SafetyVerdict) (rt : FuseRt) (l : Line) where
   pub of_tally : 48 ≤ k → l ≡ line_of (get_or tally (k - 48) []) → l ≡ line_of (trace_text k v rt)
   unfolding trace_text trace_lines
   of_tally g q = behind (verdict_lines v ++ run) tally 48 k l (trace_48 v rt.control rt.motion rt.clock) g q
-
-  pub of_none : 74 ≤ k → l ≡ line_of [] → l ≡ line_of (trace_text k v rt)
-  unfolding trace_text
-  of_none g q = q ∙ ap line_of (sym (get_or-eq_default (trace_lines v rt) [] (rw (trace_74 v rt) g)))

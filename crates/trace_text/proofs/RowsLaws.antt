@@ -1,17 +1,11 @@
--- Lines of a list by number.
+-- A name, a value and a newline, pushed one after the other, are a line.
 use Prim.Native.Nat.{ℕ}
-use mathlib.Core.Path.{◌≡◌, sym, ap, ◌∙◌}
-use mathlib.Core.List.{List, [], ◌∷◌}
-use Rattle.text.specs.declared.Line.{Line}
+use mathlib.Core.Path.{◌≡◌, ap}
+use mathlib.Core.List.{List, [], ◌∷◌, ◌++◌, append_assoc}
 use Rattle.text.specs.Line.{line_of, push_of}
-use Rattle.text.proofs.Lines.{push_line, push_append}
-use Rattle.trace_text.specs.Row.{newline_after, row}
+use Rattle.text.proofs.Lines.{push_line}
+use Rattle.trace_text.specs.Row.{row}
 
--- a text and then a newline
-pub then_newline : (l m r : Line) (s : List ℕ) → m ≡ push_of l s → r ≡ push_of m (10 ∷ []) → r ≡ push_of l (newline_after s)
-then_newline l m r s p q = q ∙ ap (λ (x : Line). push_of x (10 ∷ [])) p ∙ sym (push_append l s (10 ∷ []))
-
--- a value after a name
-pub is_row : (l r : Line) (name s : List ℕ) → l ≡ line_of name → r ≡ push_of l (newline_after s) → r ≡ line_of (row name s)
+pub is_row : (name value : List ℕ) → push_of (push_of (push_of (line_of []) name) value) (10 ∷ []) ≡ line_of (row name value)
 unfolding row
-is_row l r name s p q = q ∙ ap (λ (x : Line). push_of x (newline_after s)) p ∙ push_line name (newline_after s)
+is_row name value = rw (push_line [] name, push_line name value, push_line (name ++ value) (10 ∷ [])) (ap line_of (append_assoc name value (10 ∷ [])))

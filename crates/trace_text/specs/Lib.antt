@@ -1,5 +1,3 @@
 -- Definitions that the contracts of this crate, and of those above it, cite.
 pub mod Trace
-pub mod Words
 pub mod Row
-pub mod Names

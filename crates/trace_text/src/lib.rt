@@ -2,7 +2,6 @@
 // that the Rust has.
 #![tactic(auto)]
 
-mod names; // the names of the lines
 mod rows; // a line: its name and its value
 mod run; // the lines of the run state
 mod tally; // the lines of the tally
@@ -17,27 +16,27 @@ use crate::tally::tally_line;
 use crate::verdict::verdict_line;
 use lictor_core::fuse::FuseRt;
 use lictor_core::verdict::SafetyVerdict;
-use text::{Line, empty};
+use text::Line;
 
-// How many lines there are: 23 of the verdict, 25 of the run state, 26 of the tally.
-pub const TRACE_LINES: usize = 74;
+// How many lines there are of the verdict, of the run state and of the tally.
+const VERDICT_LINES: usize = 23;
 
-// Line `at` of the trace after a tick; from TRACE_LINES on it is empty.
+const RUN_LINES: usize = 25;
+
+const TALLY_LINES: usize = 26;
+
+pub const TRACE_LINES: usize = VERDICT_LINES + RUN_LINES + TALLY_LINES;
+
+// Line `at` of the trace after a tick; from TRACE_LINES on it is empty. (Each group is a `match` on
+// the number: an array of its lines would build them all for one.)
 pub fn trace_line(at: usize, verdict: SafetyVerdict, rt: FuseRt) -> Line
     ensures { result ≡ line_of (trace_text at verdict rt) }
 {
-    if at < 23 {
+    if at < VERDICT_LINES {
         return verdict_line(at, verdict);
     }
-    if at < 48 {
-        let control = rt.control;
-        let motion = rt.motion;
-        let clock = rt.clock;
-        return run_line(at - 23, control, motion, clock);
+    if at < VERDICT_LINES + RUN_LINES {
+        return run_line(at - VERDICT_LINES, rt.control, rt.motion, rt.clock);
     }
-    if at < TRACE_LINES {
-        let tally = rt.tally;
-        return tally_line(at - 48, tally);
-    }
-    empty()
+    tally_line(at - (VERDICT_LINES + RUN_LINES), rt.tally)
 }

@@ -1,107 +1,40 @@
 // The lines of a tick's verdict.
-ghost use Rattle.std.specs.Prelude.{◌≡◌, [], ◌≤◌, ◌<◌, get_or};
+ghost use Rattle.std.specs.Prelude.{◌≡◌, [], get_or};
 ghost use Rattle.text.specs.Line.{line_of};
-ghost use Rattle.trace_text.specs.Row.{value_text, row};
-ghost use Rattle.trace_text.specs.Names.{verdict_name};
 ghost use Rattle.trace_text.specs.Trace.{verdict_lines};
 
-use crate::names::verdict::name_of;
-use crate::rows::Value;
+use crate::rows::{list_row, row};
 use lictor_core::verdict::SafetyVerdict;
 use text::Line;
 
-// ---- values: that of line `at`, which is no list
-
-fn head_value(at: usize, verdict: SafetyVerdict) -> Value
-    requires { at < 6 }
-    ensures { row (verdict_name at) (value_text result) ≡ get_or (verdict_lines verdict) at [] }
+// Line `at` of the verdict; from the last on it is empty.
+pub(crate) fn verdict_line(at: usize, v: SafetyVerdict) -> Line
+    ensures { result ≡ line_of (get_or (verdict_lines v) at []) }
 {
-    let status = verdict.status;
-    let state = verdict.state;
-    let prev_state = verdict.prev_state;
     match at {
-        0 => crate::rows::number32(verdict.seq),
-        1 => crate::rows::number32(verdict.t),
-        2 => crate::rows::status(status),
-        3 => crate::rows::state(state),
-        4 => crate::rows::state(prev_state),
-        _ => crate::rows::number32(verdict.trips),
-    }
-}
-
-fn action_value(at: usize, verdict: SafetyVerdict) -> Value
-    requires { (7 ≤ at) × (at < 11) }
-    ensures { row (verdict_name at) (value_text result) ≡ get_or (verdict_lines verdict) at [] }
-{
-    let action_src = verdict.action_src;
-    match at {
-        7 => crate::rows::number16(verdict.action_dim),
-        8 => crate::rows::source(action_src),
-        9 => crate::rows::flag(verdict.substituted),
-        _ => crate::rows::number32(verdict.clamped_dims),
-    }
-}
-
-fn score_value(at: usize, verdict: SafetyVerdict) -> Value
-    requires { (12 ≤ at) × (at < 15) }
-    ensures { row (verdict_name at) (value_text result) ≡ get_or (verdict_lines verdict) at [] }
-{
-    let scores = verdict.scores;
-    match at {
-        12 => crate::rows::float(scores.s),
-        13 => crate::rows::number32(scores.valid),
-        _ => crate::rows::number32(scores.fired),
-    }
-}
-
-fn reason_value(at: usize, verdict: SafetyVerdict) -> Value
-    requires { (15 ≤ at) × (at < 23) }
-    ensures { row (verdict_name at) (value_text result) ≡ get_or (verdict_lines verdict) at [] }
-{
-    let reason = verdict.reason;
-    let handoff_seq = verdict.handoff_seq;
-    match at {
-        15 => crate::rows::float(verdict.tau),
-        16 => crate::rows::number(verdict.window),
-        17 => crate::rows::number8(verdict.window_hits),
-        18 => crate::rows::float(verdict.brake_margin),
-        19 => crate::rows::reason(reason),
-        20 => crate::rows::handoff(handoff_seq),
-        21 => crate::rows::flag(verdict.ack_consumed),
-        _ => crate::rows::flag(verdict.violation_reached_env),
-    }
-}
-
-fn value_of(at: usize, verdict: SafetyVerdict) -> Value
-    requires { (at < 23) × (at ≡ 6 → ⊥) × (at ≡ 11 → ⊥) }
-    ensures { row (verdict_name at) (value_text result) ≡ get_or (verdict_lines verdict) at [] }
-{
-    if at < 6 {
-        return head_value(at, verdict);
-    }
-    if at < 11 {
-        return action_value(at, verdict);
-    }
-    if at < 15 {
-        return score_value(at, verdict);
-    }
-    reason_value(at, verdict)
-}
-
-// ---- the line
-
-// Line `at` of the verdict.
-pub(crate) fn verdict_line(at: usize, verdict: SafetyVerdict) -> Line
-    requires { at < 23 }
-    ensures { result ≡ line_of (get_or (verdict_lines verdict) at []) }
-{
-    let named = name_of(at);
-    let action = verdict.action;
-    let scores = verdict.scores;
-    let z = scores.z;
-    match at {
-        6 => crate::rows::with_floats(named, &action),
-        11 => crate::rows::with_floats(named, &z),
-        _ => crate::rows::with_value(named, value_of(at, verdict)),
+        0 => row(b"v.seq=", v.seq),
+        1 => row(b"v.t=", v.t),
+        2 => row(b"v.status=", v.status as u8),
+        3 => row(b"v.state=", v.state as u8),
+        4 => row(b"v.prev_state=", v.prev_state as u8),
+        5 => row(b"v.trips=", v.trips),
+        6 => list_row(b"v.action=", &v.action),
+        7 => row(b"v.action_dim=", v.action_dim),
+        8 => row(b"v.action_src=", v.action_src as u8),
+        9 => row(b"v.substituted=", v.substituted),
+        10 => row(b"v.clamped_dims=", v.clamped_dims),
+        11 => list_row(b"v.z=", &v.scores.z),
+        12 => row(b"v.s=", v.scores.s),
+        13 => row(b"v.valid=", v.scores.valid),
+        14 => row(b"v.fired=", v.scores.fired),
+        15 => row(b"v.tau=", v.tau),
+        16 => row(b"v.window=", v.window),
+        17 => row(b"v.window_hits=", v.window_hits),
+        18 => row(b"v.brake_margin=", v.brake_margin),
+        19 => row(b"v.reason=", v.reason as u8),
+        20 => row(b"v.handoff_seq=", v.handoff_seq),
+        21 => row(b"v.ack_consumed=", v.ack_consumed),
+        22 => row(b"v.violation_reached_env=", v.violation_reached_env),
+        _ => Line::new(),
     }
 }

@@ -1,8 +1,7 @@
--- `fmath::nan` meets its contract: 0 / 0 is no number. Assumes nothing.
 use mathlib.Core.Path.{refl}
-use lib.Ieee.{div, of_bits}
+use lib.Ieee.{of_bits}
 use Rattle.fmath.proofs.nan.Goals as goal
 
 pub returns : goal.returns
-unfolding div of_bits
+unfolding of_bits
 returns c = refl

@@ -33,7 +33,7 @@ pub returns-in-Unknown : goal.returns-in-Unknown
 returns-in-Unknown c = let told = c in
     let framed = told in
     let start = framed in
-    one_unknown start.args.from (other start.args.from) start.args.p (drop start.args.p.at start.args.s.now) start.args.out.now (framed_by start.args.from start.args.kinds.now (drop start.args.p.at start.args.s.now) _ _ start.requires.0 framed.frame_at.ensures told.in-Unknown.is) _ c.number.ensures _ c.stopped-in-Unknown.ensures
+    one_unknown start.args.from (other start.args.from) start.args.p (drop start.args.p.at start.args.s.now) start.args.out.now (framed_by start.args.from start.args.kinds.now (drop start.args.p.at start.args.s.now) _ _ start.requires.0 framed.frame_at.ensures told.in-Unknown.is) _ c.stopped-in-Unknown.ensures
 
 pub returns-in-Whole : goal.returns-in-Whole
 returns-in-Whole c = let whole = c in

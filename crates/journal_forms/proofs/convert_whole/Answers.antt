@@ -1,6 +1,5 @@
 use mathlib.Core.Path.{sym, ◌∙◌}
 use native.Mathlib.Omega.{arith}
-use lib.ListN.{length-set}
 use Rattle.journal_forms.proofs.Whole.{whole_inside, whole_room, whole_put, whole_refused}
 use Rattle.journal_forms.proofs.convert_whole.Goals as goal
 
@@ -19,10 +18,6 @@ put_body-n-requires c = let tested = c in
       sym tested.is_held.ensures ∙ tested.if-is_held.true,
     )
 
-pub shape_of-out-then-is_held : goal.shape_of-out-then-is_held
-shape_of-out-then-is_held c = let a = c.args in
-    c.put_body-n.auto.out ∙ length-set a.out.now a.p.n a.kind
-
 pub returns-then-is_held : goal.returns-then-is_held
 returns-then-is_held c = let put = c in
     let tested = put in
@@ -38,4 +33,4 @@ returns c = let tested = c in
     let start = looked in
     let a = start.args in
     whole_refused a.from a.kind a.body.now start.requires.0 start.requires.1 _ looked.runs_of-runs.ensures a.p a.out.now
-    (sym tested.is_held.ensures ∙ tested.if-is_held.false) _ c.number.ensures _ c.stopped.ensures
+    (sym tested.is_held.ensures ∙ tested.if-is_held.false) _ c.stopped.ensures

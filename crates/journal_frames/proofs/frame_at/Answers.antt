@@ -1,27 +1,25 @@
-use mathlib.Core.Path.{sym, ap, ◌∙◌}
+use mathlib.Core.Path.{◌≡◌, ap, ◌∙◌}
+use Prim.Native.Nat.{ℕ}
 use native.Mathlib.Omega.{arith}
-use Prim.Native.Nat.{suc}
-use lib.ListN.{get_or, length-drop}
+use lib.ListN.{get_or, drop, drop_of_length-le, length-take, length-drop}
+use Rattle.std.proofs.lemmas.Grind.{common_steps}
 use Rattle.journal_frames.specs.declared.Frame.TheVariants.{Whole}
-use Rattle.journal_frames.proofs.Frames.{unknown, cut, whole, frame_end, frame_here}
+use Rattle.journal_frames.proofs.Frames.{unknown, cut, whole, frame_none, frame_here}
 use Rattle.journal_frames.proofs.frame_at.Goals as goal
+use Rattle.journal_frames.proofs.frame_at.Goals.{After-unwrap_or}
 
-pub returns-then-s-at : goal.returns-then-s-at
-returns-then-s-at c = let a = c.args in frame_end a.kinds.now a.s.now a.at c.if-s-at.true
+-- the bytes from the place on, also where there are none
+rest_is : (c : After-unwrap_or) → c.unwrap_or.result.now ≡ drop c.args.at c.args.s.now
+rest_is c = grind (arith, common_steps, drop_of_length-le)
 
-pub returns-then-s-at-2 : goal.returns-then-s-at-2
-returns-then-s-at-2 c = let a = c.args in
-    let s = a.s.now in
-    let known = sym c.is_known.ensures ∙ c.if-is_known.true in
-    frame_here a.kinds.now s a.at (omega arith) (cut known (omega (arith, c.body_len-len.ensures, length-drop (suc a.at) s)))
+pub returns-in-empty : goal.returns-in-empty
+returns-in-empty c = frame_none _ _ _ (rest_is (goal.at.returns-in-empty c).After-unwrap_or) c.in-empty.len_below
 
-pub returns-then-is_known : goal.returns-then-is_known
-returns-then-is_known c = let a = c.args in
-    let s = a.s.now in
-    let known = sym c.is_known.ensures ∙ c.if-is_known.true in
-    ap (Whole (get_or s a.at 0)) c.body_len-len.ensures
-    ∙ frame_here a.kinds.now s a.at (omega arith) (whole known (omega (arith, c.body_len-len.ensures, length-drop (suc a.at) s)))
+pub returns-then-not-is_known : goal.returns-then-not-is_known
+returns-then-not-is_known c = frame_here _ _ _ (rest_is (goal.at.returns-then-not-is_known c).After-unwrap_or) c.in-len1-up.len_at_least (unknown cc)
 
-pub returns : goal.returns
-returns c = let a = c.args in
-    frame_here a.kinds.now a.s.now a.at (omega arith) (unknown (sym c.is_known.ensures ∙ c.if-is_known.false))
+pub returns-then-rest-len : goal.returns-then-rest-len
+returns-then-rest-len c = frame_here _ _ _ (rest_is (goal.at.returns-then-rest-len c).After-unwrap_or) c.in-len1-up.len_at_least (cut (cc) (omega (arith, length-take {A = ℕ}, length-drop 1 c.unwrap_or.result.now)))
+
+pub returns-else-rest-len : goal.returns-else-rest-len
+returns-else-rest-len c = ap (Whole (get_or c.unwrap_or.result.now 0 0)) c.body_len-len.ensures ∙ frame_here _ _ _ (rest_is (goal.at.returns-else-rest-len c).After-unwrap_or) c.in-len1-up.len_at_least (whole (cc) (omega (arith, length-take {A = ℕ}, length-drop 1 c.unwrap_or.result.now)))

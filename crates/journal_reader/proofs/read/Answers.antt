@@ -1,64 +1,54 @@
 -- Turn by turn, up to what the reader comes to.
-use Prim.Native.Nat.{ℕ}
-use mathlib.Core.Path.{◌≡◌, sym, ap}
-use mathlib.Core.Bool.{true, false}
-use mathlib.Core.List.{List}
+use Prim.Native.Nat.{◌+◌, ◌<◌}
+use mathlib.Core.Path.{◌≡◌, sym, ap, ◌∙◌}
 use native.Mathlib.Omega.{arith}
-use lib.Ieee.{Float}
-use Rattle.journal_refusals.specs.declared.Refusal.{Refusal}
-use Rattle.journal_reader.specs.declared.Progress.{Progress}
-use Rattle.journal_reader.specs.declared.waiting.Reader.{Reader}
-use Rattle.journal_reader.specs.declared.Stretch.{Stretch}
-use Rattle.journal_reader.specs.declared.What.TheVariants.{Waits}
-use Rattle.journal_reader.specs.State.{State}
-use Rattle.stream.specs.Stream.{Advanced}
-use Rattle.journal_reader.specs.Reading.{Instruction, on_bytes, read_of, lists_read}
-use Rattle.journal_reader.specs.Steps.{TookStretch}
-use Rattle.stream.proofs.Stream.{impossible, reached_none, reached_on, reached_end}
+use lib.ListN.{length, drop}
+use Rattle.stream.specs.Stream.{Reached}
+use Rattle.stream.proofs.Stream.{reached_none, reached_on}
+use Rattle.journal_records.specs.Long.{outcome_of}
+use Rattle.journal_reader.specs.Reading.{on_bytes}
+use Rattle.journal_reader.specs.Steps.{state_with, look_of, looks_small}
+use Rattle.journal_reader.specs.declared.Look.TheVariants.{Found}
 use Rattle.journal_reader.proofs.Reading.{machine}
-use Rattle.journal_reader.proofs.Steps.{turn_less}
-use Rattle.journal_reader.proofs.read.Invariants.{Kept, at_turn}
+use Rattle.journal_reader.proofs.Steps.{body_part, found_there, reached_outcome, stops_waits, stops_refuses, stops_found, read_there}
 use Rattle.journal_reader.proofs.read.Goals as goal
+use Rattle.journal_reader.proofs.read.Goals.{After-collect-took, In-Found}
 
--- before the first turn
-abbrev first : Reader → Stretch
-first rd = record { reader = rd; at = 0; end = 0; what = Waits; more = true }
+reach : (c : After-collect-took)
+    → Reached (on_bytes c.args.kinds.now) (record { reader = c.args.rd; lists = c.args.lists.now }) c.args.s.now 0
+    (state_with c.collect-took.result.waiting c.stretches.reader.outcome c.collect-took.new.lists) c.collect-took.result.at
+reach c = reached_on _ (machine _) c.stretches.invariant (c.collect-took.ensures.reached c.stretches.reader.outcome)
 
-kept_first : (kinds : List ℕ) (rd : Reader) (s : List ℕ) (l : List Float) → Kept kinds l s (first rd) l (first rd)
-kept_first kinds rd s l = record {
-  reached = reached_none (on_bytes kinds) (machine kinds) (at_turn (first rd) l) s 0 (omega arith);
-  stops = λ y. absurd (no y);
-  what = λ y. absurd (no y);
-  end = λ y. absurd (no y);
-}
-  where
-    no : true ≡ false → ⊥
-    no y = impossible cc
+found : (c : In-Found) → c.collect-took.result.at + c.in-Found.n < length c.args.s.now
+found c = found_there _ c.collect-took.result.waiting c.collect-took.new.lists _ _ _ _ (c.collect-took.ensures.reached c.stretches.reader.outcome).within (sym c.collect-took.ensures.look ∙ c.in-Found.is)
 
-kept_more : (kinds : List ℕ) (l₀ : List Float) (s : List ℕ) (t₀ : Stretch) (l : List Float) (t : Stretch) → Kept kinds l₀ s t₀ l t → (r : Stretch) (l' : List Float) → TookStretch kinds (at_turn t l) s t.at r l'
-    → Kept kinds l₀ s t₀ l' r
-kept_more kinds l₀ s t₀ l t k r l' n = record { reached = reached_on (on_bytes kinds) (machine kinds) k.reached n.reached; stops = n.stops; what = n.what; end = n.end }
+pub stretches-init : goal.stretches-init
+stretches-init c = reached_none _ (machine _) _ _ _ (omega arith)
 
-finished : (kinds : List ℕ) (rd : Reader) (s : List ℕ) (l₀ l : List Float) (t : Stretch) → Kept kinds l₀ s (first rd) l t → t.more ≡ false
-    → (◌≡◌ {A = Progress} (record { reader = t.reader; used = t.at; end = t.end; what = t.what }) (read_of kinds (at_turn (first rd) l₀) s)) × (l ≡ lists_read kinds (at_turn (first rd) l₀) s)
-unfolding read_of lists_read
-finished kinds rd s l₀ l t k y =
-    let e = reached_end (on_bytes kinds) (machine kinds) (at_turn (first rd) l₀) s (at_turn t l) t.at k.reached (k.stops y) in (
-      rw (e, k.what y, k.end y),
-      ap (λ (a : Advanced State Instruction Refusal). a.state.lists) (sym e),
-    )
+pub returns-in-Waits : goal.returns-in-Waits
+returns-in-Waits c = read_there _ _ _ _ _ _ _ _ _ (reach (goal.at.returns-in-Waits c).After-collect-took) (stops_waits _ _ _ _ _ _ (sym c.collect-took.ensures.look ∙ c.in-Waits.is))
 
-pub loop-stretch-init : goal.loop-stretch-init
-loop-stretch-init c = kept_first _ _ _ _
+pub returns-in-Refuses : goal.returns-in-Refuses
+returns-in-Refuses c = read_there _ _ _ _ _ _ _ _ _ (reach (goal.at.returns-in-Refuses c).After-collect-took) (stops_refuses _ _ _ _ _ _ _ (sym c.collect-took.ensures.look ∙ c.in-Refuses.is))
 
-pub take_stretch-stretch-requires : goal.take_stretch-stretch-requires
-take_stretch-stretch-requires c = c.loop-stretch.invariant.reached.within
+pub overflow_add-end : goal.overflow_add-end
+overflow_add-end c = omega (arith, found (goal.at.overflow_add-end c).In-Found)
 
-pub loop-stretch-smaller : goal.loop-stretch-smaller
-loop-stretch-smaller c = rw c.loop-stretch-test.true (turn_less _ _ _ _ _ _ c.take_stretch-stretch.ensures)
+pub returns-in_default : goal.returns-in_default
+returns-in_default c = rw c.instruct.ensures
+    (read_there _ _ _ _ _ _ _ _ _ (reach (goal.at.returns-in_default c).After-collect-took)
+    (stops_found _ _ _ _ _ _ _ _ (sym c.collect-took.ensures.look ∙ c.in-Found.is) (sym (ap looks_small c.in-Found.is) ∙ c.collect-took.ensures.other) c.in_default.not-Outcome))
 
-pub loop-stretch-preserved : goal.loop-stretch-preserved
-loop-stretch-preserved c = kept_more _ _ _ _ _ _ c.loop-stretch.invariant _ _ c.take_stretch-stretch.ensures
+pub slice_bounds-read_outcome-end : goal.slice_bounds-read_outcome-end
+slice_bounds-read_outcome-end c = omega (arith, found (goal.at.slice_bounds-read_outcome-end c).In-Found)
 
-pub returns : goal.returns
-returns c = finished _ _ _ _ _ _ c.loop-stretch.invariant c.loop-stretch-test.false
+pub stretches-smaller : goal.stretches-smaller
+stretches-smaller c = omega (arith, found (goal.at.stretches-smaller c).In-Found, (c.collect-took.ensures.reached c.stretches.reader.outcome).from)
+
+pub stretches-preserved : goal.stretches-preserved
+stretches-preserved c = let a = c.args in
+    let t = c.collect-took.result in
+    let e : look_of a.kinds.now t.waiting.seen (drop t.at a.s.now) ≡ Found c.in-Found.x c.in-Found.n = sym c.collect-took.ensures.look ∙ c.in-Found.is in
+    rw c.with_outcome-reader.ensures
+    (reached_on _ (machine _) (reach (goal.at.stretches-preserved c).After-collect-took)
+    (reached_outcome _ _ _ _ _ _ _ _ (c.collect-took.ensures.reached c.stretches.reader.outcome).within (rw c.in-Outcome.is at e) (c.read_outcome.ensures ∙ ap outcome_of (body_part a.s.now t.at c.in-Found.n))))

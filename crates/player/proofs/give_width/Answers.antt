@@ -3,7 +3,4 @@ use Rattle.player.proofs.Feeding.{obeys}
 use Rattle.player.proofs.give_width.Goals as goal
 
 pub returns : goal.returns
-returns c = let shown = c in
-    let came = shown in
-    let start = came in
-    rw came.with_width-reader.ensures (obeys _ start.args.p _ _ _ refl _ refl _ start.requires _ _ shown.width_given-shown.ensures)
+returns g c = rw c.with_width-reader.ensures (obeys _ c.args.p _ _ _ refl _ refl _ c.requires _ _ c.width_given-shown.ensures)

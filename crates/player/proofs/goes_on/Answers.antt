@@ -6,6 +6,6 @@ pub returns-then-has_room : goal.returns-then-has_room
 unfolding goes_on_of
 returns-then-has_room c = rw (sym c.has_room.ensures ∙ c.if-has_room.true) refl
 
-pub returns : goal.returns
+pub returns-else-has_room : goal.returns-else-has_room
 unfolding goes_on_of
-returns c = rw (sym c.has_room.ensures ∙ c.if-has_room.false) refl
+returns-else-has_room c = rw (sym c.has_room.ensures ∙ c.if-has_room.false) c.if-has_room.false

@@ -4,8 +4,5 @@ use Rattle.player.proofs.Feeding.{obeys}
 use Rattle.player.proofs.restart.Goals as goal
 
 pub returns : goal.returns
-returns c = let shown = c in
-    let emptied = shown in
-    let start = emptied in
-    let run = shown.restart-run.ensures in
-    rw emptied.emptied-reader.ensures (obeys _ start.args.p _ _ _ (ap E.restarted run) _ run _ start.requires _ _ shown.restarted-shown.ensures)
+returns g c = let run = c.restart-run.ensures in
+    rw c.emptied-reader.ensures (obeys _ c.args.p _ _ _ (ap E.restarted run) _ run _ c.requires _ _ c.restarted-shown.ensures)

@@ -5,4 +5,4 @@ use Rattle.printer.proofs.began.Goals as goal
 
 pub returns : goal.returns
 unfolding shown_text remembered
-returns c = rw c.unshown.ensures (silent _ _ _ _ refl refl)
+returns g c = silent _ _ _ _ refl refl

@@ -1,37 +1,26 @@
 use native.Mathlib.Omega.{arith}
-use mathlib.Core.Path.{◌≡◌, refl, ◌∙◌}
-use Rattle.report.specs.Lines.{end_text}
-use Rattle.report.proofs.Fits.{end_fits, refused_fits}
-use Rattle.printer.specs.Printer.{Shows, printer_by, shows_by, closing_text, end_shown}
-use Rattle.printer.proofs.Rooms.{shows_pages, shows_proximity, unless_either, closing_fits, end_by, refusal_by_lem, closed_alone, closed_line, ending_not_put, no_end, none_at_end}
+use mathlib.Core.Path.{refl}
+use Rattle.report.proofs.Fits.{refused_fits}
+use Rattle.printer.specs.Printer.{closing_text, ending_by}
+use Rattle.printer.proofs.Rooms.{closing_fits, closed_room, closed_then, line_put, ending_not_put}
 use Rattle.printer.proofs.ended.Goals as goal
 
 pub returns-then-out-lt-ENDING_ROOM : goal.returns-then-out-lt-ENDING_ROOM
-returns-then-out-lt-ENDING_ROOM c = ending_not_put _ _ (omega arith)
+returns-then-out-lt-ENDING_ROOM g c = ending_not_put _ _ (omega arith)
 
-pub returns-then-refused-ne0 : goal.returns-then-refused-ne0
-returns-then-refused-ne0 c = let a = c.args in
-    let by = refusal_by_lem (printer_by a.shows a.notes) a.run a.place a.refused c.if-refused-ne0.true in
-    closed_line (closing_text (shows_by a.shows) a.notes) _ (closing_fits (shows_by a.shows) a.notes) (omega arith) _ _ c.put_closing-closed.ensures _ _ _ c.refused_line.ensures (refused_fits _ _) c.put_closing-closed.auto.out by
-    _ _ c.put_line.ensures
+pub put_end-requires : goal.put_end-requires
+put_end-requires g c = let sh = g.P.Printer.shows in
+    closed_room (closing_text sh c.args.notes) _ (closing_fits sh c.args.notes) (omega arith) _ _ c.put_closing-closed.ensures c.put_closing-closed.auto.out
 
-pub returns-then-shows-eq-PAGES : goal.returns-then-shows-eq-PAGES
-returns-then-shows-eq-PAGES c = let a = c.args in
-    let p = printer_by a.shows a.notes in
-    let by = end_by p a.run a.place a.refused c.if-refused-ne0.false in
-    closed_alone (closing_text (shows_by a.shows) a.notes) _ (closing_fits (shows_by a.shows) a.notes) (omega arith) _ _ c.put_closing-closed.ensures _ (no_end p a.run.rt.tally (shows_pages _ c.if-shows-eq-PAGES.true) ∙ by)
+pub returns-in-Some : goal.returns-in-Some
+unfolding ending_by
+returns-in-Some g c = let s = closing_text g.P.Printer.shows c.args.notes in
+    let fits = closing_fits g.P.Printer.shows c.args.notes in
+    let q = c.put_closing-closed.ensures in
+    closed_then s _ fits (omega arith) _ _ q _ _ (rw c.in-Some.is refl) _ _
+    (line_put _ _ c.refused_line.ensures (refused_fits _ _) _ _ (closed_room s _ fits (omega arith) _ _ q c.put_closing-closed.auto.out) _ _ c.put_line.ensures)
 
-pub returns-then-shows-eq-PROXIMITY : goal.returns-then-shows-eq-PROXIMITY
-returns-then-shows-eq-PROXIMITY c = let a = c.args in
-    let p = printer_by a.shows a.notes in
-    let by = end_by p a.run a.place a.refused c.if-refused-ne0.false in
-    closed_alone (closing_text (shows_by a.shows) a.notes) _ (closing_fits (shows_by a.shows) a.notes) (omega arith) _ _ c.put_closing-closed.ensures _ (none_at_end p a.run.rt.tally (shows_proximity _ c.if-shows-eq-PROXIMITY.true) ∙ by)
-
-pub returns : goal.returns
-returns c = let a = c.args in
-    let p = printer_by a.shows a.notes in
-    let t = a.run.rt.tally in
-    let has : end_shown (shows_by a.shows) t ≡ end_text t = unless_either _ c.if-shows-eq-PAGES.false c.if-shows-eq-PROXIMITY.false (λ (w : Shows). end_shown w t ≡ end_text t) refl refl in
-    let by = end_by p a.run a.place a.refused c.if-refused-ne0.false in
-    closed_line (closing_text (shows_by a.shows) a.notes) _ (closing_fits (shows_by a.shows) a.notes) (omega arith) _ _ c.put_closing-closed.ensures _ _ _ c.end_line.ensures (end_fits _) c.put_closing-closed.auto.out (rw has at by)
-    _ _ c.put_line-2.ensures
+pub returns-in-None : goal.returns-in-None
+unfolding ending_by
+returns-in-None g c = let sh = g.P.Printer.shows in
+    closed_then (closing_text sh c.args.notes) _ (closing_fits sh c.args.notes) (omega arith) _ _ c.put_closing-closed.ensures _ _ (rw c.in-None.is refl) _ _ c.put_end.ensures

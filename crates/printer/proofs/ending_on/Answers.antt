@@ -2,4 +2,4 @@ use Rattle.printer.proofs.Rooms.{on_output}
 use Rattle.printer.proofs.ending_on.Goals as goal
 
 pub returns : goal.returns
-returns c = on_output _ _
+returns g c = on_output _ _

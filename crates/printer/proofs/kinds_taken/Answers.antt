@@ -3,4 +3,4 @@ use Rattle.printer.proofs.kinds_taken.Goals as goal
 
 pub returns : goal.returns
 unfolding kinds_taken
-returns c = c.journal_kinds.ensures
+returns g c = c.journal_kinds.ensures

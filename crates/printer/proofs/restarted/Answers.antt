@@ -5,4 +5,4 @@ use Rattle.printer.proofs.restarted.Goals as goal
 
 pub returns : goal.returns
 unfolding shown_text remembered
-returns c = rw c.silent.ensures (quiet _ _ _ _ refl _ c.remember_reset-after.ensures)
+returns g c = rw c.silent.ensures (quiet _ _ _ _ refl _ c.after_reset.ensures)

@@ -5,4 +5,4 @@ use Rattle.printer.proofs.width_given.Goals as goal
 
 pub returns : goal.returns
 unfolding shown_text remembered
-returns c = rw c.silent.ensures (quiet _ _ _ _ refl _ c.remember_width-after.ensures)
+returns g c = rw c.silent.ensures (quiet _ _ _ _ refl _ c.after_width.ensures)

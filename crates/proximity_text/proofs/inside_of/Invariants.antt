@@ -1,4 +1,4 @@
-use Prim.Native.Nat.{◌-◌, ◌≤◌}
+use Prim.Native.Nat.{◌≤◌}
 use mathlib.Core.Path.{◌≡◌}
 use lib.ListN.{length, take}
 use Rattle.proximity_text.specs.Near.{inside_up_to}
@@ -6,6 +6,3 @@ use Rattle.proximity_text.proofs.inside_of.Given as goal
 
 abbrev pub invariant-loop-c : goal.invariant-loop-c
 invariant-loop-c l = (l.c ≤ 8) × (length l.inside ≡ 8) × (take l.c l.inside ≡ inside_up_to l.lo l.hi l.pos l.c)
-
-abbrev pub decreases-loop-c : goal.decreases-loop-c
-decreases-loop-c l = 8 - l.c

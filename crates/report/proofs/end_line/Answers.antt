@@ -1,8 +1,10 @@
-use Rattle.text.proofs.Lines.{push_line}
-use Rattle.report.specs.Lines.{stopped_of, end_text}
+use mathlib.Core.Path.{ap}
+use Rattle.text.specs.Ascii.{ascii}
+use Rattle.text.specs.Line.{line_of}
+use Rattle.report.specs.Lines.{end_text, stopped_of}
+use Rattle.report.proofs.Laws.{two_fields}
 use Rattle.report.proofs.end_line.Goals as goal
 
 pub returns : goal.returns
 unfolding end_text stopped_of
-returns c = let ticks = c in
-    simp (c.push.ensures, c.field32-b.ensures, ticks.field32.ensures, ticks.push-a.ensures, ticks.empty.ensures, push_line)
+returns c = rw (c.fields_line.ensures, c.from.ensures, c.from-2.ensures) (ap line_of (two_fields (ascii "end") _ _))

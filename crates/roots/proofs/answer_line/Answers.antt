@@ -5,12 +5,10 @@ use Rattle.text.proofs.Puts.{put_there}
 use Rattle.roots.specs.Text.{answer_to, is_bad}
 use Rattle.roots.proofs.answer_line.Goals as goal
 
-pub returns-in-Pattern : goal.returns-in-Pattern
+pub returns-in-Some : goal.returns-in-Some
 unfolding answer_to is_bad
-returns-in-Pattern c = let r = sym c.read_line.ensures ∙ c.in-Pattern.is in
-    rw r (c.put_root.ensures, refl)
+returns-in-Some c = rw (sym c.read_line.ensures ∙ c.in-Some.is) (c.put_root.ensures, refl)
 
-pub returns-in-Bad : goal.returns-in-Bad
+pub returns-in-None : goal.returns-in-None
 unfolding answer_to is_bad
-returns-in-Bad c = let r = sym c.read_line.ensures ∙ c.in-Bad.is in
-    rw r (put_there _ _ _ (omega arith) _ _ c.put.ensures, refl)
+returns-in-None c = rw (sym c.read_line.ensures ∙ c.in-None.is) (put_there _ _ _ (omega arith) _ _ c.put.ensures, refl)

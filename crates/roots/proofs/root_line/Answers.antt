@@ -5,7 +5,4 @@ use Rattle.roots.proofs.root_line.Goals as goal
 
 pub returns : goal.returns
 unfolding root_text
-returns c = let f = c in
-    let p = f in
-    let h = p in
-    simp (c.push.ensures, f.push_float.ensures, p.push-l.ensures, h.push_hex.ensures, h.empty.ensures, h.sqrt-root.ensures, h.double.ensures, push_line)
+returns c = simp (c.push-2.ensures, c.push_float.ensures, c.push.ensures, c.push_hex.ensures, c.new-l.ensures, c.sqrt-root.ensures, c.double.ensures, push_line)

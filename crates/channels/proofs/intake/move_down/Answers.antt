@@ -1,15 +1,9 @@
-use Rattle.std.proofs.Common.{arith}
-use Rattle.channels.proofs.Moving.{moved_none, moved_more, moved_is}
+use Rattle.std.proofs.Common.{arith, ◌∙◌}
+use Rattle.channels.proofs.Moving.{moved_is, moved_none}
 use Rattle.channels.proofs.intake.move_down.Goals as goal
 
-pub loop-from-init : goal.loop-from-init
-loop-from-init c = moved_none _ _ _
+pub returns-then-at-end : goal.returns-then-at-end
+returns-then-at-end c = c.copy_within.ensures.after ∙ moved_is _ _ _ _ c.min-end.ensures
 
-pub loop-from-preserved : goal.loop-from-preserved
-loop-from-preserved c = moved_more _ _ _ _ _ _ (omega arith) (omega arith) c.loop-from.invariant
-
-pub shape_of-buf : goal.shape_of-buf
-shape_of-buf c = c.loop-from.invariant.long
-
-pub returns : goal.returns
-returns c = moved_is _ _ _ _ _ _ _ c.least-end.ensures (omega arith) c.loop-from.invariant
+pub returns-else-at-end : goal.returns-else-at-end
+returns-else-at-end c = moved_none _ _ _ _ c.min-end.ensures (omega (arith, c.if-at-end.false))

@@ -1,9 +1,9 @@
-use Prim.Native.Nat.{◌-◌}
-use Rattle.journal_forms.proofs.Held.{Held}
+use mathlib.Core.Path.{◌≡◌}
+use mathlib.Core.Bool.{true}
+use lib.ListN.{drop}
+use Rattle.journal_forms.specs.Body.{floats_in, all_pass}
+use Rattle.journal_forms.proofs.Held.{passes}
 use Rattle.journal_forms.proofs.body.floats_held.Given as goal
 
 abbrev pub invariant-loop-i : goal.invariant-loop-i
-invariant-loop-i l = Held l.from l.s l.at l.count l.place l.i
-
-abbrev pub decreases-loop-i : goal.decreases-loop-i
-decreases-loop-i l = l.count - l.i
+invariant-loop-i l = all_pass (passes l.from) (floats_in l.from l.i (drop l.at l.s)) ≡ true

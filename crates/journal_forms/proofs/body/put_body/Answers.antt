@@ -1,51 +1,20 @@
-use Rattle.journal_forms.specs.Forms.{other}
-use Prim.Native.Nat.{ℕ, ◌+◌}
-use mathlib.Core.Path.{ap}
 use native.Mathlib.Omega.{arith}
-use Rattle.journal_forms.specs.Body.{runs_bytes}
-use Rattle.journal_forms.proofs.Putting.{first_run, second_run, body_all, part_from}
+use Rattle.journal_forms.specs.Forms.{other}
+use Rattle.journal_forms.proofs.Held.{next_run}
+use Rattle.journal_forms.proofs.Putting.{part_from, run_asks, runs_more, runs_all}
 use Rattle.journal_forms.proofs.body.put_body.Goals as goal
 
-pub run_bytes-middle-requires : goal.run_bytes-middle-requires
-unfolding runs_bytes
-run_bytes-middle-requires c = omega arith
+pub put_run-end-requires : goal.put_run-end-requires
+put_run-end-requires c = run_asks c.args.from (other c.args.from) c.args.runs.now c.args.body.now c.args.out.now c.args.n c.requires.0 c.requires.1 _ _ _ _ c.loop-run.invariant _ (next_run c.args.runs.now c.loop-run.run-index c.loop-run-test.true)
 
-pub run_bytes-requires : goal.run_bytes-requires
-unfolding runs_bytes
-run_bytes-requires c = omega arith
+pub run_bytes-at-requires : goal.run_bytes-at-requires
+run_bytes-at-requires c = omega (arith, (run_asks c.args.from (other c.args.from) c.args.runs.now c.args.body.now c.args.out.now c.args.n c.requires.0 c.requires.1 _ _ _ _ c.loop-run.invariant _ (next_run c.args.runs.now c.loop-run.run-index c.loop-run-test.true)).0)
 
-pub overflow_add-end : goal.overflow_add-end
-unfolding runs_bytes
-overflow_add-end c = omega arith
+pub overflow_add-at : goal.overflow_add-at
+overflow_add-at c = omega (arith, c.run_bytes-at.ensures, (run_asks c.args.from (other c.args.from) c.args.runs.now c.args.body.now c.args.out.now c.args.n c.requires.0 c.requires.1 _ _ _ _ c.loop-run.invariant _ (next_run c.args.runs.now c.loop-run.run-index c.loop-run-test.true)).0)
 
-pub put_run-after_first-requires : goal.put_run-after_first-requires
-put_run-after_first-requires c = let start = c in
-    let a = start.args in
-    first_run a.from (other a.from) a.first a.second a.body.now start.requires.0 a.out.now a.n start.requires.1 start.requires.2
-
-pub put_run-after_second-requires : goal.put_run-after_second-requires
-put_run-after_second-requires c = let ran = c in
-    let bytes = ran in
-    let start = bytes in
-    let a = start.args in
-    second_run a.from (other a.from) a.first a.second a.body.now start.requires.0 a.out.now a.n start.requires.1 start.requires.2 _ bytes.run_bytes-middle.ensures _ _ ran.put_run-after_first.ensures ran.put_run-after_first.auto.out
-
-pub slice_bounds-put-count : goal.slice_bounds-put-count
-unfolding runs_bytes
-slice_bounds-put-count c = omega arith
-
-pub slice_bounds-put-start : goal.slice_bounds-put-start
-unfolding runs_bytes
-slice_bounds-put-start c = omega arith
+pub loop-run-preserved : goal.loop-run-preserved
+loop-run-preserved c = runs_more c.args.from (other c.args.from) c.args.runs.now c.args.body.now c.args.out.now c.args.n c.requires.0 c.requires.1 _ _ _ _ c.loop-run.invariant _ (next_run c.args.runs.now c.loop-run.run-index c.loop-run-test.true) _ c.run_bytes-at.ensures _ _ c.put_run-end.ensures c.put_run-end.auto.out
 
 pub returns : goal.returns
-returns c = let put = c in
-    let second = put in
-    let first = second in
-    let more = first in
-    let bytes = more in
-    let start = bytes in
-    let a = start.args in
-    body_all a.from (other a.from) a.first a.second a.body.now start.requires.0 a.out.now a.n start.requires.1 start.requires.2 _ bytes.run_bytes-middle.ensures _ _ first.put_run-after_first.ensures first.put_run-after_first.auto.out
-    _ (ap (λ (j : ℕ). bytes.run_bytes-middle.result + j) more.run_bytes.ensures) _ _ second.put_run-after_second.ensures second.put_run-after_second.auto.out
-    _ (part_from a.body.now (bytes.run_bytes-middle.result + more.run_bytes.result)) _ _ put.put.ensures
+returns c = runs_all c.args.from (other c.args.from) c.args.runs.now c.args.body.now c.args.out.now c.args.n c.requires.0 c.requires.1 _ _ _ _ c.loop-run.invariant c.loop-run-test.false _ (part_from c.args.body.now c.loop-run.at) _ _ c.put.ensures

@@ -1,18 +1,13 @@
+use mathlib.Core.Path.{ap, ◌∙◌}
 use native.Mathlib.Omega.{arith}
-use Rattle.journal_forms.proofs.Putting.{written_none, written_more, written_all}
+use lib.ListN.{take}
+use Rattle.journal_forms.proofs.Putting.{number_put}
 use Rattle.journal_forms.proofs.body.put_number.Goals as goal
 
-pub loop-i-init : goal.loop-i-init
-loop-i-init c = written_none _ _ _ _
+pub returns-in-Wide : goal.returns-in-Wide
+returns-in-Wide c = rw c.in-Wide.is (number_put _ _ 8 c.args.number _ (omega arith) (c.copy_from_slice.ensures.after ∙ c.to_le_bytes-bytes.ensures))
 
-pub bounds-out-n : goal.bounds-out-n
-bounds-out-n c = omega (arith, c.loop-i.invariant.long)
-
-pub loop-i-preserved : goal.loop-i-preserved
-loop-i-preserved c = written_more _ _ _ _ _ _ _ (omega arith) (omega arith) c.loop-i.invariant
-
-pub shape_of-out : goal.shape_of-out
-shape_of-out c = c.loop-i.invariant.long
-
-pub returns : goal.returns
-returns c = written_all _ _ _ _ _ _ _ (omega arith) c.loop-i.invariant
+pub returns-in-Narrow : goal.returns-in-Narrow
+returns-in-Narrow c =
+    rw c.in-Narrow.is
+    (number_put _ _ 4 c.args.number _ (omega arith) (c.copy_from_slice-in-Narrow.ensures.after ∙ ap (take 4) c.to_le_bytes-bytes.ensures))

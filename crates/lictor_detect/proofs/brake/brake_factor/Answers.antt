@@ -1,9 +1,7 @@
-use Rattle.lictor_detect.proofs.Literals.{zero_is, one_is, eps_is}
-use Rattle.lictor_detect.specs.Brake.{share_left, brake_factor}
+use Rattle.lictor_detect.specs.Brake.{eps, share_left, brake_factor}
+use lib.Ieee.{of_bits, round}
 use Rattle.lictor_detect.proofs.brake.brake_factor.Goals as goal
 
 pub returns : goal.returns
-unfolding brake_factor share_left
-returns c = let n = c in
-    let d = n in
-    rw (c.max.ensures, n.norm-nv.ensures, d.least-n.ensures, d.least-d.ensures, zero_is, one_is, eps_is)
+unfolding brake_factor share_left of_bits round eps
+returns c = rw (c.max.ensures, c.norm-nv.ensures, c.min-2.ensures, c.min.ensures)

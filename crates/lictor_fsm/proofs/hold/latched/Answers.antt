@@ -1,20 +1,11 @@
-use Prim.Native.Nat.{◌-◌}
-use native.Mathlib.Omega.{arith}
-use Rattle.lictor_core.proofs.RowLaws.{row_start, row_took, row_left, row_done}
+use Rattle.std.proofs.Common.{ℕ, get_or, ◌∙◌, rules}
+use Rattle.std.specs.Float.{nan}
+use Rattle.fmath.specs.Float.{clamp_of}
+use Rattle.lictor_core.proofs.RowLaws.{row_is}
 use Rattle.lictor_table.specs.Helpers.{latched_of}
-use borrow.Author.Rules.{rules}
 use Rattle.lictor_fsm.proofs.hold.latched.Goals as goal
-use Rattle.lictor_fsm.proofs.hold.latched.Goals.{then-at-n, else-at-n}
-
-pub loop-at-init : goal.loop-at-init
-unfolding latched_of
-loop-at-init c = (search rules, row_start _ _ _)
-
-pub loop-at-preserved : goal.loop-at-preserved
-unfolding latched_of
-loop-at-preserved c = let kept = c.loop-at.invariant.1 in
-    (search rules, elim c.if-at-n.branch [ then-at-n w ↦ row_took _ _ kept w.if-at-n.true w.clamp.ensures w.out-is | else-at-n w ↦ row_left _ _ kept w.if-at-n.false w.out-is ])
 
 pub returns : goal.returns
 unfolding latched_of
-returns c = row_done _ _ c.loop-at.invariant.1 (omega arith)
+returns c = let a = c.args in
+    row_is (λ (k : ℕ). clamp_of (get_or a.pos k nan) (get_or a.lo k nan) (get_or a.hi k nan)) _ _ _ _ c.first_by.ensures (λ i y l p. search rules) ∙ rw (c.min.ensures)

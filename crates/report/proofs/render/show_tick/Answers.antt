@@ -1,14 +1,12 @@
-use mathlib.Core.Path.{sym, ◌∙◌}
-use borrow.Author.Tests.{leb-true}
-use Rattle.text.proofs.Puts.{no_room, with_room}
+use mathlib.Core.Path.{◌≡◌, ◌∙◌}
+use mathlib.Core.List.{[]}
+use Rattle.text.proofs.Lines.{push_line}
+use Rattle.report.specs.Lines.{tick_text}
+use Rattle.report.proofs.Fits.{tick_whole}
 use Rattle.report.proofs.render.show_tick.Goals as goal
 
-pub put_tick-requires : goal.put_tick-requires
-put_tick-requires c = leb-true _ _ (sym c.has_room.ensures ∙ c.if-has_room.true)
-
-pub returns-then-has_room : goal.returns-then-has_room
-returns-then-has_room c = let asked = c in
-    with_room _ _ _ _ (sym asked.has_room.ensures ∙ asked.if-has_room.true) _ _ c.put_tick.ensures
-
 pub returns : goal.returns
-returns c = no_room _ _ _ _ (sym c.has_room.ensures ∙ c.if-has_room.false)
+returns c =
+    let v = c.args.v in
+    let whole : c.push_tick.new.l ≡ tick_text v = rw (c.push_tick.ensures, c.new-l.ensures) (push_line [] (tick_text v) ∙ tick_whole v) in
+    rw whole at c.show_line.ensures

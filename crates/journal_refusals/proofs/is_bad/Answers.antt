@@ -1,4 +1,0 @@
-use Rattle.journal_refusals.proofs.is_bad.Goals as goal
-
-pub returns : goal.returns
-returns c = cc

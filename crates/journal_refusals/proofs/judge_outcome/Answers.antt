@@ -1,9 +1,0 @@
-use Rattle.lictor_core.proofs.Branch.{branches}
-use Rattle.journal_refusals.proofs.Contents.{contents_outcome}
-use Rattle.journal_refusals.proofs.judge_outcome.Goals as goal
-
-pub returns-then-is_bad : goal.returns-then-is_bad
-returns-then-is_bad c = rw (← contents_outcome) (search branches depth 12)
-
-pub returns : goal.returns
-returns c = rw (← contents_outcome) (search branches depth 12)

@@ -1,4 +1,0 @@
-use Rattle.lictor_detect.proofs.brake.brake_delta.Goals as goal
-
-pub returns : goal.returns
-returns c = rw (c.scaled_action.ensures, c.brake_factor-f.ensures)

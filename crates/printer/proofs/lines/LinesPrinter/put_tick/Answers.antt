@@ -1,0 +1,5 @@
+use Rattle.printer.proofs.Rooms.{line_there}
+use Rattle.printer.proofs.lines.LinesPrinter.put_tick.Goals as goal
+
+pub returns : goal.returns
+returns c = line_there _ _ _ c.requires _ _ c.show_tick.ensures
