@@ -12,18 +12,27 @@ use Rattle.channels.specs.declared.intake.Reads.{Reads}
 use Rattle.channels.specs.Intake.{most_reads, may_come, Counted}
 use Rattle.console.specs.declared.phases.Phase.{Phase}
 use Rattle.console.specs.declared.phases.Phase.TheVariants.{Plays, Waits, Refused, InputOver, ReadFailed, ReadsOver, WriteFailed}
-use Rattle.console.specs.Phases.{is_going, is_unwritten, has_ending, phase_played, phase_read, phase_ended}
+use Rattle.console.specs.Phases.{is_going, is_waiting, is_unwritten, has_ending, phase_played, phase_read, phase_ended}
 use Rattle.console.specs.Rounds.{buffer_room, Resting, KnownIn, to_do_by}
 
--- it goes on, and no bytes have to come first
-pub plays_is : (x : Phase) → is_going x ≡ true → (x ≡ Waits → ⊥) → x ≡ Plays
+-- it goes on, and there may be records to take, or bytes have to come first
+pub plays_is : (x : Phase) → is_going x ≡ true → is_waiting x ≡ false → x ≡ Plays
 plays_is Plays g w = refl
-plays_is Waits g w = absurd (w refl)
+plays_is Waits g w = impossible cc
 plays_is (Refused number) g w = impossible cc
 plays_is InputOver g w = impossible cc
 plays_is ReadFailed g w = impossible cc
 plays_is ReadsOver g w = impossible cc
 plays_is WriteFailed g w = impossible cc
+
+pub waits_is : (x : Phase) → is_waiting x ≡ true → x ≡ Waits
+waits_is Plays w = impossible cc
+waits_is Waits w = refl
+waits_is (Refused number) w = impossible cc
+waits_is InputOver w = impossible cc
+waits_is ReadFailed w = impossible cc
+waits_is ReadsOver w = impossible cc
+waits_is WriteFailed w = impossible cc
 
 -- ---- after a step
 
@@ -33,11 +42,11 @@ wrote_played false true n = refl
 wrote_played false false None = refl
 wrote_played false false (Some number) = refl
 
-pub stops_played : {M : Type 0} (rests : Resting M) (m : M) (s : List ℕ) (n : Option ℕ) (reads : Reads) (failed full : Bool) → (full ≡ false → rests m s n) → KnownIn rests (phase_played failed full n) m s reads
+pub stops_played : {M : Type 0} (rests : Resting M) (m : M) (s : List ℕ) (n : Option ℕ) (reads : Reads) (failed full : Bool) → (full ≡ false → rests m s n) → KnownIn rests (phase_played failed full n) m s n reads
 stops_played rests m s n reads true full h = tt
 stops_played rests m s n reads false true h = tt
-stops_played rests m s None reads false false h = h refl
-stops_played rests m s (Some number) reads false false h = h refl
+stops_played rests m s None reads false false h = (h refl, refl)
+stops_played rests m s (Some number) reads false false h = (h refl, refl)
 
 pub less_played : (have at made : ℕ) (n : Option ℕ) (failed full : Bool) → at ≤ have → (full ≡ true → 0 < at) → to_do_by (phase_played failed full n) (have - at) made < to_do_by Plays have made
 less_played have at made n true full h y = omega arith
@@ -53,11 +62,12 @@ wrote_read Over = refl
 wrote_read Failed = refl
 wrote_read Spent = refl
 
-pub stops_read : {M : Type 0} (rests : Resting M) (m : M) (s : List ℕ) (before : ℕ) (reads : Reads) (x : Supply) → reads.last ≡ x → Counted x before reads.made → (may_come x ≡ false → rests m s None) → KnownIn rests (phase_read x) m s reads
-stops_read rests m s before reads More e c h = tt
-stops_read rests m s before reads Over e c h = (h refl, e)
-stops_read rests m s before reads Failed e c h = (h refl, e)
-stops_read rests m s before reads Spent e c h = (h refl, omega (arith, c.0, c.1))
+pub stops_read : {M : Type 0} (rests : Resting M) (m : M) (s : List ℕ) (n : Option ℕ) (before : ℕ) (reads : Reads) (x : Supply) → n ≡ None → reads.last ≡ x → Counted x before reads.made → (may_come x ≡ false → rests m s n)
+    → KnownIn rests (phase_read x) m s n reads
+stops_read rests m s n before reads More z e c h = tt
+stops_read rests m s n before reads Over z e c h = (h refl, z, e)
+stops_read rests m s n before reads Failed z e c h = (h refl, z, e)
+stops_read rests m s n before reads Spent z e c h = (h refl, z, omega (arith, c.0, c.1))
 
 pub most_read : (x : Supply) (before made : ℕ) → before ≤ most_reads → Counted x before made → (made ≤ most_reads) × (before ≤ made)
 most_read More before made h c = (omega (arith, c.0, c.1), omega (arith, c.1))

@@ -29,7 +29,7 @@ module _ {X : Type 0} (sh : Shows) (kinds : List ℕ) (k : kinds ≡ kinds_taken
   o = subst (λ (u : List ℕ). Followed u (playing_from (printer_of sh j) j.reader j.run j.lists) s out p l' out') k (followed kinds (playing_from (printer_of sh j) j.reader j.run j.lists) s out p l' out' refl d)
 
   pub step_is : (n : Option ℕ) → n ≡ option_map number_of p.refused
-      → Steps (JournalGoes sh) (JournalRests sh) j s (record { at = p.at; n = p.n; more = p.more; refused = n })
+      → Steps (JournalGoes (kinds_taken sh) sh) (JournalRests (kinds_taken sh)) j s (record { at = p.at; n = p.n; more = p.more; refused = n })
       (record { reader = p.reader; run = p.run; notes = p.notes; lists = l'; printer = j.printer }) out'
   step_is n e = record {
     within = o.within;

@@ -35,7 +35,7 @@ use Rattle.console.specs.declared.rounds.Ended.{Ended}
 use Rattle.console.specs.declared.Journal.{Journal}
 use Rattle.console.specs.declared.Played.{Played}
 use Rattle.console.specs.Phases.{is_going, is_unwritten, has_ending, phase_ended, number_left, number_ended}
-use Rattle.console.specs.Rounds.{HandedOn, at_hand, KnownIn, number_in, ending_in, ended_of, RanBy, StartsWith}
+use Rattle.console.specs.Rounds.{HandedOn, at_hand, KnownIn, Through, number_in, ending_in, ended_of, Closed, RanBy, StartsWith}
 use Rattle.console.specs.Console.{state_of, printer_of, JournalGoes, JournalRests, end_number, end_place, Answers, Pauses, EndsBy, Ran}
 use Rattle.console.specs.Journals.{none_is}
 use Rattle.console.proofs.ByPhase.{wrote_ended}
@@ -171,15 +171,15 @@ module _ {P : Type 0} (sh : Shows) (j : Journal P) (r : Round) (b s : List ℕ) 
     abbrev ending : Phase → List ℕ
     ending x = cond (has_ending x) last []
 
-    number_by : (x : Phase) → r.phase ≡ x → number_in r ≡ number_ended x r.have
-    number_by x y = ap (λ (u : Phase). number_ended u r.have) y
+    number_by : (x : Phase) → r.phase ≡ x → number_in r ≡ number_ended x r.refused r.have
+    number_by x y = ap (λ (u : Phase). number_ended u r.refused r.have) y
 
     -- what is over, where the text of x was handed over
     abbrev EndsIn : Phase → Phase → Type 0
     EndsIn x y = EndsBy p answer s (text ++ sent_to channel (ending x) Output) (sent_to channel (ending x) Errors) y
 
     -- a refusal: its number, and its place
-    refused_ends : (number : ℕ) → r.phase ≡ Refused number → JournalRests sh j rest (Some number) → EndsIn (Refused number) (Refused number)
+    refused_ends : (number : ℕ) → r.phase ≡ Refused number → JournalRests kinds j rest (Some number) → EndsIn (Refused number) (Refused number)
     unfolding end_number end_place
     refused_ends number y h =
         let q = some_is number h.why h.number_is in
@@ -197,7 +197,7 @@ module _ {P : Type 0} (sh : Shows) (j : Journal P) (r : Round) (b s : List ℕ) 
         let k : r.have ≡ suc (length u) = sym have_is ∙ ap length y in
         (rw (k, ne_eqb (suc (length u)) 0 (λ o. omega (arith, o))) refl, refl)
 
-    input_ends : r.phase ≡ InputOver → JournalRests sh j rest None × (e.reads.last ≡ Over) → EndsIn InputOver InputOver
+    input_ends : r.phase ≡ InputOver → JournalRests kinds j rest None × (e.reads.last ≡ Over) → EndsIn InputOver InputOver
     input_ends y h =
         let t : Rests kinds (state_of j) rest None = rw (none_is h.0.why h.0.number_is) at h.0.rests in
         let k = settles None t in
@@ -207,7 +207,7 @@ module _ {P : Type 0} (sh : Shows) (j : Journal P) (r : Round) (b s : List ℕ) 
         (a.0, a.1, answers _ k n o.1, h.1)
 
     -- no byte more came, or was read: nothing was refused
-    pauses : number_in r ≡ None → JournalRests sh j rest None → (text ++ [] ≡ printed p (meaning_for p s).events) × Pauses p answer s
+    pauses : number_in r ≡ None → JournalRests kinds j rest None → (text ++ [] ≡ printed p (meaning_for p s).events) × Pauses p answer s
     unfolding ended_of
     pauses n h =
         let t : Rests kinds (state_of j) rest None = rw (none_is h.why h.number_is) at h.rests in
@@ -227,19 +227,19 @@ module _ {P : Type 0} (sh : Shows) (j : Journal P) (r : Round) (b s : List ℕ) 
     whole u v h = record { later = []; is = sym (append-nil u ∙ h) }
 
     -- why it is over, by the phase before the ending, and whether a write failed
-    ends_by : (x : Phase) → r.phase ≡ x → is_going x ≡ false → KnownIn (JournalRests sh) x j rest r.reads → (has_ending x ≡ false → is_unwritten x ≡ false → w.failed ≡ false)
+    ends_by : (x : Phase) → r.phase ≡ x → is_going x ≡ false → KnownIn (JournalRests kinds) x j rest r.refused r.reads → (has_ending x ≡ false → is_unwritten x ≡ false → w.failed ≡ false)
         → (f : Bool) → w.failed ≡ f → EndsIn x (phase_ended x f)
     unfolding ended_of
     ends_by Plays y g h v f k = impossible cc
     ends_by Waits y g h v f k = impossible cc
-    ends_by (Refused number) y g h v true k = let q = refused_ends number y h in (whole _ _ q.0, whole _ _ q.1)
-    ends_by (Refused number) y g h v false k = refused_ends number y h
-    ends_by InputOver y g h v true k = let q = input_ends y (h.0, rw z h.1) in (whole _ _ q.0, whole _ _ q.1)
-    ends_by InputOver y g h v false k = input_ends y (h.0, rw z h.1)
+    ends_by (Refused number) y g h v true k = let q = refused_ends number y (rw h.1 at h.0) in (whole _ _ q.0, whole _ _ q.1)
+    ends_by (Refused number) y g h v false k = refused_ends number y (rw h.1 at h.0)
+    ends_by InputOver y g h v true k = let q = input_ends y (rw h.1 at h.0, rw z h.2) in (whole _ _ q.0, whole _ _ q.1)
+    ends_by InputOver y g h v false k = input_ends y (rw h.1 at h.0, rw z h.2)
     ends_by ReadFailed y g h v true k = let o : true ≡ false = sym k ∙ v refl refl in impossible cc
-    ends_by ReadFailed y g h v false k = let q = pauses (number_by ReadFailed y) h.0 in rw (sent_none channel Output, sent_none channel Errors) (q.0, refl, q.1, rw z h.1)
+    ends_by ReadFailed y g h v false k = let q = pauses (number_by ReadFailed y ∙ h.1) (rw h.1 at h.0) in rw (sent_none channel Output, sent_none channel Errors) (q.0, refl, q.1, rw z h.2)
     ends_by ReadsOver y g h v true k = let o : true ≡ false = sym k ∙ v refl refl in impossible cc
-    ends_by ReadsOver y g h v false k = let q = pauses (number_by ReadsOver y) h.0 in rw (sent_none channel Output, sent_none channel Errors) (q.0, refl, q.1, rw z h.1)
+    ends_by ReadsOver y g h v false k = let q = pauses (number_by ReadsOver y ∙ h.1) (rw h.1 at h.0) in rw (sent_none channel Output, sent_none channel Errors) (q.0, refl, q.1, rw z h.2)
     ends_by WriteFailed y g h v f k = by f
       where
         by : (f : Bool) → EndsIn WriteFailed (phase_ended WriteFailed f)
@@ -255,23 +255,25 @@ module _ {P : Type 0} (sh : Shows) (j₀ j : Journal P) (e : Ended) where
   abbrev channel_in : Journal P → Option ℕ → Channel
   channel_in i number = channel_by sh number
 
-  pub ran : state_of j₀ ≡ start_state → j₀.run ≡ start_run → printer_of sh j₀ ≡ showing sh at_start → RanBy (JournalGoes sh) (JournalRests sh) text_in channel_in j₀ j e
+  abbrev Taking : List ℕ → Round → List ℕ → Type 0
+  Taking kinds r b = Through (JournalGoes kinds sh) (JournalRests kinds) j₀ j r b
+
+  taken : state_of j₀ ≡ start_state → j₀.run ≡ start_run → printer_of sh j₀ ≡ showing sh at_start → (r : Round) (b : List ℕ) → Taking (kinds_taken sh) r b → (out' : List ℕ) → Closed text_in channel_in j r e out'
       → Ran (showing sh at_start) (record { run = j.run; ended = e })
   unfolding ended_of
-  ran h-state h-run h-printer t =
-      let r = t.round in
+  taken h-state h-run h-printer r b t out' c =
       let w = e.written in
-      let x = t.through.past in
-      let made : JournalGoes sh j₀ x.past x.text j (at_hand r t.buf) = x.makes in
+      let x = t.past in
+      let made : JournalGoes (kinds_taken sh) sh j₀ x.past x.text j (at_hand r b) = x.makes in
       let goes = rw h-state at made.goes in
       let run_to = rw h-run at made.run_is in
       let prints = rw (h-printer, h-run) at made.printer_is in
       let text = text_by (showing sh at_start) start_run made.told in
       let text-is : x.text ≡ text = rw (h-printer, h-run) at made.text in
       let ending = sent_to (channel_by sh (number_in r)) (ending_in text_in j r (number_in r)) in
-      let reads-are : e.reads ≡ r.reads = ap (λ (u : Ended). u.reads) t.closed.is in
-      let phase-is : e.phase ≡ phase_ended r.phase w.failed = ap (λ (u : Ended). u.phase) t.closed.is in
-      let counts = sent_counts (channel_by sh (number_in r)) r.written w text (ending_in text_in j r (number_in r)) (rw text-is at x.handed) x.beside t.closed.put.handed in
+      let reads-are : e.reads ≡ r.reads = ap (λ (u : Ended). u.reads) c.is in
+      let phase-is : e.phase ≡ phase_ended r.phase w.failed = ap (λ (u : Ended). u.phase) c.is in
+      let counts = sent_counts (channel_by sh (number_in r)) r.written w text (ending_in text_in j r (number_in r)) (rw text-is at x.handed) x.beside c.put.handed in
       record {
         journal = x.past;
         text = text ++ ending Output;
@@ -279,9 +281,18 @@ module _ {P : Type 0} (sh : Shows) (j₀ j : Journal P) (e : Ended) where
         brought = rw reads-are x.brought;
         handed = counts.0;
         handed_beside = counts.1;
-        wrote = wrote_ended r.phase w.failed (λ h. ap (λ (u : Written). u.failed) (t.closed.put.none h) ∙ t.through.sound.wrote) ∙ sym (ap is_unwritten phase-is);
+        wrote = wrote_ended r.phase w.failed (λ h. ap (λ (u : Written). u.failed) (c.put.none h) ∙ t.sound.wrote) ∙ sym (ap is_unwritten phase-is);
         ends =
             subst (λ (u : Phase). EndsBy (showing sh at_start) (record { run = j.run; ended = e }) x.past (text ++ ending Output) (ending Errors) u) (sym phase-is)
-            (ends_by sh j r t.buf x.past made.told goes run_to prints x.count t.through.sound.fits.within e w t.closed.is r.phase refl t.through.over t.through.sound.stops
-            (λ h u. ap (λ (v : Written). v.failed) (t.closed.put.none h) ∙ t.through.sound.wrote ∙ u) w.failed refl);
+            (ends_by sh j r b x.past made.told goes run_to prints x.count t.sound.fits.within e w c.is r.phase refl t.over t.sound.stops
+            (λ h u. ap (λ (v : Written). v.failed) (c.put.none h) ∙ t.sound.wrote ∙ u) w.failed refl);
       }
+
+  -- for any table that is the program's own
+  pub ran_taking : (kinds : List ℕ) → kinds ≡ kinds_taken sh → state_of j₀ ≡ start_state → j₀.run ≡ start_run → printer_of sh j₀ ≡ showing sh at_start → (r : Round) (b : List ℕ) → Taking kinds r b
+      → (out' : List ℕ) → Closed text_in channel_in j r e out' → Ran (showing sh at_start) (record { run = j.run; ended = e })
+  ran_taking kinds k h-state h-run h-printer r b t = taken h-state h-run h-printer r b (rw k at t)
+
+  pub ran : state_of j₀ ≡ start_state → j₀.run ≡ start_run → printer_of sh j₀ ≡ showing sh at_start → RanBy (JournalGoes (kinds_taken sh) sh) (JournalRests (kinds_taken sh)) text_in channel_in j₀ j e
+      → Ran (showing sh at_start) (record { run = j.run; ended = e })
+  ran h-state h-run h-printer t = ran_taking (kinds_taken sh) refl h-state h-run h-printer t.round t.buf t.through t.out t.closed

@@ -78,21 +78,24 @@ module _ {M : Type 0} (goes : Going M) (rests : Resting M) (m : M) (r : Round) (
       fits = record { within = omega (arith, b_long, f.within); bytes = f.bytes; text = omega (arith, k.0); beside = omega (arith, k.1, f.beside); bound = omega (arith, f.bound, before); most = f.most };
       wrote = wrote_played w.failed p.more p.refused;
       stops =
-          subst (λ (u : List ℕ). KnownIn rests (round_stepped r p w).phase m' u r.reads) (sym rest_is)
+          subst (λ (u : List ℕ). KnownIn rests (round_stepped r p w).phase m' u p.refused r.reads) (sym rest_is)
           (stops_played rests m' (drop p.at s) p.refused r.reads w.failed p.more d.stops);
     };
     less = rw y (less_played r.have p.at r.reads.made p.refused w.failed p.more before d.further);
   }
 
 pub round_stepped_lem : {M : Type 0} (goes : Going M) (rests : Resting M) (m : M) (r : Round) (b : List ℕ) → Fits r b → r.phase ≡ Plays
-    → (q : Round) (m' : M) (b' : List ℕ) → SteppedRound goes rests m r b q m' b' → Rounded goes rests m r b m' q b'
-round_stepped_lem goes rests m r b f y q m' b' z = subst (λ (x : Round). Rounded goes rests m r b m' x b') (sym z.is) (stepped_is goes rests m r b f y z.stepped z.written m' b' z.out' z.steps z.handed z.moved)
+    → (q : Round) (m' : M) (b' out' : List ℕ) → SteppedRound goes rests m r b q m' b' out' → Rounded goes rests m r b m' q b'
+round_stepped_lem goes rests m r b f y q m' b' out' z = subst (λ (x : Round). Rounded goes rests m r b m' x b') (sym z.is) (stepped_is goes rests m r b f y z.stepped z.written m' b' out' z.steps z.handed z.moved)
 
 -- ---- a round that read
 
 module _ {M : Type 0} (goes : Going M) (rests : Resting M) (laws : MachineLaws goes rests) (m : M) (r : Round) (b : List ℕ) (v : Sound rests m r b) (y : r.phase ≡ Waits) where
+  known : rests m (at_hand r b) r.refused × (r.refused ≡ None)
+  known = rw y at v.stops
+
   waits : rests m (at_hand r b) None
-  waits = rw y at v.stops
+  waits = rw known.1 at known.0
 
   have_long : length (at_hand r b) ≡ r.have
   have_long = length-take-le r.have b v.fits.within
@@ -132,7 +135,7 @@ module _ {M : Type 0} (goes : Going M) (rests : Resting M) (laws : MachineLaws g
               most = most.0;
             };
             wrote = v.wrote ∙ ap is_unwritten y ∙ wrote_read reads.last;
-            stops = stops_read rests m (take have b') r.reads.made reads reads.last refl c.counted (λ z. rw (none_came z) waits);
+            stops = stops_read rests m (take have b') r.refused r.reads.made reads reads.last known.1 refl c.counted (λ z. rw (none_came z) known.0);
           };
           less = rw y (less_read reads.last r.have have r.reads.made reads.made (omega (arith, c.within, long)) c.counted);
         }
@@ -149,7 +152,7 @@ counts_on n m s t e f = omega (arith, e, f, length-append s t)
 
 -- before the first round
 abbrev first : Reads → Written → Round
-first k w = record { place = 0; have = 0; reads = k; written = w; phase = Plays }
+first k w = record { place = 0; have = 0; refused = None; reads = k; written = w; phase = Plays }
 
 pub past_first : {M : Type 0} (goes : Going M) (rests : Resting M) → MachineLaws goes rests → (m : M) (b : List ℕ) (k : Reads) (w : Written)
     → k ≡ record { made = 0; bytes = 0; last = More } → w ≡ record { bytes = 0; beside = 0; failed = false } → Past goes m m (first k w) b

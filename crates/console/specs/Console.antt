@@ -31,19 +31,20 @@ state_of j = record { reader = j.reader; lists = j.lists }
 abbrev pub printer_of : {P : Type 0} → Shows → Journal P → Printer
 printer_of w j = showing w j.notes
 
--- of the bytes s the instructions `told` are obeyed, the text of whose events is t, and s' is left
-pub record JournalGoes {P : Type 0} (w : Shows) (j : Journal P) (s t : List ℕ) (j' : Journal P) (s' : List ℕ) : Type 0 where
+-- of the bytes s the instructions `told` are obeyed, the text of whose events is t, and s' is left; for
+-- any table of kinds
+pub record JournalGoes {P : Type 0} (kinds : List ℕ) (w : Shows) (j : Journal P) (s t : List ℕ) (j' : Journal P) (s' : List ℕ) : Type 0 where
   pub told : List Instruction
-  pub goes : settled (on_bytes (kinds_taken w)) (state_of j) s ≡ telling told (settled (on_bytes (kinds_taken w)) (state_of j') s')
+  pub goes : settled (on_bytes kinds) (state_of j) s ≡ telling told (settled (on_bytes kinds) (state_of j') s')
   pub run_is : j'.run ≡ run_after_all j.run told
   pub printer_is : printer_of w j' ≡ printer_after_all (printer_of w j) (events_from j.run told)
   pub text : t ≡ text_by (printer_of w j) j.run told
 
 -- its reader rests before s
-pub record JournalRests {P : Type 0} (w : Shows) (j : Journal P) (s : List ℕ) (number : Option ℕ) : Type 0 where
+pub record JournalRests {P : Type 0} (kinds : List ℕ) (j : Journal P) (s : List ℕ) (number : Option ℕ) : Type 0 where
   pub why : Option Refusal
   pub number_is : number ≡ option_map number_of why
-  pub rests : Rests (kinds_taken w) (state_of j) s why
+  pub rests : Rests kinds (state_of j) s why
 
 -- ---- what a program promises
 

@@ -44,19 +44,18 @@ more_bytes kinds st s told st' s' t e =
     ∙ ap (telling told) (sym (joined (on_bytes kinds) (machine kinds) st' s' t))
 
 -- the kinds that a program takes have no record that memory has no room for
-taken_short : (w : Shows) → ShortRecords (kinds_taken w)
+pub taken_short : (w : Shows) → ShortRecords (kinds_taken w)
 unfolding kinds_taken
 taken_short w = journal_short
 
-module _ {P : Type 0} (w : Shows) where
-  goes_still : (j : Journal P) (s : List ℕ) → JournalGoes w j s [] j s
+module _ {P : Type 0} (kinds : List ℕ) (w : Shows) where
+  goes_still : (j : Journal P) (s : List ℕ) → JournalGoes kinds w j s [] j s
   unfolding text_by printed printer_after_all
   goes_still j s = record { told = []; goes = refl; run_is = refl; printer_is = refl; text = refl }
 
   goes_further : (j : Journal P) (s t : List ℕ) (j' : Journal P) (s' c t' : List ℕ) (j'' : Journal P) (s'' : List ℕ)
-      → JournalGoes w j s t j' s' → JournalGoes w j' (s' ++ c) t' j'' s'' → JournalGoes w j (s ++ c) (t ++ t') j'' s''
+      → JournalGoes kinds w j s t j' s' → JournalGoes kinds w j' (s' ++ c) t' j'' s'' → JournalGoes kinds w j (s ++ c) (t ++ t') j'' s''
   goes_further j s t j' s' c t' j'' s'' x y =
-      let kinds = kinds_taken w in
       let p = printer_of w j in
       record {
         told = x.told ++ y.told;
@@ -75,8 +74,9 @@ module _ {P : Type 0} (w : Shows) where
             ∙ sym (text_append p j.run x.told y.told);
       }
 
-  rests_wait : (j : Journal P) (s : List ℕ) → JournalRests w j s None → length s < buffer_room
-  rests_wait j s q = rests_short (kinds_taken w) (taken_short w) (state_of j) s (rw (none_is q.why q.number_is) at q.rests)
+  module _ (short : ShortRecords kinds) where
+    rests_wait : (j : Journal P) (s : List ℕ) → JournalRests kinds j s None → length s < buffer_room
+    rests_wait j s q = rests_short kinds short (state_of j) s (rw (none_is q.why q.number_is) at q.rests)
 
-  pub journal_laws : MachineLaws (JournalGoes {P = P} w) (JournalRests {P = P} w)
-  journal_laws = record { still = goes_still; further = goes_further; short = rests_wait }
+    pub journal_laws : MachineLaws (JournalGoes {P = P} kinds w) (JournalRests {P = P} kinds)
+    journal_laws = record { still = goes_still; further = goes_further; short = rests_wait }

@@ -70,12 +70,12 @@ phase_ended phase failed = cond failed WriteFailed phase
 abbrev pub number_left : ℕ → Option ℕ
 number_left have = cond (eqb have 0) None (Some (number_of CutBody))
 
--- the number of the refusal
-abbrev pub number_ended : Phase → ℕ → Option ℕ
-number_ended Plays have = None
-number_ended Waits have = None
-number_ended (Refused number) have = Some number
-number_ended InputOver have = number_left have
-number_ended ReadFailed have = None
-number_ended ReadsOver have = None
-number_ended WriteFailed have = None
+-- the number of the refusal, where the last step had this one
+abbrev pub number_ended : Phase → Option ℕ → ℕ → Option ℕ
+number_ended Plays last have = last
+number_ended Waits last have = last
+number_ended (Refused number) last have = Some number
+number_ended InputOver last have = number_left have
+number_ended ReadFailed last have = last
+number_ended ReadsOver last have = last
+number_ended WriteFailed last have = last

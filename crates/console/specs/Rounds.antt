@@ -64,15 +64,15 @@ pub record Steps {M : Type 0} (goes : Going M) (rests : Resting M) (m : M) (s : 
 abbrev pub at_hand : Round → List ℕ → List ℕ
 at_hand r b = take r.have b
 
--- what is known by the phase: of s nothing can be taken, and why
-abbrev pub KnownIn : {M : Type 0} → Resting M → Phase → M → List ℕ → Reads → Type 0
-KnownIn rests Plays m s reads = Unit {0}
-KnownIn rests Waits m s reads = rests m s None
-KnownIn rests (Refused number) m s reads = rests m s (Some number)
-KnownIn rests InputOver m s reads = rests m s None × (reads.last ≡ Over)
-KnownIn rests ReadFailed m s reads = rests m s None × (reads.last ≡ Failed)
-KnownIn rests ReadsOver m s reads = rests m s None × (most_reads ≤ reads.made)
-KnownIn rests WriteFailed m s reads = Unit {0}
+-- what is known by the phase: of s nothing can be taken, for this number of a refusal or for none
+abbrev pub KnownIn : {M : Type 0} → Resting M → Phase → M → List ℕ → Option ℕ → Reads → Type 0
+KnownIn rests Plays m s n reads = Unit {0}
+KnownIn rests Waits m s n reads = rests m s n × (n ≡ None)
+KnownIn rests (Refused number) m s n reads = rests m s n × (n ≡ Some number)
+KnownIn rests InputOver m s n reads = rests m s n × (n ≡ None) × (reads.last ≡ Over)
+KnownIn rests ReadFailed m s n reads = rests m s n × (n ≡ None) × (reads.last ≡ Failed)
+KnownIn rests ReadsOver m s n reads = rests m s n × (n ≡ None) × (most_reads ≤ reads.made)
+KnownIn rests WriteFailed m s n reads = Unit {0}
 
 -- the bytes that wait are in memory, and the counts fit their types
 pub record Fits (r : Round) (b : List ℕ) : Type 0 where
@@ -87,22 +87,23 @@ pub record Fits (r : Round) (b : List ℕ) : Type 0 where
 pub record Sound {M : Type 0} (rests : Resting M) (m : M) (r : Round) (b : List ℕ) : Type 0 where
   pub fits : Fits r b
   pub wrote : r.written.failed ≡ is_unwritten r.phase
-  pub stops : KnownIn rests r.phase m (at_hand r b) r.reads
+  pub stops : KnownIn rests r.phase m (at_hand r b) r.refused r.reads
 
 -- a round that took a step
 unfoldable pub round_stepped : Round → Stepped → Written → Round
 round_stepped r p w = record {
   place = r.place + p.at;
   have = r.have - p.at;
+  refused = p.refused;
   reads = r.reads;
   written = w;
   phase = phase_played w.failed p.more p.refused;
 }
 
-pub record SteppedRound {M : Type 0} (goes : Going M) (rests : Resting M) (m : M) (r : Round) (b : List ℕ) (q : Round) (m' : M) (b' : List ℕ) : Type 0 where
+-- its text is at the front of memory, of which as many bytes were handed over
+pub record SteppedRound {M : Type 0} (goes : Going M) (rests : Resting M) (m : M) (r : Round) (b : List ℕ) (q : Round) (m' : M) (b' out' : List ℕ) : Type 0 where
   pub stepped : Stepped
   pub written : Written
-  pub out' : List ℕ
   pub steps : Steps goes rests m (at_hand r b) stepped m' out'
   pub handed : HandedOn Output r.written stepped.n written
   pub moved : b' ≡ moved_down stepped.at r.have b
@@ -110,7 +111,7 @@ pub record SteppedRound {M : Type 0} (goes : Going M) (rests : Resting M) (m : M
 
 -- a round that read
 unfoldable pub round_read : Round → ℕ → Reads → Round
-round_read r have reads = record { place = r.place; have = have; reads = reads; written = r.written; phase = phase_read reads.last }
+round_read r have reads = record { place = r.place; have = have; refused = r.refused; reads = reads; written = r.written; phase = phase_read reads.last }
 
 pub record ReadRound (r : Round) (b : List ℕ) (q : Round) (b' : List ℕ) : Type 0 where
   pub came : Came (at_hand r b) r.reads (record { have = q.have; reads = q.reads }) b'
@@ -163,7 +164,7 @@ pub record Through {M : Type 0} (goes : Going M) (rests : Resting M) (m₀ m : M
 
 -- the number that is answered
 abbrev pub number_in : Round → Option ℕ
-number_in r = number_ended r.phase r.have
+number_in r = number_ended r.phase r.refused r.have
 
 -- its text, where it has one
 abbrev pub ending_in : {M : Type 0} → Ending M → M → Round → Option ℕ → List ℕ

@@ -9,14 +9,18 @@ ghost use Rattle.std.specs.Prelude.{◌≡◌};
 ghost use Rattle.lictor_core.specs.Initial.{zeros};
 ghost use Rattle.journal_reader.specs.State.{places};
 ghost use Rattle.journal.specs.Journal.{start_state, start_run};
-ghost use Rattle.printer.specs.Printer.{showing, at_start, ending_by, channel_by};
+ghost use Rattle.printer.specs.Numbers.{printer_by};
+ghost use Rattle.printer.specs.Printer.{showing, at_start, kinds_taken, ending_by, channel_by};
 ghost use Rattle.console.specs.Console.{state_of, printer_of, JournalGoes, JournalRests, Ran};
-ghost use Rattle.console.specs.Journals.{journal_laws};
+ghost use Rattle.console.specs.Journals.{taken_short, journal_laws};
 
 use crate::rounds::{Ended, Machine, Stepped};
 use journal::tick::Run;
 use journal_reader::waiting::{PLACES, Reader};
-use printer::{Channel, Notes, Printer};
+use printer::lines::{Lines, Trace};
+use printer::pages::Pages;
+use printer::proximity::Proximity;
+use printer::{Channel, Notes, PAGES, PROXIMITY, Printer, TRACE};
 use std::marker::PhantomData;
 use std::rt::HostRuntime;
 
@@ -32,15 +36,15 @@ pub struct Journal<P> {
 }
 
 impl<P: Printer> Machine for Journal<P> {
-    ghost goes = { JournalGoes P.shows };
+    ghost goes = { JournalGoes (kinds_taken P.shows) P.shows };
 
-    ghost rests = { JournalRests P.shows };
+    ghost rests = { JournalRests (kinds_taken P.shows) };
 
     ghost ending = { λ j refused place. ending_by (showing P.shows j.notes) j.run refused place };
 
     ghost channel = { λ j refused. channel_by P.shows refused };
 
-    ghost laws = { journal_laws P.shows };
+    ghost laws = { journal_laws (kinds_taken P.shows) P.shows (taken_short P.shows) };
 
     fn step(&mut self, s: &[u8], out: &mut [u8]) -> Stepped {
         let kinds = printer::kinds_taken::<P>();
@@ -112,5 +116,21 @@ pub fn play<P: Printer>(rt: &HostRuntime, name: &[u8]) -> Played
     Played {
         run: journal.run,
         ended,
+    }
+}
+
+// Plays it with the printer of a number: LINES, TRACE, PAGES or PROXIMITY of `printer` says what is
+// shown.
+pub fn play_by(rt: &HostRuntime, name: &[u8], shows: u8) -> Played
+    ensures { Ran (printer_by shows at_start) result }
+{
+    if shows == TRACE {
+        play::<Trace>(rt, name)
+    } else if shows == PAGES {
+        play::<Pages>(rt, name)
+    } else if shows == PROXIMITY {
+        play::<Proximity>(rt, name)
+    } else {
+        play::<Lines>(rt, name)
     }
 }

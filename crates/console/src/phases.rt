@@ -79,10 +79,10 @@ impl Phase {
         matches!(self, Phase::Refused(_) | Phase::InputOver)
     }
 
-    // The number of the refusal, where `have` bytes are left over: at the end of the input they are a
-    // record that it cut.
-    pub fn refused(self, have: usize) -> Option<u8>
-        ensures { result ≡ S.number_ended self have }
+    // The number of the refusal, where the last step had this one, and `have` bytes are left over: at
+    // the end of the input they are a record that it cut.
+    pub fn refused(self, last: Option<u8>, have: usize) -> Option<u8>
+        ensures { result ≡ S.number_ended self last have }
     {
         match self {
             Phase::Refused(number) => Some(number),
@@ -91,7 +91,7 @@ impl Phase {
             | Phase::Waits
             | Phase::ReadFailed
             | Phase::ReadsOver
-            | Phase::WriteFailed => None,
+            | Phase::WriteFailed => last,
         }
     }
 }

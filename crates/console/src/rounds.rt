@@ -62,6 +62,8 @@ pub struct Round {
     // the bytes that were taken, and those that wait at the front of memory
     pub place: u64,
     pub have: usize,
+    // the number of a refusal
+    pub refused: Option<u8>,
     pub reads: Reads,
     pub written: Written,
     pub phase: Phase,
@@ -87,7 +89,7 @@ fn step_round<M: Machine>(
     out: &mut [u8],
 ) -> Round
     requires { Fits r buf.old × (buffer_room ≤ length out.old) }
-    ensures { SteppedRound M.goes M.rests machine.old r buf.old result machine.new buf.new }
+    ensures { SteppedRound M.goes M.rests machine.old r buf.old result machine.new buf.new out.new }
 {
     let stepped = machine.step(&buf[..r.have], out);
     let written = put_on(streams, Channel::Output, r.written, out, stepped.n);
@@ -95,6 +97,7 @@ fn step_round<M: Machine>(
     Round {
         place: r.place + stepped.at as u64,
         have: r.have - stepped.at,
+        refused: stepped.refused,
         reads: r.reads,
         written,
         phase: Phase::after_step(written.has_failed(), stepped.more, stepped.refused),
@@ -126,7 +129,7 @@ fn go_on<M: Machine>(
     requires { Sound M.rests machine.old r buf.old × (S.is_going r.phase ≡ true) × (buffer_room ≡ length buf.old) × (buffer_room ≤ length out.old) }
     ensures { Rounded M.goes M.rests machine.old r buf.old machine.new result buf.new }
 {
-    if let Phase::Waits = r.phase {
+    if r.phase.is_waiting() {
         return read_round(streams, r, buf);
     }
     step_round(streams, machine, r, buf, out)
@@ -145,6 +148,7 @@ fn run_rounds<M: Machine>(
     let mut round = Round {
         place: 0,
         have: 0,
+        refused: None,
         reads: Reads::none(),
         written: Written::nothing(),
         phase: Phase::Plays,
@@ -190,7 +194,7 @@ fn put_ending<M: Machine>(
 }
 
 // Says on standard error what failed outside the journal; that is in no count.
-fn say_why(streams: &mut Streams, name: &[u8], phase: Phase, w: Written) -> Written
+pub fn say_why(streams: &mut Streams, name: &[u8], phase: Phase, w: Written) -> Written
     ensures { result ≡ w }
 {
     match phase {
@@ -211,7 +215,7 @@ fn close<M: Machine>(
     requires { (ending_room ≤ length out.old) × (r.written.bytes < 2 ^ 64) × (r.written.beside < 2 ^ 64) }
     ensures { Closed M.ending M.channel machine.now r result out.new }
 {
-    let refused = r.phase.refused(r.have);
+    let refused = r.phase.refused(r.refused, r.have);
     let handed = put_ending(streams, machine, r, refused, out);
     let phase = r.phase.after_ending(handed.has_failed());
     let written = say_why(streams, name, phase, handed);

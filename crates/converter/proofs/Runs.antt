@@ -97,8 +97,8 @@ module _ (a : Form) (m : Conversion) (z₀ : m.from ≡ a) (r : Round) (b s : Li
         let x = settled (on_form a (other a)) tt rest in
         record { later = bytes_of x.told; is = ap (λ (u : Settled (Unit {0}) Framed Cause). bytes_of u.told) goes ∙ bytes_append told x.told }
 
-    number_by : (x : Phase) → r.phase ≡ x → number_in r ≡ number_ended x r.have
-    number_by x y = ap (λ (u : Phase). number_ended u r.have) y
+    number_by : (x : Phase) → r.phase ≡ x → number_in r ≡ number_ended x r.refused r.have
+    number_by x y = ap (λ (u : Phase). number_ended u r.refused r.have) y
 
     abbrev ending : Phase → List ℕ
     ending x = cond (has_ending x) last []
@@ -166,19 +166,19 @@ module _ (a : Form) (m : Conversion) (z₀ : m.from ≡ a) (r : Round) (b s : Li
     whole u v h = record { later = []; is = sym (append-nil u ∙ h) }
 
     -- why it is over, by the phase before the ending, and whether a write failed
-    ends_by : (x : Phase) → r.phase ≡ x → is_going x ≡ false → KnownIn ConversionRests x m rest r.reads → (has_ending x ≡ false → is_unwritten x ≡ false → w.failed ≡ false)
+    ends_by : (x : Phase) → r.phase ≡ x → is_going x ≡ false → KnownIn ConversionRests x m rest r.refused r.reads → (has_ending x ≡ false → is_unwritten x ≡ false → w.failed ≡ false)
         → (f : Bool) → w.failed ≡ f → EndsIn x (phase_ended x f)
     unfolding ended_of
     ends_by Plays y g h v f k = impossible cc
     ends_by Waits y g h v f k = impossible cc
-    ends_by (Refused number) y g h v true k = let q = refused_ends number y h in (whole _ _ q.0, whole _ _ q.1)
-    ends_by (Refused number) y g h v false k = refused_ends number y h
-    ends_by InputOver y g h v true k = let q = input_ends y (h.0, rw z h.1) in (whole _ _ q.0, whole _ _ q.1)
-    ends_by InputOver y g h v false k = input_ends y (h.0, rw z h.1)
+    ends_by (Refused number) y g h v true k = let q = refused_ends number y (rw h.1 at h.0) in (whole _ _ q.0, whole _ _ q.1)
+    ends_by (Refused number) y g h v false k = refused_ends number y (rw h.1 at h.0)
+    ends_by InputOver y g h v true k = let q = input_ends y (rw h.1 at h.0, rw z h.2) in (whole _ _ q.0, whole _ _ q.1)
+    ends_by InputOver y g h v false k = input_ends y (rw h.1 at h.0, rw z h.2)
     ends_by ReadFailed y g h v true k = let o : true ≡ false = sym k ∙ v refl refl in impossible cc
-    ends_by ReadFailed y g h v false k = let q = pauses (number_by ReadFailed y) h.0 in (q.0, refl, q.1, rw z h.1)
+    ends_by ReadFailed y g h v false k = let q = pauses (number_by ReadFailed y ∙ h.1) (rw h.1 at h.0) in (q.0, refl, q.1, rw z h.2)
     ends_by ReadsOver y g h v true k = let o : true ≡ false = sym k ∙ v refl refl in impossible cc
-    ends_by ReadsOver y g h v false k = let q = pauses (number_by ReadsOver y) h.0 in (q.0, refl, q.1, rw z h.1)
+    ends_by ReadsOver y g h v false k = let q = pauses (number_by ReadsOver y ∙ h.1) (rw h.1 at h.0) in (q.0, refl, q.1, rw z h.2)
     ends_by WriteFailed y g h v true k = (begins, record { later = beside_of a s; is = refl })
     ends_by WriteFailed y g h v false k = (begins, record { later = beside_of a s; is = refl })
 

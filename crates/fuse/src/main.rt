@@ -4,9 +4,8 @@
 // All that matters is in the libraries (crates/console).
 #![tactic(auto)]
 
-use printer::lines::Lines;
 use std::rt::HostRuntime;
 
 fn main(rt: HostRuntime) {
-    console::play::<Lines>(&rt, b"fuse");
+    console::play_by(&rt, b"fuse", printer::LINES);
 }

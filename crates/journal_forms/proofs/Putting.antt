@@ -1,13 +1,14 @@
 -- Numbers and floats, put into memory one after the other.
 use Prim.Native.Nat.{ℕ, zero, suc, ◌^◌, ◌+◌, ◌-◌, ◌*◌, ◌/◌, ◌%◌, ◌≤◌, ◌<◌}
 use mathlib.Core.Path.{◌≡◌, refl, sym, ap, ap₂, ◌∙◌}
-use mathlib.Core.Bool.{Bool, true}
+use mathlib.Core.Bool.{Bool, true, false, cond}
 use mathlib.Core.List.{List, [], ◌∷◌, ◌++◌, append-nil, append_assoc}
 use native.Mathlib.Nat.{pow-suc, suc-mul, mul-le-mul_right, div-div-eq-div-mul}
 use native.Mathlib.Numerals.{add-one}
 use native.Mathlib.Omega.{arith}
 use lib.ListN.{length, take, drop, set, length-drop, length-append, drop_of_length-le}
-use lib.Seq.{drop-drop, set_split, append_snoc, take_all, length-take-le}
+use lib.Dec.{leb}
+use lib.Seq.{paste, paste-zero, drop-drop, set_split, append_snoc, take_all, length-take-le}
 use lib.Ieee.{Float, fits, to_bits}
 use Rattle.std.specs.Int.{byte_at, to_le_bytes, bytes_low_first, w64}
 use borrow.Rule.Slice.PartMut.{put_mid}
@@ -29,6 +30,16 @@ put_byte out n b h = record { ends = refl; memory = rw add-one (set_split out n 
 -- the part from a place on
 pub part_from : (s : List ℕ) (at : ℕ) → take (length s - at) (drop at s) ≡ drop at s
 part_from s at = take_all (length s - at) (drop at s) (omega (arith, length-drop at s))
+
+-- an empty part is there already
+pub none_put : (out : List ℕ) (n : ℕ) (s : List ℕ) → length s ≡ 0 → (n ≡ place_put (length out) n s) × (out ≡ memory_put out n s)
+unfolding place_put memory_put
+none_put out n [] h = by (leb (n + 0) (length out))
+  where
+    by : (t : Bool) → (n ≡ cond t (n + 0) n) × (out ≡ cond t (paste out n [] 0) out)
+    by true = (omega arith, paste-zero out n [])
+    by false = (refl, refl)
+none_put out n (b ∷ s) h = absurd (omega arith)
 
 -- ---- a number
 

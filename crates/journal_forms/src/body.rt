@@ -2,7 +2,7 @@
 ghost use Rattle.std.specs.Prelude.{◌≡◌, true, ◌+◌, ◌*◌, ◌^◌, ◌≤◌, ◌<◌, length, drop};
 ghost use Rattle.std.specs.Float.{binary32, binary64};
 ghost use Rattle.std.specs.Float.Ieee.{of_bits, to_bits, fits};
-ghost use Rattle.text.specs.Memory.{Put};
+ghost use Rattle.text.specs.Memory.{Put, place_put, memory_put};
 ghost use Rattle.journal_forms.specs.Forms.{other, format_of, float_bytes, runs_of};
 ghost use Rattle.journal_forms.specs.Body.{le_bytes, float_in, floats_in, floats_to, all_pass, run_bytes, runs_bytes, run_floats, run_to, body_to, body_held};
 
@@ -98,7 +98,7 @@ pub(crate) fn is_held(from: Form, runs: &[Run], body: &[u8]) -> bool
     let mut at = 0;
     for run in runs {
         if !floats_held(from, body, at + run.copied, run.floats) {
-            return false;
+            return false; // whatever comes in a later run
         }
         at += run_bytes(from, *run);
     }
@@ -150,13 +150,23 @@ fn put_floats(from: Form, s: &[u8], at: usize, count: usize, out: &mut [u8], n: 
     end
 }
 
+// A part of the body that is copied. It is empty in most records, and each copy is a call.
+fn put_part(out: &mut [u8], n: usize, part: &[u8]) -> usize
+    ensures { (result ≡ place_put (length out.old) n part.now) × (out.new ≡ memory_put out.old n part.now) }
+{
+    if part.is_empty() {
+        return n;
+    }
+    text::memory::put(out, n, part)
+}
+
 // The run at a place.
 fn put_run(from: Form, run: Run, s: &[u8], at: usize, out: &mut [u8], n: usize) -> usize
     requires { (at + run_bytes from run ≤ length s.now) × (n + run_bytes (other from) run ≤ length out.old) × (all_pass (fits (format_of (other from))) (run_floats from run (drop at s.now)) ≡ true) }
     ensures { Put out.old n (run_to from (other from) run (drop at s.now)) result out.new }
 {
     let floats = at + run.copied;
-    let end = text::memory::put(out, n, &s[at..floats]);
+    let end = put_part(out, n, &s[at..floats]);
     put_floats(from, s, floats, run.floats, out, end)
 }
 
@@ -171,5 +181,5 @@ pub(crate) fn put_body(from: Form, runs: &[Run], body: &[u8], out: &mut [u8], n:
         end = put_run(from, *run, body, at, out, end);
         at += run_bytes(from, *run);
     }
-    text::memory::put(out, end, &body[at..])
+    put_part(out, end, &body[at..])
 }

@@ -3,11 +3,11 @@
 use mathlib.Core.Bool.{Bool, true, false, cond}
 use mathlib.Core.List.{List, [], ◌∷◌, ◌++◌, append_assoc}
 use mathlib.Core.Path.{◌≡◌, refl, sym, ap, ◌∙◌}
-use Prim.Native.Nat.{ℕ, zero, suc, ◌≤◌, ◌<◌, ◌^◌}
+use Prim.Native.Nat.{ℕ, zero, suc, ◌-◌, ◌≤◌, ◌<◌, ◌^◌}
 use native.Mathlib.Omega.{arith}
 use borrow.Author.Tests.{ltb-true, ltb-false, lt-ltb, le-ltb}
 use lib.Dec.{ltb}
-use lib.ListN.{length, take, drop, get_or, length-append, length-take, take-append-drop}
+use lib.ListN.{length, take, drop, get_or, length-append, length-take, drop_of_length-le, take-append-drop}
 use lib.Seq.{take-append-le, take-take, drop-cons}
 use Rattle.stream.specs.Stream.{Next, wait, takes, size, Machine, End, awaits, halted, settle, settled}
 use Rattle.stream.proofs.Stream.{impossible, settled_still}
@@ -46,8 +46,21 @@ unfolding frame_of
 frame_none kinds [] s e h = ap (frame_of kinds) e
 frame_none kinds (k ∷ t) s e h = absurd (omega arith)
 
-pub frame_here : (kinds t s : List ℕ) → t ≡ s → 1 ≤ length t → {x : Frame} → FrameAt kinds (get_or t 0 0) (drop 1 t) x → x ≡ frame_of kinds s
-frame_here kinds t s e h d = sym (frame_is kinds (get_or t 0 0) (drop 1 t) d) ∙ ap (frame_of kinds) (sym (drop-cons t 0 0 h) ∙ e)
+pub frame_front : (kinds t s : List ℕ) → t ≡ s → 1 ≤ length t → {x : Frame} → FrameAt kinds (get_or t 0 0) (drop 1 t) x → x ≡ frame_of kinds s
+frame_front kinds t s e h d = sym (frame_is kinds (get_or t 0 0) (drop 1 t) d) ∙ ap (frame_of kinds) (sym (drop-cons t 0 0 h) ∙ e)
+
+-- and at a place of some bytes
+pub frame_end : (kinds s : List ℕ) (at : ℕ) → length s ≤ at → Waits ≡ frame_of kinds (drop at s)
+frame_end kinds s at h = frame_none kinds [] (drop at s) (sym (drop_of_length-le s h)) (omega arith)
+
+pub frame_here : (kinds s : List ℕ) (at : ℕ) → at < length s → {x : Frame} → FrameAt kinds (get_or s at 0) (drop (suc at) s) x → x ≡ frame_of kinds (drop at s)
+frame_here kinds s at h d = sym (ap (frame_of kinds) (drop-cons s at 0 h) ∙ frame_is kinds (get_or s at 0) (drop (suc at) s) d)
+
+-- the length of a body, in a list that begins with kind 1
+pub length_at : (kinds : List ℕ) (k : ℕ) → (k ≡ 0 → ⊥) → get_or kinds (k - 1) 0 ≡ body_len kinds k
+unfolding body_len
+length_at kinds zero z = absurd (z refl)
+length_at kinds (suc i) z = let e : suc i - 1 ≡ i = omega arith in ap (λ (j : ℕ). get_or kinds j 0) e
 
 -- ---- more bytes, and fewer
 

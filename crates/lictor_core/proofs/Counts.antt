@@ -1,6 +1,10 @@
 -- What counts do, for any width.
-use Rattle.std.proofs.Common.{◌≡◌, ℕ, ◌+◌, ◌-◌, ◌^◌, ◌<◌, ◌≤◌, arith, pow_pos}
+use Rattle.std.proofs.Common.{◌≡◌, ℕ, ◌+◌, ◌-◌, ◌^◌, ◌<◌, ◌≤◌, min, arith, pow_pos}
 use Rattle.lictor_core.specs.Num.{sat_up}
+
+-- what `saturating_add` of the library promises, at one more
+pub saturates : (k x r : ℕ) → r ≡ min (x + 1) (2 ^ k - 1) → r ≡ sat_up k x
+saturates k x r e = e
 
 -- a count stays within its width
 pub sat_fits : (k x : ℕ) → sat_up k x < 2 ^ k

@@ -1,4 +1,5 @@
 -- Laws that belong to no one function.
+pub mod Branch
 pub mod Codes
 pub mod Counts
 pub mod RowLaws

@@ -1,4 +1,5 @@
--- The cases of an enum as a function: definitions go by them where the code has a `match`.
+-- The cases of an enum as a function: definitions go by them where the code has a `match`, so that
+-- one law a case (proofs/Branch) joins the two.
 -- The enums are those of state.rs, verdict.rs, ack.rs and chunk.rs; an Option has one for any type.
 use Rattle.lictor_core.specs.declared.state.FuseState.{FuseState}
 use Rattle.lictor_core.specs.declared.state.FuseState.TheVariants as S

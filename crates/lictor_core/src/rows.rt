@@ -1,5 +1,5 @@
 // Rows of eight components.
-ghost use Rattle.std.specs.Prelude.{◌≡◌, ℕ, ◌<◌, ◌≤◌};
+ghost use Rattle.std.specs.Prelude.{◌≡◌, ℕ, ◌<◌, min};
 ghost use Rattle.lictor_core.specs.Sizes.{max_d, max_pos};
 ghost use Rattle.lictor_core.specs.Initial.{zeros};
 ghost use Rattle.lictor_core.specs.Rows.{RowBy, taken_row};
@@ -17,11 +17,10 @@ pub fn no_row() -> [f64; MAX_D]
 // The loops over a row, here and above, go over all places and test each: such a loop is
 // unrolled, and the row stays in registers. Up to n, the compiler would call memcpy.
 
-// `old` with its first n places given by `f`.
+// `old` with its first n places given by `f`, as far as there is room.
 pub fn first_by<F: Fn(usize) -> f64>(old: [f64; MAX_POS], n: usize, f: F) -> [f64; MAX_POS]
-    requires within { n ≤ max_pos }
-    requires callable { (i : ℕ) → i < n → F.pre f i }
-    ensures { RowBy (F.post f) old n result }
+    requires callable { (i : ℕ) → i < min n max_pos → F.pre f i }
+    ensures { RowBy (F.post f) old (min n max_pos) result }
 {
     let mut out = old;
     for at in 0..MAX_POS {
@@ -38,5 +37,5 @@ pub fn first_by<F: Fn(usize) -> f64>(old: [f64; MAX_POS], n: usize, f: F) -> [f6
 pub fn taken(s: &[f64], old: [f64; MAX_POS], n: usize) -> [f64; MAX_POS]
     ensures { result ≡ taken_row s.now old n }
 {
-    first_by(old, n.min(MAX_POS).min(s.len()), |at| s[at])
+    first_by(old, n.min(s.len()), |at| s[at])
 }

@@ -17,7 +17,7 @@ fn boxed_action(cfg: FuseConfig, row: [f64; MAX_POS]) -> [f64; MAX_D]
 {
     first_by(
         no_row(),
-        cfg.dim.min(MAX_D),
+        cfg.dim,
         |c|
             requires { c < max_pos }
             ensures { result ≡ boxed_component row cfg.box_lo cfg.box_hi cfg.pos_dim c }
@@ -42,7 +42,7 @@ fn scaled_action(cfg: FuseConfig, vel: [f64; MAX_POS], k: f64) -> [f64; MAX_D]
 {
     first_by(
         no_row(),
-        cfg.dim.min(MAX_D),
+        cfg.dim,
         |c|
             requires { c < max_pos }
             ensures { result ≡ scaled_component vel k cfg.pos_dim c }

@@ -19,7 +19,5 @@ pub(crate) fn latched(
 ) -> [f64; MAX_POS]
     ensures { result ≡ latched_of pos lo hi hold (min n max_pos) }
 {
-    first_by(hold, n.min(MAX_POS), |at| {
-        clamp(pos[at], lo[at], hi[at])
-    })
+    first_by(hold, n, |at| { clamp(pos[at], lo[at], hi[at]) })
 }

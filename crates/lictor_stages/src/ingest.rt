@@ -16,16 +16,14 @@ fn moving(
 ) -> [f64; MAX_POS]
     ensures { result ≡ rates_row cfg here last old }
 {
-    first_by(old, cfg.pos_dim.min(MAX_POS), |c| {
-        (here[c] - last[c]) * cfg.inv_dt
-    })
+    first_by(old, cfg.pos_dim, |c| { (here[c] - last[c]) * cfg.inv_dt })
 }
 
 // The live components zero, the others as they were.
 fn still(cfg: FuseConfig, old: [f64; MAX_POS]) -> [f64; MAX_POS]
     ensures { result ≡ still_row cfg old }
 {
-    first_by(old, cfg.pos_dim.min(MAX_POS), |_| 0.0)
+    first_by(old, cfg.pos_dim, |_| 0.0)
 }
 
 #[tactic(auto, unfolding(crate::specs::Ingest::velocity_of))]

@@ -1,8 +1,9 @@
 -- The rules of the tally's fields, one law a kind.
+use Rattle.std.proofs.Common.{Some, Option}
 use mathlib.Core.Path.{◌≡◌, refl, sym, ◌∙◌, ap}
 use mathlib.Core.Bool.{Bool, true, false, cond, not, ◌&&◌}
 use mathlib.Core.List.{List}
-use Prim.Native.Nat.{ℕ, zero, suc, ◌/◌, ◌%◌, ◌^◌, ◌<◌}
+use Prim.Native.Nat.{ℕ, zero, suc, ◌+◌, ◌-◌, ◌/◌, ◌%◌, ◌^◌, ◌<◌}
 use native.Mathlib.Nat.{zero-div, mod-lt}
 use native.Mathlib.Omega.{arith}
 use lib.Bits.{bit_and, and_zero_l, and_shr, and_mod}
@@ -10,8 +11,9 @@ use lib.Dec.{eqb, ltb}
 use lib.ListN.{length, get_or}
 use lib.Ieee.{Float, nan}
 use Rattle.fmath.specs.Float.{max_of}
-use Rattle.lictor_core.proofs.Counts.{sat_fits}
-use Rattle.lictor_tally.specs.Counts.{count, bit_of, count_bit, count_bits, most_at, most_live}
+use Rattle.lictor_core.proofs.Counts.{sat_fits, sat_counts, sat_stops}
+use Rattle.lictor_core.specs.declared.reason.ReasonCode.{ReasonCode}
+use Rattle.lictor_tally.specs.Counts.{count, bit_of, count_bit, count_bits, first, first_reason, most_at, most_live}
 use Rattle.lictor_tally.proofs.Places.{each_within, each_same}
 
 -- ---- counts
@@ -21,6 +23,15 @@ pub count_fits : (moves : Bool) (n : ℕ) → n < 2 ^ 32 → count moves n < 2 ^
 unfolding count
 count_fits true n h = sat_fits 32 n
 count_fits false n h = h
+
+-- below it, it goes up by one; at it, it stays
+pub count_up : (n : ℕ) → n + 1 < 2 ^ 32 → count true n ≡ n + 1
+unfolding count
+count_up n h = sat_counts 32 n h
+
+pub count_stops : count true (2 ^ 32 - 1) ≡ 2 ^ 32 - 1
+unfolding count
+count_stops = sat_stops 32 (2 ^ 32 - 1) (omega arith)
 
 -- of a list of n counts, that of bit b: none past the list's end
 pub bits_at : (mask : ℕ) (l : List ℕ) (n b : ℕ) → length l ≡ n → get_or (count_bits mask l) b 0 ≡ count (ltb b n && bit_of mask b) (get_or l b 0)
@@ -52,6 +63,19 @@ no_bit mask b e = rw (e, zero-div (2 ^ b))
 pub bits_none : (mask : ℕ) (l : List ℕ) → mask ≡ 0 → l ≡ count_bits mask l
 unfolding count_bits count_bit count
 bits_none mask l e = sym (each_same (count_bit mask) 0 l (λ b n. rw (no_bit mask b e)))
+
+-- ---- marks
+
+-- a mark that is set stays, and so does the reason beside it
+pub first_stays : (happens : Bool) (t k : ℕ) → first happens t (Some k) ≡ Some k
+unfolding first
+first_stays true t k = refl
+first_stays false t k = refl
+
+pub reason_stays : (happens : Bool) (k : ℕ) (w : ReasonCode) (old : Option ReasonCode) → first_reason happens (Some k) w old ≡ old
+unfolding first_reason
+reason_stays true k w old = refl
+reason_stays false k w old = refl
 
 -- ---- maxima
 

@@ -91,6 +91,10 @@ pub tally_append : (t : Tally) (a b : List Item) → tally_from t (a ++ b) ≡ t
 tally_append t [] b = refl
 tally_append t (x ∷ a) b = tally_append (recorded t x) a b
 
+-- one tick more
+pub tally_next : (h : List Item) (x : Item) → tally_of (h ++ (x ∷ [])) ≡ recorded (tally_of h) x
+tally_next h x = tally_append empty_tally h (x ∷ [])
+
 -- counts: what was there and the number of ticks counted, cut at the ceiling
 goes_on_lem : (b : Bool) (c n : ℕ) → min (count b c + n) (2 ^ 32 - 1) ≡ min (c + (cond b 1 0 + n)) (2 ^ 32 - 1)
 unfolding count
@@ -104,6 +108,10 @@ count_from k t (x ∷ h) z f =
     count_from k (recorded t x) h (stays_sized t x z) (rw e (count_fits (counts k x) (value_of k t) f)) ∙ rw e (goes_on_lem (counts k x) (value_of k t) (number (counts k) h))
 
 -- a mark that goes by `first`: the one that was set, else that of the first tick in the list
+abbrev pub or_else : Option ℕ → Option ℕ → Option ℕ
+or_else None m = m
+or_else (Some k) m = Some k
+
 mark_none : (m : Option ℕ) → m ≡ option_or m None
 mark_none None = refl
 mark_none (Some k) = refl

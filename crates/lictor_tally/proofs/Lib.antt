@@ -1,4 +1,5 @@
 -- Laws that belong to no one function.
+pub mod Laws
 pub mod History
 pub mod Places
 pub mod CountsLaws

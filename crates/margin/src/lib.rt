@@ -77,24 +77,30 @@ fn millis(m: u64, k: u64) -> u64
 }
 
 // A margin in metres: none for NaN, far where its rounded millimetres pass 999999.
-// (From 1024 m on that is known without working them out.)
+// (From 1024 m on that is known without working them out. Promised by its name as well as by From.)
+pub fn margin_of(x: f64) -> Margin
+    ensures { result ≡ margin_of x }
+{
+    if x.is_nan() {
+        return Margin::NoMargin;
+    }
+    let bits = x.to_bits();
+    let minus = bits >= SIGN;
+    let exponent = bits % SIGN / LEADING;
+    let fraction = bits % LEADING;
+    if exponent >= KILOMETRE {
+        return far_of(minus);
+    }
+    if exponent == 0 {
+        return millis_of(minus, millis(fraction, METRE - 1));
+    }
+    millis_of(minus, millis(fraction + LEADING, METRE - exponent))
+}
+
 impl From<f64> for Margin {
     ghost from_gives = { λ x m. m ≡ margin_of x };
 
     fn from(x: f64) -> Margin {
-        if x.is_nan() {
-            return Margin::NoMargin;
-        }
-        let bits = x.to_bits();
-        let minus = bits >= SIGN;
-        let exponent = bits % SIGN / LEADING;
-        let fraction = bits % LEADING;
-        if exponent >= KILOMETRE {
-            return far_of(minus);
-        }
-        if exponent == 0 {
-            return millis_of(minus, millis(fraction, METRE - 1));
-        }
-        millis_of(minus, millis(fraction + LEADING, METRE - exponent))
+        margin_of(x)
     }
 }

@@ -12,8 +12,8 @@ use lictor_core::state::FuseState;
 use lictor_core::verdict::SafetyVerdict;
 use margin::Margin;
 use report::push_margin;
-use text::Line;
-use text::memory::show_line;
+use text::memory::{has_room, show_line};
+use text::{LINE, Line};
 
 // The characters of each line, without its newline.
 const WIDTH: usize = 55;
@@ -93,10 +93,13 @@ fn push_row(l: &mut Line, v: SafetyVerdict)
 }
 
 // Puts the row of a tick after the first n bytes, and answers where it ends.
-// Where fewer than LINE bytes are left after n, it puts nothing.
+// Where fewer than LINE bytes are left after n, it puts nothing, and builds no line.
 pub fn show_row(v: SafetyVerdict, out: &mut [u8], n: usize) -> usize
     ensures { RowShown v out.old n result out.new }
 {
+    if !has_room(LINE, n, out.len()) {
+        return n;
+    }
     let mut l = Line::new();
     push_row(&mut l, v);
     show_line(out, n, &l)
@@ -115,9 +118,12 @@ fn page_line(number: u64) -> Line
 }
 
 // Puts the line of a page's number after the first n bytes, and answers where it ends.
-// Where fewer than LINE bytes are left after n, it puts nothing.
+// Where fewer than LINE bytes are left after n, it puts nothing, and builds no line.
 pub fn show_page(number: u64, out: &mut [u8], n: usize) -> usize
     ensures { PageShown number out.old n result out.new }
 {
+    if !has_room(LINE, n, out.len()) {
+        return n;
+    }
     show_line(out, n, &page_line(number))
 }

@@ -4,9 +4,8 @@
 // All that matters is in the libraries (crates/console).
 #![tactic(auto)]
 
-use printer::pages::Pages;
 use std::rt::HostRuntime;
 
 fn main(rt: HostRuntime) {
-    console::play::<Pages>(&rt, b"pages");
+    console::play_by(&rt, b"pages", printer::PAGES);
 }

@@ -6,6 +6,7 @@ ghost use Rattle.std.specs.Prelude.{◌≡◌, false, ◌+◌, ◌≤◌, length
 ghost use Rattle.journal_records.specs.Long.{settings_of};
 ghost use Rattle.journal_reader.specs.State.{settings_came, width_came, emptied};
 ghost use Rattle.journal_reader.specs.Reading as R;
+ghost use Rattle.printer.specs.Numbers.{printer_by};
 ghost use Rattle.printer.specs.Printer.{showing, event_room};
 ghost use Rattle.player.specs.Play.{Obeys, PlayedOn, goes_on_of, playing_from, Fed};
 
@@ -14,7 +15,10 @@ use journal_reader::What;
 use journal_reader::waiting::{PLACES, Reader};
 use journal_refusals::Refusal;
 use lictor_core::fuse::TickInput;
-use printer::{EVENT_ROOM, Notes, Printer};
+use printer::lines::{Lines, Trace};
+use printer::pages::Pages;
+use printer::proximity::Proximity;
+use printer::{EVENT_ROOM, Notes, PAGES, PROXIMITY, Printer, TRACE};
 use text::memory::has_room;
 
 // A journal that is being played.
@@ -192,4 +196,28 @@ pub fn feed<P: Printer>(
         played = play_on::<P>(kinds, played, lists, s, out);
     }
     played
+}
+
+// The same by the number of what is shown (LINES, TRACE, PAGES, PROXIMITY of `printer`).
+pub fn feed_by(
+    kinds: &[u16],
+    shows: u8,
+    notes: Notes,
+    rd: Reader,
+    run: Run,
+    lists: &mut [f64; PLACES],
+    s: &[u8],
+    out: &mut [u8],
+) -> Played
+    ensures { Fed kinds.now (playing_from (printer_by shows notes) rd run lists.old) s.now out.old result lists.new out.new }
+{
+    if shows == TRACE {
+        feed::<Trace>(kinds, notes, rd, run, lists, s, out)
+    } else if shows == PAGES {
+        feed::<Pages>(kinds, notes, rd, run, lists, s, out)
+    } else if shows == PROXIMITY {
+        feed::<Proximity>(kinds, notes, rd, run, lists, s, out)
+    } else {
+        feed::<Lines>(kinds, notes, rd, run, lists, s, out)
+    }
 }

@@ -21,7 +21,7 @@ use Rattle.journal.specs.Journal.{Ending, ended, refused}
 use Rattle.text.specs.declared.Line.{Line}
 use Rattle.text.specs.Line.{line_room, line_of}
 use Rattle.text.specs.Memory.{Put, place_put, memory_put, has_room, place_with, memory_with}
-use Rattle.text.proofs.Lines.{line_text}
+use Rattle.text.proofs.Lines.{held_text}
 use Rattle.text.proofs.Puts.{put_none, put_on, put_there, no_room, with_room, put_with}
 use Rattle.trace_text.specs.Trace.{trace_count, trace_text}
 use Rattle.report.specs.Lines.{tick_text, refused_text}
@@ -171,9 +171,9 @@ module _ (x : Measure) (pos : List Float) (guard : ℕ) (v : SafetyVerdict) (cfg
 
 module _ (l : Line) (s : List ℕ) (e : l ≡ line_of s) (f : length s ≤ line_room) where
   pub line_put : (out : List ℕ) (n : ℕ) → n + line_room ≤ length out → (r : ℕ) (out' : List ℕ)
-      → (r ≡ place_put (length out) n l) × (out' ≡ memory_put out n l) → Put out n s r out'
+      → (r ≡ place_put (length out) n (take l.n l.text)) × (out' ≡ memory_put out n (take l.n l.text)) → Put out n s r out'
   line_put out n h r out' q =
-      let shows : l ≡ s = e ∙ line_text s f in
+      let shows : take l.n l.text ≡ s = held_text l s f e in
       put_there out n s (omega (arith, h, f)) r out' (rw shows at q)
 
 -- the row of a tick, and the line of the page that it fills

@@ -1,7 +1,9 @@
--- What is shown, by number, as a program tells it that has one: any number that is not listed means
--- lines (proofs/Numbers). The code has a type for each case, of the trait `Printer`.
+-- What is shown, by number, as a program tells it: any number that is not listed means lines
+-- (proofs/Numbers). The code has a type for each case, of the trait `Printer`, and a match of the
+-- number onto these types.
 use Rattle.std.specs.Prelude.{cond, ℕ, eqb}
-use Rattle.printer.specs.Printer.{Shows, lines, trace, pages, proximity}
+use Rattle.printer.specs.declared.Notes.{Notes}
+use Rattle.printer.specs.Printer.{Shows, lines, trace, pages, proximity, Printer, showing}
 
 abbrev pub trace_code : ℕ
 trace_code = 1
@@ -18,3 +20,6 @@ shows_by code =
     (cond (eqb code pages_code) pages
     (cond (eqb code proximity_code) proximity
     lines))
+
+abbrev pub printer_by : ℕ → Notes → Printer
+printer_by code m = showing (shows_by code) m

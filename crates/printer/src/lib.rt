@@ -3,6 +3,7 @@
 // for each kind.
 #![tactic(auto)]
 
+pub mod by_number; // the same for a printer that is told by number
 pub mod lines; // a line for each tick, and the trace
 pub mod pages; // ticks on pages
 pub mod proximity; // components close to a face, and those that have left the box
@@ -22,6 +23,21 @@ use lictor_core::verdict::SafetyVerdict;
 use report::render::TRACE_ROOM;
 use text::LINE;
 use text::memory::{has_room, put_line};
+
+// What is shown, by a number: each names a printer, a type of its own. A program has its number as a
+// constant, and so the code of its own printer alone.
+
+// Of a tick its line, as `fuse` prints it. Any number that is not listed means the same.
+pub const LINES: u8 = 0;
+
+// Its line, and then every field of the verdict, the run state and the tally that the Rust has.
+pub const TRACE: u8 = 1;
+
+// Pages: rows of ticks, and after each page a line with its number.
+pub const PAGES: u8 = 2;
+
+// Proximity: the components that are close to a face of the box, or have left it.
+pub const PROXIMITY: u8 = 3;
 
 // Where text goes: to standard output, or beside it to standard error.
 #[derive(Clone, Copy)]

@@ -86,6 +86,6 @@ impl Printer for Trace {
     }
 
     fn put_end(run: Run, out: &mut [u8], n: usize) -> usize {
-        put_line(out, n, end_line(run.rt.tally))
+        Lines::put_end(run, out, n)
     }
 }

@@ -5,9 +5,8 @@
 // All that matters is in the libraries (crates/console).
 #![tactic(auto)]
 
-use printer::proximity::Proximity;
 use std::rt::HostRuntime;
 
 fn main(rt: HostRuntime) {
-    console::play::<Proximity>(&rt, b"proximity");
+    console::play_by(&rt, b"proximity", printer::PROXIMITY);
 }

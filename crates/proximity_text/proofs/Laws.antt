@@ -13,7 +13,7 @@ use Rattle.text.specs.Ascii.{ascii}
 use Rattle.text.specs.Line.{line_room, line_of}
 use Rattle.text.specs.Memory.{Put, place_put, memory_put}
 use Rattle.text.proofs.Digits.{decimal_20}
-use Rattle.text.proofs.Lines.{line_text}
+use Rattle.text.proofs.Lines.{held_text}
 use Rattle.text.proofs.Puts.{put_none, put_on, put_there}
 use Rattle.std.specs.Prelude.{Option, None, Some}
 use Rattle.proximity_text.specs.declared.Word.{Word}
@@ -52,11 +52,11 @@ unfolding said_text
 said_none t c out n = put_none out n
 
 pub said_word : (w : Word) (t c : ℕ) (out : List ℕ) (n : ℕ) → n + line_room ≤ length out → (l : Line) → l ≡ line_of (word_text w ++ fields_text (t ∷ c ∷ []) ++ ascii "\n")
-    → (r : ℕ) (out' : List ℕ) → (r ≡ place_put (length out) n l) × (out' ≡ memory_put out n l) → Put out n (said_text (Some w) t c) r out'
+    → (r : ℕ) (out' : List ℕ) → (r ≡ place_put (length out) n (take l.n l.text)) × (out' ≡ memory_put out n (take l.n l.text)) → Put out n (said_text (Some w) t c) r out'
 unfolding said_text
 said_word w t c out n h l f r out' q =
     let fits : length (word_line (word_text w) t c) ≤ line_room = word_fits (word_text w) t c (text_short w) in
-    let shows : l ≡ word_line (word_text w) t c = f ∙ ap line_of (two_fields (word_text w) t c) ∙ line_text (word_line (word_text w) t c) fits in
+    let shows : take l.n l.text ≡ word_line (word_text w) t c = held_text l (word_line (word_text w) t c) fits (f ∙ ap line_of (two_fields (word_text w) t c)) in
     put_there out n (word_line (word_text w) t c) (omega (arith, h, fits)) r out' (rw shows at q)
 
 -- ---- the lines of the first c components are put

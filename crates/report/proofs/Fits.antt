@@ -2,7 +2,7 @@
 use Prim.Native.Nat.{ℕ, ◌≤◌}
 use mathlib.Core.Path.{◌≡◌}
 use native.Mathlib.Omega.{arith}
-use lib.ListN.{length, length-append}
+use lib.ListN.{length, length-append, take}
 use Rattle.text.specs.Line.{line_room, line_of}
 use Rattle.text.proofs.Lines.{line_text}
 use Rattle.text.proofs.Digits.{decimal_20, signed_21}
@@ -44,12 +44,12 @@ pub refused_fits : (number place : ℕ) → length (refused_text number place) �
 unfolding refused_text
 refused_fits number place = simp length-append (omega (arith, decimal_20 number, decimal_20 place))
 
--- so each line holds its whole text
-pub tick_whole : (v : SafetyVerdict) → line_of (tick_text v) ≡ tick_text v
+-- what a writer of the first n bytes writes
+pub tick_whole : (v : SafetyVerdict) → take (line_of (tick_text v)).n (line_of (tick_text v)).text ≡ tick_text v
 tick_whole v = line_text (tick_text v) (tick_fits v)
 
-pub end_whole : (t : Tally) → line_of (end_text t) ≡ end_text t
+pub end_whole : (t : Tally) → take (line_of (end_text t)).n (line_of (end_text t)).text ≡ end_text t
 end_whole t = line_text (end_text t) (end_fits t)
 
-pub refused_whole : (number place : ℕ) → line_of (refused_text number place) ≡ refused_text number place
+pub refused_whole : (number place : ℕ) → take (line_of (refused_text number place)).n (line_of (refused_text number place)).text ≡ refused_text number place
 refused_whole number place = line_text (refused_text number place) (refused_fits number place)

@@ -1,14 +1,13 @@
 -- Numbers after a word; the lines that a trace puts.
-use Prim.Native.Nat.{ℕ, ◌≤◌, ◌<◌, ◌+◌, ◌*◌}
+use Prim.Native.Nat.{ℕ, ◌≤◌, ◌<◌, ◌+◌, ◌*◌, ◌-◌, min}
 use mathlib.Core.Path.{◌≡◌, refl, sym, ap, ◌∙◌}
 use mathlib.Core.List.{List, [], ◌∷◌, ◌++◌, append_assoc, append-nil}
 use native.Mathlib.Omega.{arith}
 use native.Mathlib.Numerals.{add-one}
-use lib.ListN.{length, take, get_or, length-take}
-use lib.Seq.{take-suc}
+use lib.ListN.{length, take, get_or, length-take, replicate}
+use lib.Seq.{take_at, take-suc}
 use Rattle.text.specs.declared.Line.{Line}
 use Rattle.text.specs.Line.{line_room, line_of, push_of}
-use Rattle.text.specs.Number.{decimal_of}
 use Rattle.text.proofs.Lines.{push_append}
 use Rattle.text.specs.Ascii.{ascii}
 use Rattle.text.specs.Memory.{Put}
@@ -25,8 +24,9 @@ fields_on [] x = append-nil (field_text x)
 fields_on (y ∷ xs) x = ap (λ (s : List ℕ). field_text y ++ s) (fields_on xs x) ∙ sym (append_assoc (field_text y) (fields_text xs) (field_text x))
 
 pub fields_more : (l : Line) (xs : List ℕ) (i : ℕ) → i < length xs
-    → push_of (push_of (push_of l (fields_text (take i xs))) (32 ∷ [])) (decimal_of (get_or xs i 0)) ≡ push_of l (fields_text (take (i + 1) xs))
-fields_more l xs i h = rw (add-one i, take-suc xs i 0 h, fields_on (take i xs) (get_or xs i 0), push_append, push_append) refl
+    → push_of (push_of l (fields_text (take i xs))) (field_text (get_or xs i 0)) ≡ push_of l (fields_text (take (i + 1) xs))
+fields_more l xs i h =
+    rw (add-one i, take-suc xs i 0 h, fields_on (take i xs) (get_or xs i 0)) (sym (push_append l (fields_text (take i xs)) (field_text (get_or xs i 0))))
 
 -- a word and two numbers
 pub two_fields : (word : List ℕ) (a b : ℕ) → word ++ fields_text (a ∷ b ∷ []) ++ ascii "\n" ≡ word ++ field_text a ++ field_text b ++ ascii "\n"
@@ -34,10 +34,14 @@ two_fields word a b =
     ap (λ (s : List ℕ). word ++ (field_text a ++ s) ++ ascii "\n") (append-nil (field_text b))
     ∙ ap (λ (s : List ℕ). s ++ ascii "\n") (sym (append_assoc word (field_text a) (field_text b)))
 
--- what a line shows of a text
-pub line_most : (s : List ℕ) → length (line_of s) ≤ line_room
+-- what a line shows of a text: its first line_room bytes
+pub line_most : (s : List ℕ) → (line_of s).n ≤ line_room
 unfolding line_of
-line_most s = omega (arith, length-take line_room s)
+line_most s = omega arith
+
+pub line_shows : (s : List ℕ) → take (line_of s).n (line_of s).text ≡ take line_room s
+unfolding line_of
+line_shows s = take_at (take line_room s) (replicate (line_room - length s) 0) (min (length s) line_room) (omega (arith, length-take line_room s))
 
 -- the first k lines of the trace are there
 pub record Traced (v : SafetyVerdict) (rt : FuseRt) (out₀ : List ℕ) (n : ℕ) (out : List ℕ) (at k : ℕ) : Type 0 where
@@ -50,11 +54,12 @@ unfolding trace_up_to
 traced_none v rt out₀ n = record { long = refl; few = omega arith; so_far = put_none out₀ n }
 
 pub traced_more : (v : SafetyVerdict) (rt : FuseRt) (out₀ : List ℕ) (n : ℕ) (out : List ℕ) (at k : ℕ) (l : Line) (at' : ℕ) (out' : List ℕ)
-    → n ≤ length out₀ → length out' ≡ length out → l ≡ line_of (trace_text k v rt) → Put out at l at' out' → Traced v rt out₀ n out at k
+    → n ≤ length out₀ → length out' ≡ length out → l ≡ line_of (trace_text k v rt) → Put out at (take l.n l.text) at' out' → Traced v rt out₀ n out at k
     → Traced v rt out₀ n out' at' (k + 1)
-unfolding trace_up_to line_of
+unfolding trace_up_to
 traced_more v rt out₀ n out at k l at' out' w z e q p =
-    let q' : Put out at (take line_room (trace_text k v rt)) at' out' = rw e at q in
+    let g : take l.n l.text ≡ take line_room (trace_text k v rt) = ap (λ (x : Line). take x.n x.text) e ∙ line_shows (trace_text k v rt) in
+    let q' : Put out at (take line_room (trace_text k v rt)) at' out' = rw g at q in
     record {
       long = z ∙ p.long;
       few = omega (arith, p.few, q'.ends, length-take line_room (trace_text k v rt));

@@ -6,7 +6,7 @@ pub mod render; // the text of a tick, put into lent memory
 ghost use Rattle.std.specs.Prelude.{◌≡◌, ◌++◌};
 ghost use Rattle.text.specs.Ascii.{ascii};
 ghost use Rattle.text.specs.Line.{line_of, push_of};
-ghost use Rattle.report.specs.Lines.{margin_text, fields_text, numbers_in, tick_text, end_text, refused_text};
+ghost use Rattle.report.specs.Lines.{margin_text, field_text, fields_text, numbers_in, tick_text, end_text, refused_text};
 
 use lictor_core::tally::Tally;
 use lictor_core::verdict::SafetyVerdict;
@@ -26,13 +26,28 @@ pub fn push_margin(l: &mut Line, m: Margin)
     }
 }
 
+// A blank and a number.
+fn push_field(l: &mut Line, x: u64)
+    ensures { l.new ≡ push_of l.old (field_text x) }
+{
+    l.push(b" ");
+    l.push_number(x);
+}
+
+// The same after a line that is passed by value.
+pub fn field(mut l: Line, x: u64) -> Line
+    ensures { result ≡ push_of l (field_text x) }
+{
+    push_field(&mut l, x);
+    l
+}
+
 // Numbers, each after a blank.
 fn push_fields(l: &mut Line, numbers: &[u64])
     ensures { l.new ≡ push_of l.old (fields_text numbers.now) }
 {
     for x in numbers {
-        l.push(b" ");
-        l.push_number(*x);
+        push_field(l, *x);
     }
 }
 

@@ -17,10 +17,13 @@ use trace_text::{TRACE_LINES, trace_line};
 pub const TRACE_ROOM: usize = TRACE_LINES * LINE;
 
 // Puts the line of a tick after the first n bytes, and answers where it ends.
-// Where fewer than LINE bytes are left after n, it puts nothing.
+// Where fewer than LINE bytes are left after n, it puts nothing, and builds no line.
 pub fn show_tick(v: SafetyVerdict, out: &mut [u8], n: usize) -> usize
     ensures { (result ≡ place_with line_room (length out.old) n (tick_text v)) × (out.new ≡ memory_with line_room out.old n (tick_text v)) }
 {
+    if !has_room(LINE, n, out.len()) {
+        return n;
+    }
     let mut l = Line::new();
     push_tick(&mut l, v);
     show_line(out, n, &l)

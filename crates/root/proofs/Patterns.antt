@@ -1,13 +1,14 @@
 -- The bit patterns of binary64: what value each stands for. Assumes nothing.
 use mathlib.Core.Path.{◌≡◌, refl, sym, ap, ◌∙◌, subst}
-use Prim.Native.Nat.{ℕ, suc, ◌+◌, ◌-◌, ◌*◌, ◌/◌, ◌%◌, ◌^◌, ◌≤◌, ◌<◌}
+use Prim.Native.Nat.{ℕ, zero, suc, ◌+◌, ◌-◌, ◌*◌, ◌/◌, ◌%◌, ◌^◌, ◌≤◌, ◌<◌}
 use native.Mathlib.Nat.{not-le_of_lt, mod-eq_of_lt, mul-one}
 use native.Mathlib.Omega.{arith}
-use mathlib.Core.Bool.{Bool, false, not, cond}
+use mathlib.Core.Bool.{Bool, true, false, not, cond}
 use lib.Dec.{T, leb, eqb, leb→le, eqb→eq, not_T}
-use lib.Ieee.{Float, nan, inf, binary64, odd, of_fields, of_bits, nan_bits}
-use lib.Ieee.Bits.{is_false, cond_no}
+use lib.Ieee.{Float, nan, inf, binary64, odd, of_fields, of_bits, to_bits, nan_bits, fits}
+use lib.Ieee.Bits.{is_false, cond_no, of_bits-to_bits}
 use lib.Ieee.Exact.{HasValue, odd_sign}
+use lib.Ieee.Scale.{finite}
 use Rattle.std.proofs.lemmas.Float.{not_nan_f64_bits}
 
 -- a pattern up to the infinity's is no NaN's
@@ -38,6 +39,32 @@ under_ones t x h = cond_no (eqb (suc x) 2047) (cond (eqb t 0) (inf false) nan) (
 at_zero : (t : ℕ) → of_fields binary64 false 0 t ≡ odd 53 false t 0 1074
 unfolding of_fields
 at_zero t = refl
+
+-- ---- finite where the exponent field is not all ones
+odd_finite : (d : ℕ) (s : Bool) (q k l : ℕ) → finite (odd d s q k l) ≡ true
+unfolding odd
+odd_finite d s zero k l = refl
+odd_finite d s (suc q) k l = refl
+
+fields_finite : (s : Bool) (x t : ℕ) → finite (of_fields binary64 s x t) ≡ not (eqb x 2047)
+unfolding of_fields
+fields_finite s zero t = odd_finite 53 s t 0 1074
+fields_finite s (suc x) t = go (eqb (suc x) 2047) (eqb t 0)
+  where
+    go : (a b : Bool) → finite (cond a (cond b (inf s) nan) (odd 53 s (2 ^ 52 + t) x 1074)) ≡ not a
+    go true true = refl
+    go true false = refl
+    go false b = odd_finite 53 s (2 ^ 52 + t) x 1074
+
+pub finite_bits : (x : Float) → T (fits binary64 x) → finite x ≡ not (eqb (to_bits binary64 x / 2 ^ 52 % 2 ^ 11) 2047)
+finite_bits x F =
+    let b = to_bits binary64 x in
+    ap finite (sym (of_bits-to_bits binary64 x F) ∙ of_bits_is b)
+    ∙ fields_finite (leb (2 ^ 63) b) (b % 2 ^ 63 / 2 ^ 52) (b % 2 ^ 52)
+    ∙ ap (λ (y : ℕ). not (eqb y 2047)) (field b)
+  where
+    field : (b : ℕ) → b % 2 ^ 63 / 2 ^ 52 ≡ b / 2 ^ 52 % 2 ^ 11
+    field b = omega arith
 
 -- ---- numbers above zero
 -- the digits g and the exponent k, as a pattern

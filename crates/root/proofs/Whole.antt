@@ -127,7 +127,7 @@ module _ (m e g : ℕ) (l : 2 ^ 52 ≤ m) (u : m < 2 ^ 53) (c : 1022 ≤ e) (d :
   near : NearRoot w.n g
   near = subst (λ (n : ℕ). NearRoot n g) (sym w.n_is) r
 
-  digits_lt : g < 2 ^ 53
+  pub digits_lt : g < 2 ^ 53
   digits_lt = g_lt w.n g w.k w.above w.below w.lo w.hi near
 
   digits_ge : 2 ^ 52 ≤ g

@@ -12,10 +12,11 @@ use lib.Seq.{drop-cons, get_or-take, take_all, take_at, drop_at, length-take-le}
 use lib.Ieee.{Float, binary64, is_nan, to_bits, of_bits}
 use Rattle.std.proofs.Common.{Option, Some, None}
 use Rattle.text.specs.Ascii.{ascii}
+use Rattle.text.specs.declared.Line.{Line}
 use Rattle.text.specs.Line.{line_of}
 use Rattle.text.specs.Number.{hex_in, hex_digit, float_text}
 use Rattle.text.specs.Memory.{Put}
-use Rattle.text.proofs.Lines.{line_text}
+use Rattle.text.proofs.Lines.{held_text}
 use Rattle.text.proofs.Puts.{put_shows}
 use Rattle.fmath.specs.Root.{root_of}
 use Rattle.roots.specs.Text.{digit_of, read_digits, pattern_of, root_text, by_read, answer_to, is_bad, answers, some_bad, line_count, Answered}
@@ -73,8 +74,8 @@ answer_length s = go (pattern_of s)
     go None = omega arith
 
 -- the line for a pattern holds its text whole
-pub root_shown : (b : ℕ) → line_of (root_text b) ≡ root_text b
-root_shown b = line_text (root_text b) (omega (arith, line_length b))
+pub root_shown : (b : ℕ) (l : Line) → l ≡ line_of (root_text b) → take l.n l.text ≡ root_text b
+root_shown b l e = held_text l (root_text b) (omega (arith, line_length b)) e
 
 -- ---- line by line: `rest` is what is left of s
 

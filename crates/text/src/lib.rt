@@ -4,28 +4,19 @@
 pub mod memory; // text put into lent memory
 
 ghost use Rattle.std.specs.Prelude.{◌≡◌, ◌≤◌, ℕ, List, [], map, length, cond};
-ghost use Rattle.text.specs.Line.{line_room, line_of, push_of};
+ghost use Rattle.text.specs.Line.{line_room, line_of, bytes_of, push_of};
 ghost use Rattle.text.specs.Number.{decimal_of, signed_of, hex_in, float_text, optional_text};
 ghost use Rattle.text.specs.Commas.{commas};
-
-use arrayvec::ArrayVec;
-use std::marker::Model;
 
 // The bytes that a line has room for.
 pub const LINE: usize = 256;
 
-// Clauses see the bytes of a line.
-#[derive(Drop)]
+// The first n bytes are the line's; in one that was built here the others are zero. (Array and length
+// are public: a caller may make a line of its own, and every n has a meaning, also one above LINE.)
+#[derive(Clone, Copy)]
 pub struct Line {
-    bytes: ArrayVec<u8, LINE>,
-}
-
-impl Model for Line {
-    ghost use Rattle.std.specs.Prelude.{ℕ, List};
-
-    ghost Value = { List ℕ };
-
-    ghost view = { λ l. l.bytes.items };
+    pub text: [u8; LINE],
+    pub n: usize,
 }
 
 impl Line {
@@ -34,26 +25,33 @@ impl Line {
         ensures { result ≡ line_of [] }
     {
         Line {
-            bytes: ArrayVec::new(),
+            text: [0; LINE],
+            n: 0,
         }
     }
 
+    // Its bytes: all of the array where n is above LINE.
     pub fn as_bytes(&self) -> &[u8]
-        ensures bytes { result.now ≡ self.now }
+        ensures bytes { result.now ≡ bytes_of self.now }
         ensures fits { length result.now ≤ line_room }
     {
-        self.bytes.as_slice()
+        &self.text[..self.n.min(LINE)]
     }
 
     // The bytes b after the line; a full line stays as it is.
     pub fn push(&mut self, b: &[u8])
         ensures { self.new ≡ push_of self.old b.now }
     {
-        match self.bytes.try_extend_from_slice(b) {
-            Ok(()) => {}
-            Err(_) => {
-                let n = self.bytes.remaining_capacity();
-                let _fits = self.bytes.try_extend_from_slice(&b[..n]);
+        let n = self.n;
+        if n < LINE {
+            let room = LINE - n;
+            if b.len() <= room {
+                let end = n + b.len();
+                self.text[n..end].copy_from_slice(b);
+                self.n = end;
+            } else {
+                self.text[n..].copy_from_slice(&b[..room]);
+                self.n = LINE;
             }
         }
     }

@@ -2,9 +2,8 @@
 // that the Rust has, one `name=value` a line.
 #![tactic(auto)]
 
-use printer::lines::Trace;
 use std::rt::HostRuntime;
 
 fn main(rt: HostRuntime) {
-    console::play::<Trace>(&rt, b"trace");
+    console::play_by(&rt, b"trace", printer::TRACE);
 }

@@ -4,7 +4,7 @@ use native.Mathlib.Omega.{arith}
 use lib.ListN.{get_or, drop, drop_of_length-le, length-take, length-drop}
 use Rattle.std.proofs.lemmas.Grind.{common_steps}
 use Rattle.journal_frames.specs.declared.Frame.TheVariants.{Whole}
-use Rattle.journal_frames.proofs.Frames.{unknown, cut, whole, frame_none, frame_here}
+use Rattle.journal_frames.proofs.Frames.{unknown, cut, whole, frame_none, frame_front}
 use Rattle.journal_frames.proofs.frame_at.Goals as goal
 use Rattle.journal_frames.proofs.frame_at.Goals.{After-unwrap_or}
 
@@ -16,10 +16,10 @@ pub returns-in-empty : goal.returns-in-empty
 returns-in-empty c = frame_none _ _ _ (rest_is (goal.at.returns-in-empty c).After-unwrap_or) c.in-empty.len_below
 
 pub returns-then-not-is_known : goal.returns-then-not-is_known
-returns-then-not-is_known c = frame_here _ _ _ (rest_is (goal.at.returns-then-not-is_known c).After-unwrap_or) c.in-len1-up.len_at_least (unknown cc)
+returns-then-not-is_known c = frame_front _ _ _ (rest_is (goal.at.returns-then-not-is_known c).After-unwrap_or) c.in-len1-up.len_at_least (unknown cc)
 
 pub returns-then-rest-len : goal.returns-then-rest-len
-returns-then-rest-len c = frame_here _ _ _ (rest_is (goal.at.returns-then-rest-len c).After-unwrap_or) c.in-len1-up.len_at_least (cut (cc) (omega (arith, length-take {A = ℕ}, length-drop 1 c.unwrap_or.result.now)))
+returns-then-rest-len c = frame_front _ _ _ (rest_is (goal.at.returns-then-rest-len c).After-unwrap_or) c.in-len1-up.len_at_least (cut (cc) (omega (arith, length-take {A = ℕ}, length-drop 1 c.unwrap_or.result.now)))
 
 pub returns-else-rest-len : goal.returns-else-rest-len
-returns-else-rest-len c = ap (Whole (get_or c.unwrap_or.result.now 0 0)) c.body_len-len.ensures ∙ frame_here _ _ _ (rest_is (goal.at.returns-else-rest-len c).After-unwrap_or) c.in-len1-up.len_at_least (whole (cc) (omega (arith, length-take {A = ℕ}, length-drop 1 c.unwrap_or.result.now)))
+returns-else-rest-len c = ap (Whole (get_or c.unwrap_or.result.now 0 0)) c.body_len-len.ensures ∙ frame_front _ _ _ (rest_is (goal.at.returns-else-rest-len c).After-unwrap_or) c.in-len1-up.len_at_least (whole (cc) (omega (arith, length-take {A = ℕ}, length-drop 1 c.unwrap_or.result.now)))

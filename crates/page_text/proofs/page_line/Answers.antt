@@ -9,7 +9,7 @@ use Rattle.text.specs.Number.{decimal_of}
 use Rattle.text.specs.Column.{right, left}
 use Rattle.text.proofs.Columns.{right_most}
 use Rattle.text.proofs.Digits.{decimal_20}
-use Rattle.text.proofs.Lines.{line_text, push_line}
+use Rattle.text.proofs.Lines.{held_text, push_line}
 use Rattle.page_text.specs.Rows.{page_row}
 use Rattle.page_text.proofs.page_line.Goals as goal
 
@@ -25,5 +25,5 @@ unfolding page_row left said
 returns c =
     let n = c.args.number in
     let so_far : c.push_number.new.l ≡ line_of (said n) = simp (c.push_number.ensures, c.push.ensures, c.new-l.ensures, push_line) in
-    let long = c.as_bytes-n.ensures.bytes ∙ so_far ∙ line_text (said n) (said_short n) in
+    let long = c.as_bytes-n.ensures.bytes ∙ held_text _ (said n) (said_short n) so_far in
     simp (c.push-2.ensures, c.push_blanks.ensures, c.saturating_sub.ensures, long, so_far, push_line)

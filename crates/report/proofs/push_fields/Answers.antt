@@ -8,4 +8,4 @@ unfolding push_of
 loop-x-init c = refl
 
 pub loop-x-preserved : goal.loop-x-preserved
-loop-x-preserved c = rw (← fields_more c.args.l.now c.args.numbers.now c.loop-x.x-index c.loop-x-test.true, ← c.loop-x.invariant, ← c.push.ensures) c.push_number.ensures
+loop-x-preserved c = rw (← fields_more c.args.l.now c.args.numbers.now c.loop-x.x-index c.loop-x-test.true, ← c.loop-x.invariant) c.push_field.ensures

@@ -19,7 +19,6 @@ unfolding round_stepped
 returns g c = record {
   stepped = c.step-stepped.result;
   written = c.put_on-written.result;
-  out' = c.step-stepped.new.out;
   steps = c.step-stepped.ensures;
   handed = c.put_on-written.ensures;
   moved = c.move_down.ensures;

@@ -17,4 +17,4 @@ pub loop-run-preserved : goal.loop-run-preserved
 loop-run-preserved c = runs_more c.args.from (other c.args.from) c.args.runs.now c.args.body.now c.args.out.now c.args.n c.requires.0 c.requires.1 _ _ _ _ c.loop-run.invariant _ (next_run c.args.runs.now c.loop-run.run-index c.loop-run-test.true) _ c.run_bytes-at.ensures _ _ c.put_run-end.ensures c.put_run-end.auto.out
 
 pub returns : goal.returns
-returns c = runs_all c.args.from (other c.args.from) c.args.runs.now c.args.body.now c.args.out.now c.args.n c.requires.0 c.requires.1 _ _ _ _ c.loop-run.invariant c.loop-run-test.false _ (part_from c.args.body.now c.loop-run.at) _ _ c.put.ensures
+returns c = runs_all c.args.from (other c.args.from) c.args.runs.now c.args.body.now c.args.out.now c.args.n c.requires.0 c.requires.1 _ _ _ _ c.loop-run.invariant c.loop-run-test.false _ (part_from c.args.body.now c.loop-run.at) _ _ c.put_part.ensures

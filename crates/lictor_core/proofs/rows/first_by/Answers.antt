@@ -8,7 +8,7 @@ loop-at-init g c = (search rules, by_start _ _ _)
 
 pub loop-at-preserved : goal.loop-at-preserved
 loop-at-preserved g c = let kept = c.loop-at.invariant.1 in
-    (search rules, elim c.if-at-n.branch [ then-at-n w ↦ by_took _ _ _ kept w.if-at-n.true w.f.ensures w.out-is | else-at-n w ↦ by_left _ _ _ kept w.if-at-n.false w.out-is ])
+    (search rules, elim c.if-at-n.branch [ then-at-n w ↦ by_took _ _ _ kept (omega arith) w.f.ensures w.out-is | else-at-n w ↦ by_left _ _ _ kept (omega arith) w.out-is ])
 
 pub returns : goal.returns
 returns g c = by_done _ _ _ c.loop-at.invariant.1 (omega arith)

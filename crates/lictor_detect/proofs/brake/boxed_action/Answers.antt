@@ -6,4 +6,4 @@ use Rattle.lictor_detect.proofs.brake.boxed_action.Goals as goal
 pub returns : goal.returns
 unfolding boxed_action boxed_row boxed_component component
 returns c = let cfg = c.args.cfg in
-    row_is (boxed_component c.args.row cfg.box_lo cfg.box_hi cfg.pos_dim) _ _ _ _ c.first_by.ensures (λ i y l p. p) ∙ rw (c.min.ensures, c.no_row.ensures)
+    row_is (boxed_component c.args.row cfg.box_lo cfg.box_hi cfg.pos_dim) _ _ _ _ c.first_by.ensures (λ i y l p. p) ∙ rw (c.no_row.ensures)

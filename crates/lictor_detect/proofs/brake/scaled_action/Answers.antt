@@ -6,4 +6,4 @@ use Rattle.lictor_detect.proofs.brake.scaled_action.Goals as goal
 pub returns : goal.returns
 unfolding scaled_action scaled_row scaled_component
 returns c =
-    row_is (scaled_component c.args.vel c.args.k c.args.cfg.pos_dim) _ _ _ _ c.first_by.ensures (λ i y l p. p) ∙ rw (c.min.ensures, c.no_row.ensures)
+    row_is (scaled_component c.args.vel c.args.k c.args.cfg.pos_dim) _ _ _ _ c.first_by.ensures (λ i y l p. p) ∙ rw (c.no_row.ensures)

@@ -1,7 +1,7 @@
 use Prim.Native.Nat.{◌≤◌}
 use mathlib.Core.Path.{◌≡◌}
 use native.Mathlib.Omega.{arith}
-use lib.ListN.{length}
+use lib.ListN.{length-take}
 use Rattle.text.specs.Line.{line_room}
 use Rattle.trace_text.specs.Trace.{trace_count}
 use Rattle.text.proofs.Puts.{put_there}
@@ -15,8 +15,8 @@ pub loop-k-preserved : goal.loop-k-preserved
 loop-k-preserved c = let m = c.loop-k.invariant in
     let line = c.trace_line in
     let put = c.put_line-at in
-    let most : length line.result ≤ line_room = rw line.ensures (line_most _) in
-    let p = put_there _ _ _ (omega (arith, m.few, m.long, most)) _ _ put.ensures in
+    let most : line.result.n ≤ line_room = rw line.ensures (line_most _) in
+    let p = put_there _ _ _ (omega (arith, m.few, m.long, most, length-take line.result.n line.result.text)) _ _ put.ensures in
     traced_more _ _ _ _ _ _ _ _ _ _ (omega arith) put.auto.out line.ensures p m
 
 pub shape_of-out : goal.shape_of-out

@@ -22,8 +22,8 @@ returns c =
       | then-minus w ↦
           let t : lt_z z (pos 0) ≡ true = rw e at w.if-minus.true in
           let on : c.if-minus.self ≡ push_of l (45 ∷ []) = w.self-is ∙ w.push.ensures in
-          rw (below_zero z t, push_append l (45 ∷ []) (decimal_of (nat_abs z))) (rw (on, size) at c.push_number.ensures)
+          rw ((below_zero z t).1, push_append l (45 ∷ []) (decimal_of (nat_abs z))) (rw (on, size) at c.push_number.ensures)
       | else-minus w ↦
           let t : lt_z z (pos 0) ≡ false = rw e at w.if-minus.false in
-          rw (not_below z t) (rw (w.self-is, size) at c.push_number.ensures)
+          rw ((not_below z t).1) (rw (w.self-is, size) at c.push_number.ensures)
     ]

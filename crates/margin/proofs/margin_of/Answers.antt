@@ -9,7 +9,7 @@ use Rattle.floats.proofs.Nan.{the_nan}
 use Rattle.margin.specs.Margin.{nearest_whole, millis_of, margin_of}
 use Rattle.margin.proofs.Double.{margin_far, margin_low, margin_mid, sign, exponent, digits}
 use borrow.Author.Rules.{rules}
-use Rattle.margin.proofs.MarginFromF64.from.Goals as goal
+use Rattle.margin.proofs.margin_of.Goals as goal
 
 pub returns-then-is_nan : goal.returns-then-is_nan
 unfolding margin_of

@@ -1,6 +1,0 @@
-use Rattle.report.proofs.Fits.{end_fits}
-use Rattle.printer.proofs.Rooms.{line_put}
-use Rattle.printer.proofs.lines.TracePrinter.put_end.Goals as goal
-
-pub returns : goal.returns
-returns c = line_put _ _ c.end_line.ensures (end_fits _) _ _ c.requires _ _ c.put_line.ensures
