@@ -39,15 +39,15 @@ pub trait Machine {
 
     ghost channel: { Self → Option ℕ → Channel };
 
-    // Takes what is to be had of the bytes s, and puts its text to the front of memory.
+    // Takes what is to be had of the bytes s, and puts its text to the front of memory, where that has
+    // room for a record.
     fn step(&mut self, s: &[u8], out: &mut [u8]) -> Stepped
-        requires { buffer_room ≤ length out.old }
-        ensures { Steps goes rests self.old s.now result self.new out.new };
+        ensures { buffer_room ≤ length out.old → Steps goes rests self.old s.now result self.new out.new };
 
-    // Puts the text of an ending to the front of memory, and answers how many bytes it has.
+    // Puts the text of an ending to the front of memory, where that has room for one, and answers how
+    // many bytes it has.
     fn put_ending(&self, refused: Option<u8>, place: u64, out: &mut [u8]) -> usize
-        requires { ending_room ≤ length out.old }
-        ensures { Put out.old 0 (ending self.now refused place) result out.new };
+        ensures { ending_room ≤ length out.old → Put out.old 0 (ending self.now refused place) result out.new };
 
     fn ending_on(&self, refused: Option<u8>) -> Channel
         ensures { result ≡ channel self.now refused };

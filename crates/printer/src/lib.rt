@@ -94,13 +94,13 @@ pub fn start() -> Notes
 
 // ---- what is shown
 
-// What a program shows, and what differs by it. Each program names its own printer, so that it has the
-// code of that one alone.
+// What a program shows, and what differs by it. Each program says the number of its own printer, a
+// constant, so that it has the code of that one alone.
 pub trait Printer {
     ghost shows: { Shows };
 
-    // Puts the text of a tick: its positions as they came, the guard's bits, the verdict, the fuse
-    // after it.
+    // Puts the text of a tick, where there is room for that of an event: its positions as they came,
+    // the guard's bits, the verdict, the fuse after it.
     fn put_tick(
         notes: Notes,
         pos: &[f64],
@@ -110,8 +110,7 @@ pub trait Printer {
         out: &mut [u8],
         n: usize,
     ) -> usize
-        requires { n + event_room ≤ length out.old }
-        ensures { Put out.old n (tick_shown shows notes pos.now guard verdict run) result out.new };
+        ensures { n + event_room ≤ length out.old → Put out.old n (tick_shown shows notes pos.now guard verdict run) result out.new };
 
     // What is remembered after a tick.
     fn after_tick(notes: Notes, pos: &[f64], guard: u32, config: FuseConfig) -> Notes
@@ -125,15 +124,14 @@ pub trait Printer {
     fn after_width(notes: Notes, width: f64) -> Notes
         ensures { result ≡ width_remembered shows notes width };
 
-    // Closes what is open at the end of a journal, at the front of memory.
+    // Closes what is open at the end of a journal, at the front of memory, where there is room for
+    // the text of an ending.
     fn put_closing(notes: Notes, out: &mut [u8]) -> usize
-        requires { ending_room ≤ length out.old }
-        ensures { Put out.old 0 (closing_text shows notes) result out.new };
+        ensures { ending_room ≤ length out.old → Put out.old 0 (closing_text shows notes) result out.new };
 
-    // Puts the text of an end without a refusal.
+    // Puts the text of an end without a refusal, where there is room for a line.
     fn put_end(run: Run, out: &mut [u8], n: usize) -> usize
-        requires { n + line_room ≤ length out.old }
-        ensures { Put out.old n (end_shown shows run.rt.tally) result out.new };
+        ensures { n + line_room ≤ length out.old → Put out.old n (end_shown shows run.rt.tally) result out.new };
 }
 
 // The kinds of records that the program of this printer takes.

@@ -2,4 +2,4 @@ use Rattle.printer.proofs.Rooms.{ending_there}
 use Rattle.console.proofs.JournalMachine.put_ending.Goals as goal
 
 pub returns : goal.returns
-returns g c = ending_there _ _ _ _ c.requires c.ended.ensures
+returns g c h = ending_there _ _ _ _ h c.ended.ensures
