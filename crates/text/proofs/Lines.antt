@@ -8,8 +8,9 @@ use native.Mathlib.Decide.{dec_le}
 use borrow.Author.Tests.{lt-ltb, le-ltb}
 use lib.ListN.{length, take, drop, get_or, replicate, take-append-drop, length-append, length-take, length-replicate}
 use lib.Seq.{paste, paste-zero, paste-suc, take_all, take-take, take-suc, take-length, take-append-le, set-append_seam, take-append_seam}
+use Rattle.std.proofs.lemmas.List.Edits.{take-paste}
 use Rattle.text.specs.declared.Line.{Line}
-use Rattle.text.specs.Line.{line_of, put_of, push_of}
+use Rattle.text.specs.Line.{line_of, bytes_of, put_of, push_of}
 
 -- bytes in two parts
 pub push_append : (l : Line) (s t : List ℕ) → push_of l (s ++ t) ≡ push_of (push_of l s) t
@@ -95,3 +96,39 @@ pub push_most : (l : Line) (s : List ℕ) (k : ℕ) → length l.text ≡ 256 �
 push_most l s k e h r =
     let full : push_of l (take k s) ≡ record { text = paste l.text l.n (take k s) k; n = 256 } = written l s k e h (omega arith) ∙ line_is _ _ (rw (take-take k k s (omega arith)) refl) r in
     ap (push_of l) (sym (take-append-drop k s)) ∙ push_append l (take k s) (drop k s) ∙ rw full (push_full _ (drop k s) (omega arith))
+
+-- in bytes: a line of some bytes holds as many of them as it has room for
+pub line_bytes : (s : List ℕ) → bytes_of (line_of s) ≡ take 256 s
+unfolding line_of
+line_bytes s =
+    let m : min (length s) 256 ≡ length (take 256 s) = omega (arith, length-take 256 s) in
+    rw m (take-append_seam (take 256 s) (replicate (256 - length s) 0))
+
+-- in bytes: what is pushed onto a full line, what has room in a line, and what fills it
+module _ (l : Line) (s : List ℕ) (e : length l.text ≡ 256) where
+  taken_full : 256 ≤ l.n → bytes_of (push_of l s) ≡ bytes_of l ++ take (256 - length (bytes_of l)) s
+  taken_full h =
+      let z : 256 - length (bytes_of l) ≡ 0 = omega (arith, length-take l.n l.text) in
+      rw (push_full l s h, z) (sym (append-nil (bytes_of l)))
+
+  taken_all : l.n + length s ≤ 256 → bytes_of (push_of l s) ≡ bytes_of l ++ take (256 - length (bytes_of l)) s
+  taken_all h =
+      let few : length s ≤ 256 - length (bytes_of l) = omega (arith, length-take l.n l.text) in
+      rw (push_all l s e h, take_all (256 - length (bytes_of l)) s few)
+      (take-paste l.text l.n s (length s) (omega arith) (omega arith) ∙ ap (λ (t : List ℕ). bytes_of l ++ t) (take-length s))
+
+  taken_most : (k : ℕ) → k ≤ length s → l.n + k ≡ 256 → bytes_of (push_of l s) ≡ bytes_of l ++ take (256 - length (bytes_of l)) s
+  taken_most k h r =
+      let z : 256 - length (bytes_of l) ≡ k = omega (arith, length-take l.n l.text) in
+      rw (push_most l s k e h r, z, sym r)
+      (take-paste l.text l.n (take k s) k (omega arith) (omega (arith, length-take k s))
+      ∙ ap (λ (t : List ℕ). bytes_of l ++ t) (take-take k k s (omega arith)))
+
+  taken_by : Dec (256 ≤ l.n) → Dec (l.n + length s ≤ 256) → bytes_of (push_of l s) ≡ bytes_of l ++ take (256 - length (bytes_of l)) s
+  taken_by (yes h) d = taken_full h
+  taken_by (no h) (yes m) = taken_all m
+  taken_by (no h) (no m) = taken_most (256 - l.n) (omega arith) (omega arith)
+
+-- in bytes: of what is pushed, as much comes after the line's own bytes as there is room for
+pub push_take : (l : Line) (s : List ℕ) → length l.text ≡ 256 → bytes_of (push_of l s) ≡ bytes_of l ++ take (256 - length (bytes_of l)) s
+push_take l s e = taken_by l s e (dec_le 256 l.n) (dec_le (l.n + length s) 256)
