@@ -15,10 +15,19 @@ use Rattle.console.specs.declared.phases.Phase.TheVariants.{Plays, Waits, Refuse
 use Rattle.console.specs.Phases.{is_going, is_waiting, is_unwritten, has_ending, phase_played, phase_read, phase_ended}
 use Rattle.console.specs.Rounds.{buffer_room, Resting, KnownIn, to_do_by}
 
--- it goes on, and there may be records to take, or bytes have to come first
-pub plays_is : (x : Phase) → is_going x ≡ true → is_waiting x ≡ false → x ≡ Plays
+-- it goes on: there may be records to take, or bytes have to come first
+pub plays_unless_waiting : (x : Phase) → is_going x ≡ true → is_waiting x ≡ false → x ≡ Plays
+plays_unless_waiting Plays g w = refl
+plays_unless_waiting Waits g w = impossible cc
+plays_unless_waiting (Refused number) g w = impossible cc
+plays_unless_waiting InputOver g w = impossible cc
+plays_unless_waiting ReadFailed g w = impossible cc
+plays_unless_waiting ReadsOver g w = impossible cc
+plays_unless_waiting WriteFailed g w = impossible cc
+
+pub plays_is : (x : Phase) → is_going x ≡ true → (x ≡ Waits → ⊥) → x ≡ Plays
 plays_is Plays g w = refl
-plays_is Waits g w = impossible cc
+plays_is Waits g w = absurd (w refl)
 plays_is (Refused number) g w = impossible cc
 plays_is InputOver g w = impossible cc
 plays_is ReadFailed g w = impossible cc

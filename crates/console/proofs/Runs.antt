@@ -35,10 +35,11 @@ use Rattle.console.specs.declared.rounds.Ended.{Ended}
 use Rattle.console.specs.declared.Journal.{Journal}
 use Rattle.console.specs.declared.Played.{Played}
 use Rattle.console.specs.Phases.{is_going, is_unwritten, has_ending, phase_ended, number_left, number_ended}
-use Rattle.console.specs.Rounds.{HandedOn, at_hand, KnownIn, Through, number_in, ending_in, ended_of, Closed, RanBy, StartsWith}
+use Rattle.console.specs.Rounds.{HandedOn, at_hand, KnownIn, Through, number_kept, ending_in, ended_with, ended_keeping, ClosedKeeping, RanBy, RanKeeping, StartsWith}
 use Rattle.console.specs.Console.{state_of, printer_of, JournalGoes, JournalRests, end_number, end_place, Answers, Pauses, EndsBy, Ran}
 use Rattle.console.specs.Journals.{none_is}
 use Rattle.console.proofs.ByPhase.{wrote_ended}
+use Rattle.console.proofs.Numbers.{keeping}
 use Rattle.console.proofs.Stepping.{counts_on}
 
 -- the counts of both channels, where a text is handed over on one of them
@@ -118,23 +119,23 @@ module _ {P : Type 0} (sh : Shows) (j : Journal P) (r : Round) (b s : List ℕ) 
       meaning_is kinds s a (comes why e)
       ∙ ap₂ (λ (n : ℕ) (u : Run). record { events = events; ending = ending_of n rest (end_at why); left = record { state = state_of j; run = u } }) k (sym run_to)
 
-  module _ (e : Ended) (w : Written) (z : e ≡ ended_of r w) where
+  module _ (e : Ended) (w : Written) (z : e ≡ ended_keeping r w) where
     abbrev answer : Played
     answer = record { run = j.run; ended = e }
 
     -- an answer that fits the ending of the journal
-    answers : (x : Ending) → meaning_for p s ≡ meant x → number_in r ≡ end_number x → r.place ≡ end_place s x → Answers p answer s
-    unfolding ended_of
+    answers : (x : Ending) → meaning_for p s ≡ meant x → number_kept r ≡ end_number x → r.place ≡ end_place s x → Answers p answer s
+    unfolding ended_with
     answers x h n k = rw z (record { refused_is = rw h n; place_is = rw h k; run_is = rw h refl })
 
     abbrev channel : Channel
-    channel = channel_by sh (number_in r)
+    channel = channel_by sh (number_kept r)
 
     abbrev last : List ℕ
-    last = ending_by (printer_of sh j) j.run (number_in r) r.place
+    last = ending_by (printer_of sh j) j.run (number_kept r) r.place
 
     -- all that is printed, on each channel
-    all_on : (c : Channel) (x : Ending) → meaning_for p s ≡ meant x → number_in r ≡ end_number x → r.place ≡ end_place s x
+    all_on : (c : Channel) (x : Ending) → meaning_for p s ≡ meant x → number_kept r ≡ end_number x → r.place ≡ end_place s x
         → (let m = meaning_for p s in sent_to Output text c ++ sent_to channel last c ≡ printed_on c p m.events m.left.run m.ending)
     unfolding text_by
     all_on c x h n k =
@@ -143,7 +144,7 @@ module _ {P : Type 0} (sh : Shows) (j : Journal P) (r : Round) (b s : List ℕ) 
         let on : channel ≡ ending_on sh x = ap (channel_by sh) n ∙ channel_is sh x in
         ap₂ (λ (d : Channel) (u : List ℕ). sent_to Output text c ++ sent_to d u c) on ending ∙ sym (ap (λ (m : Meaning). printed_on c p m.events m.left.run m.ending) h)
 
-    all_text : (x : Ending) → meaning_for p s ≡ meant x → number_in r ≡ end_number x → r.place ≡ end_place s x
+    all_text : (x : Ending) → meaning_for p s ≡ meant x → number_kept r ≡ end_number x → r.place ≡ end_place s x
         → (text ++ sent_to channel last Output ≡ text_of p s) × (sent_to channel last Errors ≡ beside_of p s)
     unfolding text_of text_from beside_of beside_from
     all_text x h n k = (all_on Output x h n k, all_on Errors x h n k)
@@ -171,7 +172,7 @@ module _ {P : Type 0} (sh : Shows) (j : Journal P) (r : Round) (b s : List ℕ) 
     abbrev ending : Phase → List ℕ
     ending x = cond (has_ending x) last []
 
-    number_by : (x : Phase) → r.phase ≡ x → number_in r ≡ number_ended x r.refused r.have
+    number_by : (x : Phase) → r.phase ≡ x → number_kept r ≡ number_ended x r.refused r.have
     number_by x y = ap (λ (u : Phase). number_ended u r.refused r.have) y
 
     -- what is over, where the text of x was handed over
@@ -185,7 +186,7 @@ module _ {P : Type 0} (sh : Shows) (j : Journal P) (r : Round) (b s : List ℕ) 
         let q = some_is number h.why h.number_is in
         let t : Rests kinds (state_of j) rest (Some q.f) = rw q.is at h.rests in
         let k = settles (Some q.f) t in
-        let n : number_in r ≡ Some (number_of q.f) = number_by (Refused number) y ∙ ap Some q.numbers in
+        let n : number_kept r ≡ Some (number_of q.f) = number_by (Refused number) y ∙ ap Some q.numbers in
         let a = all_text _ k n refl in
         (a.0, a.1, answers _ k n refl, record { why = q.f; end = ap (λ (u : Settled State Instruction Refusal). u.end) (comes (Some q.f) t) })
 
@@ -207,8 +208,8 @@ module _ {P : Type 0} (sh : Shows) (j : Journal P) (r : Round) (b s : List ℕ) 
         (a.0, a.1, answers _ k n o.1, h.1)
 
     -- no byte more came, or was read: nothing was refused
-    pauses : number_in r ≡ None → JournalRests kinds j rest None → (text ++ [] ≡ printed p (meaning_for p s).events) × Pauses p answer s
-    unfolding ended_of
+    pauses : number_kept r ≡ None → JournalRests kinds j rest None → (text ++ [] ≡ printed p (meaning_for p s).events) × Pauses p answer s
+    unfolding ended_with
     pauses n h =
         let t : Rests kinds (state_of j) rest None = rw (none_is h.why h.number_is) at h.rests in
         let c = comes None t in
@@ -229,7 +230,7 @@ module _ {P : Type 0} (sh : Shows) (j : Journal P) (r : Round) (b s : List ℕ) 
     -- why it is over, by the phase before the ending, and whether a write failed
     ends_by : (x : Phase) → r.phase ≡ x → is_going x ≡ false → KnownIn (JournalRests kinds) x j rest r.refused r.reads → (has_ending x ≡ false → is_unwritten x ≡ false → w.failed ≡ false)
         → (f : Bool) → w.failed ≡ f → EndsIn x (phase_ended x f)
-    unfolding ended_of
+    unfolding ended_with
     ends_by Plays y g h v f k = impossible cc
     ends_by Waits y g h v f k = impossible cc
     ends_by (Refused number) y g h v true k = let q = refused_ends number y (rw h.1 at h.0) in (whole _ _ q.0, whole _ _ q.1)
@@ -258,9 +259,9 @@ module _ {P : Type 0} (sh : Shows) (j₀ j : Journal P) (e : Ended) where
   abbrev Taking : List ℕ → Round → List ℕ → Type 0
   Taking kinds r b = Through (JournalGoes kinds sh) (JournalRests kinds) j₀ j r b
 
-  taken : state_of j₀ ≡ start_state → j₀.run ≡ start_run → printer_of sh j₀ ≡ showing sh at_start → (r : Round) (b : List ℕ) → Taking (kinds_taken sh) r b → (out' : List ℕ) → Closed text_in channel_in j r e out'
+  taken : state_of j₀ ≡ start_state → j₀.run ≡ start_run → printer_of sh j₀ ≡ showing sh at_start → (r : Round) (b : List ℕ) → Taking (kinds_taken sh) r b → (out' : List ℕ) → ClosedKeeping text_in channel_in j r e out'
       → Ran (showing sh at_start) (record { run = j.run; ended = e })
-  unfolding ended_of
+  unfolding ended_with
   taken h-state h-run h-printer r b t out' c =
       let w = e.written in
       let x = t.past in
@@ -270,10 +271,10 @@ module _ {P : Type 0} (sh : Shows) (j₀ j : Journal P) (e : Ended) where
       let prints = rw (h-printer, h-run) at made.printer_is in
       let text = text_by (showing sh at_start) start_run made.told in
       let text-is : x.text ≡ text = rw (h-printer, h-run) at made.text in
-      let ending = sent_to (channel_by sh (number_in r)) (ending_in text_in j r (number_in r)) in
+      let ending = sent_to (channel_by sh (number_kept r)) (ending_in text_in j r (number_kept r)) in
       let reads-are : e.reads ≡ r.reads = ap (λ (u : Ended). u.reads) c.is in
       let phase-is : e.phase ≡ phase_ended r.phase w.failed = ap (λ (u : Ended). u.phase) c.is in
-      let counts = sent_counts (channel_by sh (number_in r)) r.written w text (ending_in text_in j r (number_in r)) (rw text-is at x.handed) x.beside c.put.handed in
+      let counts = sent_counts (channel_by sh (number_kept r)) r.written w text (ending_in text_in j r (number_kept r)) (rw text-is at x.handed) x.beside c.put.handed in
       record {
         journal = x.past;
         text = text ++ ending Output;
@@ -290,9 +291,13 @@ module _ {P : Type 0} (sh : Shows) (j₀ j : Journal P) (e : Ended) where
 
   -- for any table that is the program's own
   pub ran_taking : (kinds : List ℕ) → kinds ≡ kinds_taken sh → state_of j₀ ≡ start_state → j₀.run ≡ start_run → printer_of sh j₀ ≡ showing sh at_start → (r : Round) (b : List ℕ) → Taking kinds r b
-      → (out' : List ℕ) → Closed text_in channel_in j r e out' → Ran (showing sh at_start) (record { run = j.run; ended = e })
+      → (out' : List ℕ) → ClosedKeeping text_in channel_in j r e out' → Ran (showing sh at_start) (record { run = j.run; ended = e })
   ran_taking kinds k h-state h-run h-printer r b t = taken h-state h-run h-printer r b (rw k at t)
+
+  pub ran_keeping : state_of j₀ ≡ start_state → j₀.run ≡ start_run → printer_of sh j₀ ≡ showing sh at_start → RanKeeping (JournalGoes (kinds_taken sh) sh) (JournalRests (kinds_taken sh)) text_in channel_in j₀ j e
+      → Ran (showing sh at_start) (record { run = j.run; ended = e })
+  ran_keeping h-state h-run h-printer t = ran_taking (kinds_taken sh) refl h-state h-run h-printer t.round t.buf t.through t.out t.closed
 
   pub ran : state_of j₀ ≡ start_state → j₀.run ≡ start_run → printer_of sh j₀ ≡ showing sh at_start → RanBy (JournalGoes (kinds_taken sh) sh) (JournalRests (kinds_taken sh)) text_in channel_in j₀ j e
       → Ran (showing sh at_start) (record { run = j.run; ended = e })
-  ran h-state h-run h-printer t = ran_taking (kinds_taken sh) refl h-state h-run h-printer t.round t.buf t.through t.out t.closed
+  ran h-state h-run h-printer t = ran_keeping h-state h-run h-printer (keeping (JournalGoes (kinds_taken sh) sh) (JournalRests (kinds_taken sh)) text_in channel_in j₀ j e t)

@@ -162,9 +162,13 @@ pub record Through {M : Type 0} (goes : Going M) (rests : Resting M) (m₀ m : M
 
 -- ---- the ending
 
--- the number that is answered
+-- the number that is answered: none where a write failed in a round
 abbrev pub number_in : Round → Option ℕ
-number_in r = number_ended r.phase r.refused r.have
+number_in r = number_ended r.phase None r.have
+
+-- or there that of the last step
+abbrev pub number_kept : Round → Option ℕ
+number_kept r = number_ended r.phase r.refused r.have
 
 -- its text, where it has one
 abbrev pub ending_in : {M : Type 0} → Ending M → M → Round → Option ℕ → List ℕ
@@ -176,20 +180,41 @@ pub record EndingPut {M : Type 0} (ending : Ending M) (channel : Sending M) (m :
   pub handed : HandedOn (channel m number) r.written (length (ending_in ending m r number)) w
   pub none : has_ending r.phase ≡ false → w ≡ r.written
 
-unfoldable pub ended_of : Round → Written → Ended
-ended_of r w = record { place = r.place; refused = number_in r; reads = r.reads; written = w; phase = phase_ended r.phase w.failed }
+-- the answer, with this number
+unfoldable pub ended_with : Option ℕ → Round → Written → Ended
+ended_with number r w = record { place = r.place; refused = number; reads = r.reads; written = w; phase = phase_ended r.phase w.failed }
 
-pub record Closed {M : Type 0} (ending : Ending M) (channel : Sending M) (m : M) (r : Round) (e : Ended) (out' : List ℕ) : Type 0 where
-  pub put : EndingPut ending channel m r (number_in r) e.written out'
-  pub is : e ≡ ended_of r e.written
+pub record ClosedWith {M : Type 0} (number : Option ℕ) (ending : Ending M) (channel : Sending M) (m : M) (r : Round) (e : Ended) (out' : List ℕ) : Type 0 where
+  pub put : EndingPut ending channel m r number e.written out'
+  pub is : e ≡ ended_with number r e.written
 
 -- from the first byte to the end
-pub record RanBy {M : Type 0} (goes : Going M) (rests : Resting M) (ending : Ending M) (channel : Sending M) (m₀ m : M) (e : Ended) : Type 0 where
+pub record RanWith {M : Type 0} (number : Round → Option ℕ) (goes : Going M) (rests : Resting M) (ending : Ending M) (channel : Sending M) (m₀ m : M) (e : Ended) : Type 0 where
   pub round : Round
   pub buf : List ℕ
   pub out : List ℕ
   pub through : Through goes rests m₀ m round buf
-  pub closed : Closed ending channel m round e out
+  pub closed : ClosedWith (number round) ending channel m round e out
+
+-- the answer with number_in: where a write failed in a round, no number
+abbrev pub ended_of : Round → Written → Ended
+ended_of r w = ended_with (number_in r) r w
+
+abbrev pub Closed : {M : Type 0} → Ending M → Sending M → M → Round → Ended → List ℕ → Type 0
+Closed ending channel m r e out' = ClosedWith (number_in r) ending channel m r e out'
+
+abbrev pub RanBy : {M : Type 0} → Going M → Resting M → Ending M → Sending M → M → M → Ended → Type 0
+RanBy goes rests ending channel m₀ m e = RanWith number_in goes rests ending channel m₀ m e
+
+-- the answer with number_kept: there the number of the last step
+abbrev pub ended_keeping : Round → Written → Ended
+ended_keeping r w = ended_with (number_kept r) r w
+
+abbrev pub ClosedKeeping : {M : Type 0} → Ending M → Sending M → M → Round → Ended → List ℕ → Type 0
+ClosedKeeping ending channel m r e out' = ClosedWith (number_kept r) ending channel m r e out'
+
+abbrev pub RanKeeping : {M : Type 0} → Going M → Resting M → Ending M → Sending M → M → M → Ended → Type 0
+RanKeeping goes rests ending channel m₀ m e = RanWith number_kept goes rests ending channel m₀ m e
 
 -- s begins with t
 pub record StartsWith (t s : List ℕ) : Type 0 where

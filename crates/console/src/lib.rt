@@ -112,7 +112,7 @@ pub fn play<P: Printer>(rt: &HostRuntime, name: &[u8]) -> Played
     ensures { Ran (showing P.shows at_start) result }
 {
     let mut journal: Journal<P> = start();
-    let ended = rounds::run(rt, name, &mut journal);
+    let ended = rounds::run_keeping(rt, name, &mut journal);
     Played {
         run: journal.run,
         ended,
@@ -134,3 +134,6 @@ pub fn play_by(rt: &HostRuntime, name: &[u8], shows: u8) -> Played
         play::<Lines>(rt, name)
     }
 }
+
+#[cfg(test)]
+mod tests;

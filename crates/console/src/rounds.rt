@@ -5,7 +5,7 @@ ghost use Rattle.text.specs.Memory.{Put};
 ghost use Rattle.printer.specs.declared.Channel.{Channel};
 ghost use Rattle.printer.specs.Printer.{ending_room};
 ghost use Rattle.console.specs.Phases as S;
-ghost use Rattle.console.specs.Rounds.{buffer_room, HandedOn, MachineLaws, Steps, Fits, Sound, SteppedRound, ReadRound, Rounded, Through, EndingPut, Closed, RanBy};
+ghost use Rattle.console.specs.Rounds.{buffer_room, HandedOn, MachineLaws, Steps, Fits, Sound, SteppedRound, ReadRound, Rounded, Through, EndingPut, RanBy, ClosedKeeping, RanKeeping};
 
 use crate::phases::Phase;
 use channels::intake::{Reads, move_down, read_more};
@@ -213,7 +213,7 @@ fn close<M: Machine>(
     out: &mut [u8],
 ) -> Ended
     requires { (ending_room ≤ length out.old) × (r.written.bytes < 2 ^ 64) × (r.written.beside < 2 ^ 64) }
-    ensures { Closed M.ending M.channel machine.now r result out.new }
+    ensures { ClosedKeeping M.ending M.channel machine.now r result out.new }
 {
     let refused = r.phase.refused(r.refused, r.have);
     let handed = put_ending(streams, machine, r, refused, out);
@@ -229,9 +229,25 @@ fn close<M: Machine>(
 }
 
 // Has a machine take standard input. `name` is that of the program, for what it says of input and
-// output that fail.
+// output that fail. Where a write failed in a round, no number is answered.
 pub fn run<M: Machine>(rt: &HostRuntime, name: &[u8], machine: &mut M) -> Ended
     ensures { RanBy M.goes M.rests M.ending M.channel machine.old machine.new result }
+{
+    let mut streams = Streams::new(rt);
+    let mut buf = io::large_buffer();
+    let mut out = io::large_buffer();
+    let last = run_rounds(&mut streams, machine, &mut buf, &mut out);
+    let ended = close(&mut streams, name, machine, last, &mut out);
+    Ended {
+        refused: last.phase.refused(None, last.have),
+        ..ended
+    }
+}
+
+// The same, but where a write failed in a round, the number of its step is answered; of that nothing
+// is promised.
+pub fn run_keeping<M: Machine>(rt: &HostRuntime, name: &[u8], machine: &mut M) -> Ended
+    ensures { RanKeeping M.goes M.rests M.ending M.channel machine.old machine.new result }
 {
     let mut streams = Streams::new(rt);
     let mut buf = io::large_buffer();

@@ -20,8 +20,9 @@ use Rattle.console.specs.declared.phases.Phase.TheVariants.{Plays, Waits, Refuse
 use Rattle.console.specs.declared.rounds.Round.{Round}
 use Rattle.console.specs.declared.rounds.Ended.{Ended}
 use Rattle.console.specs.Phases.{is_going, is_unwritten, has_ending, phase_ended, number_left, number_ended}
-use Rattle.console.specs.Rounds.{at_hand, KnownIn, Sending, number_in, ending_in, ended_of, RanBy, StartsWith}
+use Rattle.console.specs.Rounds.{at_hand, KnownIn, Sending, number_kept, ending_in, ended_with, ended_keeping, RanBy, RanKeeping, StartsWith}
 use Rattle.console.proofs.ByPhase.{wrote_ended}
+use Rattle.console.proofs.Numbers.{keeping}
 use Rattle.journal_forms.specs.declared.Form.{Form}
 use Rattle.journal_forms.specs.declared.Cause.{Cause}
 use Rattle.journal_forms.specs.Forms.{other}
@@ -79,15 +80,15 @@ module _ (a : Form) (m : Conversion) (z₀ : m.from ≡ a) (r : Round) (b s : Li
   ending_is : (x : End Cause) → Rested x → (conversion_of a (other a) s).ending ≡ ending_of r.place rest x
   ending_is x q = ap (λ (c : J.Conversion). c.ending) (settles x q)
 
-  module _ (e : Ended) (w : Written) (z : e ≡ ended_of r w) where
-    answers : (x : Ending) → (conversion_of a (other a) s).ending ≡ x → number_in r ≡ end_number x → r.place ≡ end_place s x → Answers a e s
-    unfolding ended_of
+  module _ (e : Ended) (w : Written) (z : e ≡ ended_keeping r w) where
+    answers : (x : Ending) → (conversion_of a (other a) s).ending ≡ x → number_kept r ≡ end_number x → r.place ≡ end_place s x → Answers a e s
+    unfolding ended_with
     answers x h n k = rw z (record { refused_is = rw h n; place_is = rw h k })
 
     abbrev last : List ℕ
-    last = refusal_by (number_in r) r.place
+    last = refusal_by (number_kept r) r.place
 
-    last_is : (x : Ending) → (conversion_of a (other a) s).ending ≡ x → number_in r ≡ end_number x → r.place ≡ end_place s x → last ≡ beside_of a s
+    last_is : (x : Ending) → (conversion_of a (other a) s).ending ≡ x → number_kept r ≡ end_number x → r.place ≡ end_place s x → last ≡ beside_of a s
     last_is x h n k = ap₂ refusal_by n k ∙ refusal_is s x ∙ ap refusal_text (sym h)
 
     -- what was handed over so far is how the records begin
@@ -97,7 +98,7 @@ module _ (a : Form) (m : Conversion) (z₀ : m.from ≡ a) (r : Round) (b s : Li
         let x = settled (on_form a (other a)) tt rest in
         record { later = bytes_of x.told; is = ap (λ (u : Settled (Unit {0}) Framed Cause). bytes_of u.told) goes ∙ bytes_append told x.told }
 
-    number_by : (x : Phase) → r.phase ≡ x → number_in r ≡ number_ended x r.refused r.have
+    number_by : (x : Phase) → r.phase ≡ x → number_kept r ≡ number_ended x r.refused r.have
     number_by x y = ap (λ (u : Phase). number_ended u r.refused r.have) y
 
     abbrev ending : Phase → List ℕ
@@ -114,7 +115,7 @@ module _ (a : Form) (m : Conversion) (z₀ : m.from ≡ a) (r : Round) (b s : Li
         let t : Rests a rest (number_if h.refused) = rw z₀ at h.rests in
         by t.end t.rests (number_by (Refused number) y ∙ ap Some (sym q.is ∙ t.number_is)) (λ o. q.some (t.number_is ∙ o))
       where
-        by : (x : End Cause) → Rested x → number_in r ≡ Some (number_at x) → (number_at x ≡ 0 → ⊥) → EndsIn (Refused number) (Refused number)
+        by : (x : End Cause) → Rested x → number_kept r ≡ Some (number_at x) → (number_at x ≡ 0 → ⊥) → EndsIn (Refused number) (Refused number)
         by awaits t n o = absurd (o refl)
         by (halted c) t n o = at_end rest refl
           where
@@ -147,8 +148,8 @@ module _ (a : Form) (m : Conversion) (z₀ : m.from ≡ a) (r : Round) (b s : Li
         let n = number_by InputOver y ∙ o.0 in
         (text_is awaits t, last_is _ (ending_is awaits t) n o.1, answers _ (ending_is awaits t) n o.1, h.1)
 
-    pauses : number_in r ≡ None → ConversionRests m rest None → (text ≡ written_of a s) × Pauses a e s
-    unfolding ended_of
+    pauses : number_kept r ≡ None → ConversionRests m rest None → (text ≡ written_of a s) × Pauses a e s
+    unfolding ended_with
     pauses n h =
         let t = waits h in
         let c = comes awaits t in
@@ -168,7 +169,7 @@ module _ (a : Form) (m : Conversion) (z₀ : m.from ≡ a) (r : Round) (b s : Li
     -- why it is over, by the phase before the ending, and whether a write failed
     ends_by : (x : Phase) → r.phase ≡ x → is_going x ≡ false → KnownIn ConversionRests x m rest r.refused r.reads → (has_ending x ≡ false → is_unwritten x ≡ false → w.failed ≡ false)
         → (f : Bool) → w.failed ≡ f → EndsIn x (phase_ended x f)
-    unfolding ended_of
+    unfolding ended_with
     ends_by Plays y g h v f k = impossible cc
     ends_by Waits y g h v f k = impossible cc
     ends_by (Refused number) y g h v true k = let q = refused_ends number y (rw h.1 at h.0) in (whole _ _ q.0, whole _ _ q.1)
@@ -190,15 +191,15 @@ line_in m number place = refusal_by number place
 abbrev line_on : Sending Conversion
 line_on m number = Errors
 
-pub ran : (m₀ m : Conversion) (e : Ended) → RanBy ConversionGoes ConversionRests line_in line_on m₀ m e → Ran m₀.from e
-unfolding ended_of
-ran m₀ m e t =
+pub ran_keeping : (m₀ m : Conversion) (e : Ended) → RanKeeping ConversionGoes ConversionRests line_in line_on m₀ m e → Ran m₀.from e
+unfolding ended_with
+ran_keeping m₀ m e t =
     let a = m₀.from in
     let r = t.round in
     let w = e.written in
     let x = t.through.past in
     let made : ConversionGoes m₀ x.past x.text m (at_hand r t.buf) = x.makes in
-    let ending = ending_in line_in m r (number_in r) in
+    let ending = ending_in line_in m r (number_kept r) in
     let reads-are : e.reads ≡ r.reads = ap (λ (u : Ended). u.reads) t.closed.is in
     let phase-is : e.phase ≡ phase_ended r.phase w.failed = ap (λ (u : Ended). u.phase) t.closed.is in
     record {
@@ -214,3 +215,6 @@ ran m₀ m e t =
           (ends_by a m (ap (λ (u : Conversion). u.from) made.same) r t.buf x.past made.told made.goes x.count t.through.sound.fits.within e w t.closed.is r.phase refl t.through.over t.through.sound.stops
           (λ h u. ap (λ (v : Written). v.failed) (t.closed.put.none h) ∙ t.through.sound.wrote ∙ u) w.failed refl);
     }
+
+pub ran : (m₀ m : Conversion) (e : Ended) → RanBy ConversionGoes ConversionRests line_in line_on m₀ m e → Ran m₀.from e
+ran m₀ m e t = ran_keeping m₀ m e (keeping ConversionGoes ConversionRests line_in line_on m₀ m e t)

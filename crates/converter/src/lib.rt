@@ -6,7 +6,7 @@ ghost use Rattle.printer.specs.declared.Channel.TheVariants as C;
 ghost use Rattle.converter.specs.Converter.{refusal_by, ConversionGoes, ConversionRests, Ran};
 ghost use Rattle.converter.specs.Conversions.{conversion_laws};
 
-use console::rounds::{Ended, Machine, Stepped, run};
+use console::rounds::{Ended, Machine, Stepped, run_keeping};
 use journal_forms::Form;
 use printer::Channel;
 use std::rt::HostRuntime;
@@ -58,5 +58,5 @@ pub fn convert(rt: &HostRuntime, name: &[u8], from: Form) -> Ended
     ensures { Ran from result }
 {
     let mut conversion = Conversion { from };
-    run(rt, name, &mut conversion)
+    run_keeping(rt, name, &mut conversion)
 }

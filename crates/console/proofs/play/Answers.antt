@@ -1,6 +1,6 @@
-use Rattle.console.proofs.Runs.{ran}
+use Rattle.console.proofs.Runs.{ran_keeping}
 use Rattle.console.proofs.play.Goals as goal
 
 pub returns : goal.returns
 returns g c = let j = c.start-journal.ensures in
-    ran _ _ _ _ j.state j.run j.printer c.run-ended.ensures
+    ran_keeping _ _ _ _ j.state j.run j.printer c.run_keeping-ended.ensures

@@ -1,9 +1,9 @@
 use mathlib.Core.Path.{refl}
-use Rattle.console.specs.Rounds.{ended_of}
+use Rattle.console.specs.Rounds.{ended_with}
 use Rattle.console.proofs.rounds.close.Goals as goal
 
 pub returns : goal.returns
-unfolding ended_of
+unfolding ended_with
 returns g c = let number = c.refused-refused.ensures in
     record {
       put = rw c.say_why-written.ensures (rw number at c.put_ending-handed.ensures);

@@ -1,6 +1,6 @@
 use mathlib.Core.Path.{sym, ◌∙◌}
 use native.Mathlib.Omega.{arith}
-use Rattle.console.proofs.ByPhase.{plays_is, waits_is}
+use Rattle.console.proofs.ByPhase.{plays_unless_waiting, waits_is}
 use Rattle.console.proofs.Stepping.{room_left, round_read_lem, round_stepped_lem}
 use Rattle.console.proofs.rounds.go_on.Goals as goal
 
@@ -13,4 +13,4 @@ returns-then-is_waiting g c = let waits = waits_is _ (sym c.is_waiting.ensures �
     round_read_lem _ _ g.met.M.Machine.laws _ c.args.r _ c.requires.0 waits _ _ (c.read_round.auto.buf ∙ sym c.requires.2) c.read_round.ensures
 
 pub returns : goal.returns
-returns g c = round_stepped_lem _ _ _ c.args.r _ c.requires.0.fits (plays_is _ c.requires.1 (sym c.is_waiting.ensures ∙ c.if-is_waiting.false)) _ _ _ _ c.step_round.ensures
+returns g c = round_stepped_lem _ _ _ c.args.r _ c.requires.0.fits (plays_unless_waiting _ c.requires.1 (sym c.is_waiting.ensures ∙ c.if-is_waiting.false)) _ _ _ _ c.step_round.ensures
