@@ -1,6 +1,6 @@
 -- What is known by the phase, case by case.
 use Prim.Native.Nat.{ℕ, ◌+◌, ◌-◌, ◌*◌, ◌≤◌, ◌<◌}
-use mathlib.Core.Path.{◌≡◌, refl}
+use mathlib.Core.Path.{◌≡◌, refl, sym, ap, ◌∙◌}
 use mathlib.Core.Bool.{Bool, true, false}
 use mathlib.Core.List.{List}
 use native.Mathlib.Omega.{arith}
@@ -15,16 +15,7 @@ use Rattle.console.specs.declared.phases.Phase.TheVariants.{Plays, Waits, Refuse
 use Rattle.console.specs.Phases.{is_going, is_waiting, is_unwritten, has_ending, phase_played, phase_read, phase_ended}
 use Rattle.console.specs.Rounds.{buffer_room, Resting, KnownIn, to_do_by}
 
--- it goes on: there may be records to take, or bytes have to come first
-pub plays_unless_waiting : (x : Phase) → is_going x ≡ true → is_waiting x ≡ false → x ≡ Plays
-plays_unless_waiting Plays g w = refl
-plays_unless_waiting Waits g w = impossible cc
-plays_unless_waiting (Refused number) g w = impossible cc
-plays_unless_waiting InputOver g w = impossible cc
-plays_unless_waiting ReadFailed g w = impossible cc
-plays_unless_waiting ReadsOver g w = impossible cc
-plays_unless_waiting WriteFailed g w = impossible cc
-
+-- it goes on, and no bytes have to come first
 pub plays_is : (x : Phase) → is_going x ≡ true → (x ≡ Waits → ⊥) → x ≡ Plays
 plays_is Plays g w = refl
 plays_is Waits g w = absurd (w refl)
@@ -33,6 +24,10 @@ plays_is InputOver g w = impossible cc
 plays_is ReadFailed g w = impossible cc
 plays_is ReadsOver g w = impossible cc
 plays_is WriteFailed g w = impossible cc
+
+-- the same by the answer of is_waiting
+pub plays_unless_waiting : (x : Phase) → is_going x ≡ true → is_waiting x ≡ false → x ≡ Plays
+plays_unless_waiting x g w = plays_is x g (λ y. let o : true ≡ false = sym (ap is_waiting y) ∙ w in impossible cc)
 
 pub waits_is : (x : Phase) → is_waiting x ≡ true → x ≡ Waits
 waits_is Plays w = impossible cc

@@ -19,7 +19,7 @@ use Rattle.console.specs.declared.rounds.Ended.{Ended}
 use Rattle.console.specs.Phases.{is_going, is_unwritten, has_ending, number_ended}
 use Rattle.console.specs.Rounds.{HandedOn, Going, Resting, Ending, Sending, at_hand, KnownIn, Sound, number_in, number_kept, EndingPut, ended_with, ClosedWith, RanBy, RanKeeping}
 
--- no text of an ending is written where a write failed
+-- no text of an ending is written where a write failed in a round
 unending : (x : Phase) → is_unwritten x ≡ true → has_ending x ≡ false
 unending Plays u = refl
 unending Waits u = refl
@@ -29,7 +29,7 @@ unending ReadFailed u = refl
 unending ReadsOver u = refl
 unending WriteFailed u = refl
 
--- of a write that failed in a round nothing else is known
+-- where a write failed in a round, whatever its number is, what its phase says is so
 unknown : {M : Type 0} (rests : Resting M) (x : Phase) (m : M) (s : List ℕ) (n : Option ℕ) (reads : Reads) → is_unwritten x ≡ true → KnownIn rests x m s n reads
 unknown rests Plays m s n reads u = impossible cc
 unknown rests Waits m s n reads u = impossible cc
@@ -39,7 +39,7 @@ unknown rests ReadFailed m s n reads u = impossible cc
 unknown rests ReadsOver m s n reads u = impossible cc
 unknown rests WriteFailed m s n reads u = tt
 
--- no byte is handed over on either channel
+-- where no byte is handed over, on either channel, the counts stay
 none_handed : (c : Channel) (w : Written) → w.bytes < 2 ^ 64 → w.beside < 2 ^ 64 → HandedOn c w 0 w
 none_handed Output w h k = (omega (arith, h), refl)
 none_handed Errors w h k = (refl, omega (arith, k))
@@ -57,7 +57,7 @@ module _ {M : Type 0} (rests : Resting M) (m : M) (r : Round) (b : List ℕ) (v 
   pub same : is_unwritten r.phase ≡ false → number_kept r ≡ number_in r
   same u = same_by r.phase over u v.stops
 
-  -- the text of the ending by the one number is that by the other
+  -- so the text of the ending is the same by either
   pub put_by_number : (ending : Ending M) (channel : Sending M) (w : Written) (out' : List ℕ) → EndingPut ending channel m r (number_kept r) w out' → EndingPut ending channel m r (number_in r) w out'
   put_by_number ending channel w out' p = by (is_unwritten r.phase) refl
     where
@@ -71,7 +71,8 @@ module _ {M : Type 0} (rests : Resting M) (m : M) (r : Round) (b : List ℕ) (v 
             none = p.none;
           }
 
--- of the last round, as one whose number is none
+-- The promise by number_in is also one by number_kept: where a write failed, the last round is taken as
+-- one that has no number.
 module _ {M : Type 0} (goes : Going M) (rests : Resting M) (ending : Ending M) (channel : Sending M) (m₀ m : M) (e : Ended) where
   abbrev unnumbered : Round → Round
   unnumbered r = record { place = r.place; have = r.have; refused = None; reads = r.reads; written = r.written; phase = r.phase }
